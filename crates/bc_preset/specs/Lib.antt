@@ -1,0 +1,2 @@
+pub mod Presets
+pub mod Bounds

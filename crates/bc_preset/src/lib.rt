@@ -1,0 +1,10 @@
+//! The configuration of a network and its preset.
+//!
+//! The bytes of a configuration file come from the program's reader, and the values that it gives go to every layer
+//! above: the preset to the state, the committees and the epoch's steps, the other keys to the registry and fork choice.
+#![tactic(auto)]
+
+pub mod constants;
+mod presets;
+
+pub use presets::Preset;
