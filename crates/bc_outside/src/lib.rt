@@ -1,0 +1,15 @@
+//! The outside of the program: files that bytes are read from, and a place that bytes are written to.
+//!
+//! A [`Shelf`] hands out files by name and a [`Sink`] takes bytes; both count their faults, so that a caller's answer
+//! 'reading failed' or 'writing failed' can be tied to a fault that really happened. Over memory they tell all that
+//! they hold. Over the disk and standard output they tell nothing of content. The readers of configuration, genesis
+//! and record stand above.
+#![tactic(auto)]
+
+mod shelf;
+mod sink;
+mod trouble;
+
+pub use shelf::Shelf;
+pub use sink::Sink;
+pub use trouble::Trouble;
