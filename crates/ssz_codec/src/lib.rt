@@ -1,0 +1,11 @@
+//! Values in the bytes of SSZ, as simple-serialize.md defines them: cutting a container into its parts, reading and
+//! writing basic values, vectors and lists, and the trait that every container has.
+//!
+//! Bytes come from files and records; values go to the containers above.
+#![tactic(auto)]
+
+mod fault;
+mod layout;
+
+pub use fault::SszFault;
+pub use layout::Field;
