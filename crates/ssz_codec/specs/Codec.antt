@@ -86,7 +86,7 @@ map_row r make fields = record {
   roots = λ v. r.roots (fields v);
 }
 
-abbrev and_fixed : ℕ → Field → Field
+abbrev pub and_fixed : ℕ → Field → Field
 and_fixed n (Fixed m) = Fixed (n + m)
 and_fixed n Variable = Variable
 

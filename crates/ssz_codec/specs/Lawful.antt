@@ -16,6 +16,11 @@ abbrev pub HasSize : Field → List ℕ → Type 0
 HasSize (Fixed n) bytes = length bytes ≡ n
 HasSize Variable bytes = Unit {0}
 
+-- of fixed size, and not of none
+abbrev pub IsFixed : Field → Type 0
+IsFixed (Fixed n) = 0 < n
+IsFixed Variable = ⊥
+
 -- as many parts as fields, each of the field's size
 abbrev pub FitFields : List Field → List (List ℕ) → Type 0
 FitFields [] [] = Unit {0}

@@ -4,3 +4,7 @@ pub mod Basic
 pub mod Lists
 pub mod Reads
 pub mod Lawful
+pub mod LayoutLaws
+pub mod CodecLaws
+pub mod BasicLaws
+pub mod ListLaws

@@ -54,10 +54,10 @@ list_codec c limit leaves depth = record {
 
 -- a list of variable parts: the first offset says how many there are
 unfoldable pub parse_variable_list : {A : Type 0} → (List ℕ → Option A) → ℕ → List ℕ → Option (List A)
-parse_variable_list parse limit [] = Some []
-parse_variable_list parse limit (b ∷ bytes) =
-    let count = offset_of (take 4 (b ∷ bytes)) / 4 in
-    if nat_lt limit count then None else (cut (replicate count Variable) (b ∷ bytes) >>= λ parts. parse_parts parse parts)
+parse_variable_list parse limit bytes =
+    let count = offset_of (take 4 bytes) / 4 in
+    if length bytes == 0 then Some []
+    else (if nat_lt limit count then None else (cut (replicate count Variable) bytes >>= λ parts. parse_parts parse parts))
 
 -- List[T, N] of values of variable size
 abbrev pub variable_list_codec : {A : Type 0} → Codec A → ℕ → ℕ → Codec (List A)
