@@ -50,7 +50,7 @@ pub record ReadInto (file : ℕ) (piece piece_then : List ℕ) (n : ℕ) (told t
   pub within : n ≤ length piece
   pub taken : Takes file (take n piece_then) told told_then
   pub rest : IfSome told (λ _. drop n piece_then ≡ drop n piece)
-  pub ends : IfSome (left_of told file) (λ left. 0 < length piece → n ≡ 0 → left ≡ [])
+  pub ends : 0 < length piece → n ≡ 0 → IfSome (left_of told file) (λ left. left ≡ [])
 
 -- What `read` did. After an error nothing was taken, and the piece may hold anything.
 abbrev pub Reads : ℕ → List ℕ → List ℕ → Result ℕ Trouble → Option Told → Option Told → Type 0
@@ -67,3 +67,23 @@ pub record WroteOf (piece : List ℕ) (n : ℕ) (told told_then : Option (List �
 abbrev pub Writes : List ℕ → Result ℕ Trouble → Option (List ℕ) → Option (List ℕ) → Type 0
 Writes piece (Ok n) told told_then = WroteOf piece n told told_then
 Writes piece (Err _) told told_then = told_then ≡ told
+
+-- What was read of a file up to a limit: its bytes from the place where it stood, at most that many.
+pub record ReadUpTo (limit file : ℕ) (bytes : List ℕ) (told told_then : Option Told) : Type 0 where
+  pub taken : Takes file bytes told told_then
+  pub within : length bytes ≤ limit
+  pub all : IfSome (left_of told file) (λ left. bytes ≡ take limit left)
+
+-- Some bytes were taken of a file, at most that many, and nothing else changed.
+abbrev pub TakesSome : ℕ → ℕ → Option Told → Option Told → Type 0
+TakesSome limit file told told_then = (bytes : List ℕ) × (length bytes ≤ limit) × Takes file bytes told told_then
+
+-- What reading a file up to a limit gives. After an error some bytes may have been taken.
+abbrev pub ReadsUpTo : {V : Type 0} → (V → List ℕ) → ℕ → ℕ → Result V Trouble → Option Told → Option Told → Type 0
+ReadsUpTo items limit file (Ok bytes) told told_then = ReadUpTo limit file (items bytes) told told_then
+ReadsUpTo items limit file (Err _) told told_then = TakesSome limit file told told_then
+
+-- What writing all of the bytes does. After an error some of them may have been written, from the front.
+abbrev pub WritesAll : {V : Type 0} → List ℕ → Result V Trouble → Option (List ℕ) → Option (List ℕ) → Type 0
+WritesAll bytes (Ok _) told told_then = told_then ≡ option_map (λ old. old ++ bytes) told
+WritesAll bytes (Err _) told told_then = (n : ℕ) × (n ≤ length bytes) × (told_then ≡ option_map (λ old. old ++ take n bytes) told)

@@ -9,7 +9,9 @@
 mod shelf;
 mod sink;
 mod trouble;
+mod whole;
 
 pub use shelf::Shelf;
 pub use sink::Sink;
 pub use trouble::Trouble;
+pub use whole::{read_at_most, write_all};
