@@ -3,6 +3,7 @@ pub mod Codec
 pub mod Basic
 pub mod Lists
 pub mod Reads
+pub mod Cutting
 pub mod Lawful
 pub mod LayoutLaws
 pub mod CodecLaws

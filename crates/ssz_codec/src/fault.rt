@@ -1,5 +1,9 @@
 //! Why bytes could not be read.
 
+ghost use Rattle.std.specs.Prelude.{◌≡◌};
+ghost use Rattle.ssz_codec.specs.declared.fault.SszFault.TheVariants.{NoMemory};
+
+use std::alloc::{AllocError, AllocFailed};
 use thiserror::Error;
 
 /// Why a value could not be read from bytes.
@@ -11,4 +15,20 @@ pub enum SszFault {
     /// There was no memory for the value.
     #[error("out of memory")]
     NoMemory,
+}
+
+impl From<AllocError> for SszFault {
+    ghost from_gives = { λ _ e. e ≡ NoMemory };
+
+    fn from(_refused: AllocError) -> SszFault {
+        SszFault::NoMemory
+    }
+}
+
+impl<T: Drop> From<AllocFailed<T>> for SszFault {
+    ghost from_gives = { λ _ e. e ≡ NoMemory };
+
+    fn from(_refused: AllocFailed<T>) -> SszFault {
+        SszFault::NoMemory
+    }
 }

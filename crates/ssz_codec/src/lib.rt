@@ -8,4 +8,4 @@ mod fault;
 mod layout;
 
 pub use fault::SszFault;
-pub use layout::Field;
+pub use layout::{Field, cut};
