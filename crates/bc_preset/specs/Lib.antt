@@ -1,2 +1,3 @@
 pub mod Presets
 pub mod Bounds
+pub mod Keys

@@ -5,6 +5,8 @@
 #![tactic(auto)]
 
 pub mod constants;
+mod keys;
 mod presets;
 
+pub use keys::Key;
 pub use presets::Preset;
