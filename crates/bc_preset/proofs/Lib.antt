@@ -1,1 +1,3 @@
 pub mod Bounds
+pub mod Digits
+pub mod Prefixes

@@ -1,3 +1,6 @@
 pub mod Presets
 pub mod Bounds
 pub mod Keys
+pub mod Numbers
+pub mod Lines
+pub mod LineViews

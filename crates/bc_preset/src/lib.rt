@@ -5,8 +5,12 @@
 #![tactic(auto)]
 
 pub mod constants;
+mod faults;
 mod keys;
+mod lines;
+mod numbers;
 mod presets;
 
+pub use faults::ConfigFault;
 pub use keys::Key;
 pub use presets::Preset;
