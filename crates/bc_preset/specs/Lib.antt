@@ -4,3 +4,4 @@ pub mod Keys
 pub mod Numbers
 pub mod Lines
 pub mod LineViews
+pub mod Settings

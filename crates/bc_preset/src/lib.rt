@@ -4,12 +4,14 @@
 //! above: the preset to the state, the committees and the epoch's steps, the other keys to the registry and fork choice.
 #![tactic(auto)]
 
+mod configuration;
 pub mod constants;
 mod faults;
 mod keys;
 mod lines;
 mod numbers;
 mod presets;
+mod settings;
 
 pub use faults::ConfigFault;
 pub use keys::Key;

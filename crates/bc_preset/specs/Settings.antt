@@ -1,0 +1,149 @@
+-- A configuration: its lines from the first on, then the keys that are missing, then the ranges.
+use Rattle.std.specs.Prelude.{ℕ, ◌+◌, Bool, nat_lt, is_some, if◌then◌else◌, List, [], ◌∷◌, length, Option, Some, None, Result, Ok, Err, codes}
+use Rattle.std.specs.Str.{bytes_eq}
+use Rattle.std.specs.Str.Lines.{lines}
+use Rattle.bc_preset.specs.declared.presets.Preset.{Preset}
+use Rattle.bc_preset.specs.declared.keys.Key.{Key}
+use Rattle.bc_preset.specs.declared.keys.Key.TheVariants.{PresetBase, SecondsPerSlot, MinValidatorWithdrawabilityDelay, ShardCommitteePeriod, EjectionBalance, MinPerEpochChurnLimit, ChurnLimitQuotient, ProposerScoreBoost}
+use Rattle.bc_preset.specs.declared.faults.ConfigFault.{ConfigFault}
+use Rattle.bc_preset.specs.declared.faults.ConfigFault.TheVariants.{TooLong, BadLine, Twice, BadNumber, BadPreset, Missing, OutOfRange}
+use Rattle.bc_preset.specs.declared.settings.PresetName.{PresetName}
+use Rattle.bc_preset.specs.declared.settings.PresetName.TheVariants.{Mainnet, Minimal}
+use Rattle.bc_preset.specs.declared.settings.Settings.{Settings}
+use Rattle.bc_preset.specs.declared.configuration.ConfigValues.{ConfigValues}
+use Rattle.bc_preset.specs.Presets.{mainnet, minimal}
+use Rattle.bc_preset.specs.Keys.{allows}
+use Rattle.bc_preset.specs.Numbers.{number_of}
+use Rattle.bc_preset.specs.Lines.{Line, skipped, other, setting, faulty, line_of}
+
+-- the first fault ends the reading
+infixl 10 ◌>>=◌
+abbrev pub ◌>>=◌ : {A B : Type 0} → Result A ConfigFault → (A → Result B ConfigFault) → Result B ConfigFault
+(Ok x) >>= f = f x
+(Err fault) >>= f = Err fault
+
+-- a value that is there, or this fault
+abbrev pub or_fault : {A : Type 0} → ConfigFault → Option A → Result A ConfigFault
+or_fault fault None = Err fault
+or_fault fault (Some x) = Ok x
+
+-- the preset with this name
+unfoldable pub preset_named : List ℕ → Option PresetName
+preset_named text = if bytes_eq text (codes "mainnet") then Some Mainnet else (if bytes_eq text (codes "minimal") then Some Minimal else None)
+
+unfoldable pub preset_of : PresetName → Preset
+preset_of Mainnet = mainnet
+preset_of Minimal = minimal
+
+-- no key is set
+abbrev pub nothing_set : Settings
+nothing_set =
+    record {
+      preset_base = None;
+      seconds_per_slot = None;
+      min_validator_withdrawability_delay = None;
+      shard_committee_period = None;
+      ejection_balance = None;
+      min_per_epoch_churn_limit = None;
+      churn_limit_quotient = None;
+      proposer_score_boost = None;
+    }
+
+-- the key has a value
+unfoldable pub is_set : Settings → Key → Bool
+is_set s PresetBase = is_some s.preset_base
+is_set s SecondsPerSlot = is_some s.seconds_per_slot
+is_set s MinValidatorWithdrawabilityDelay = is_some s.min_validator_withdrawability_delay
+is_set s ShardCommitteePeriod = is_some s.shard_committee_period
+is_set s EjectionBalance = is_some s.ejection_balance
+is_set s MinPerEpochChurnLimit = is_some s.min_per_epoch_churn_limit
+is_set s ChurnLimitQuotient = is_some s.churn_limit_quotient
+is_set s ProposerScoreBoost = is_some s.proposer_score_boost
+
+-- the settings with this key set to the value that the text of this line writes
+unfoldable pub set_key : Settings → ℕ → Key → List ℕ → Result Settings ConfigFault
+set_key s line PresetBase text = do
+  name ← or_fault (BadPreset line) (preset_named text)
+  Ok (record s { preset_base = Some name })
+set_key s line SecondsPerSlot text = do
+  value ← or_fault (BadNumber line) (number_of text)
+  Ok (record s { seconds_per_slot = Some value })
+set_key s line MinValidatorWithdrawabilityDelay text = do
+  value ← or_fault (BadNumber line) (number_of text)
+  Ok (record s { min_validator_withdrawability_delay = Some value })
+set_key s line ShardCommitteePeriod text = do
+  value ← or_fault (BadNumber line) (number_of text)
+  Ok (record s { shard_committee_period = Some value })
+set_key s line EjectionBalance text = do
+  value ← or_fault (BadNumber line) (number_of text)
+  Ok (record s { ejection_balance = Some value })
+set_key s line MinPerEpochChurnLimit text = do
+  value ← or_fault (BadNumber line) (number_of text)
+  Ok (record s { min_per_epoch_churn_limit = Some value })
+set_key s line ChurnLimitQuotient text = do
+  value ← or_fault (BadNumber line) (number_of text)
+  Ok (record s { churn_limit_quotient = Some value })
+set_key s line ProposerScoreBoost text = do
+  value ← or_fault (BadNumber line) (number_of text)
+  Ok (record s { proposer_score_boost = Some value })
+
+-- the settings behind a line, whose number counts from 1
+unfoldable pub after_line : Settings → ℕ → Line → Result Settings ConfigFault
+after_line s line skipped = Ok s
+after_line s line other = Ok s
+after_line s line faulty = Err (BadLine line)
+after_line s line (setting key text) = if is_set s key then Err (Twice line) else set_key s line key text
+
+-- the settings behind all lines, the first of which has this number
+unfoldable pub after_lines : Settings → ℕ → List (List ℕ) → Result Settings ConfigFault
+after_lines s line [] = Ok s
+after_lines s line (first ∷ others) = do
+  t ← after_line s line (line_of first)
+  after_lines t (line + 1) others
+
+-- each key has a value, or the first of the table that has none is missing
+unfoldable pub all_set : Settings → Result ConfigValues ConfigFault
+all_set s = do
+  name ← or_fault (Missing PresetBase) s.preset_base
+  seconds ← or_fault (Missing SecondsPerSlot) s.seconds_per_slot
+  delay ← or_fault (Missing MinValidatorWithdrawabilityDelay) s.min_validator_withdrawability_delay
+  period ← or_fault (Missing ShardCommitteePeriod) s.shard_committee_period
+  ejection ← or_fault (Missing EjectionBalance) s.ejection_balance
+  churn ← or_fault (Missing MinPerEpochChurnLimit) s.min_per_epoch_churn_limit
+  quotient ← or_fault (Missing ChurnLimitQuotient) s.churn_limit_quotient
+  boost ← or_fault (Missing ProposerScoreBoost) s.proposer_score_boost
+  Ok (record {
+    preset = preset_of name;
+    seconds_per_slot = seconds;
+    min_validator_withdrawability_delay = delay;
+    shard_committee_period = period;
+    ejection_balance = ejection;
+    min_per_epoch_churn_limit = churn;
+    churn_limit_quotient = quotient;
+    proposer_score_boost = boost;
+  })
+
+-- the value, if the key may have it
+unfoldable pub in_range : Key → ℕ → Result ℕ ConfigFault
+in_range key value = if allows key value then Ok value else Err (OutOfRange key)
+
+-- each value is in its key's range, or the first of the table is out of its range
+unfoldable pub all_in_range : ConfigValues → Result ConfigValues ConfigFault
+all_in_range values = do
+  seconds ← in_range SecondsPerSlot values.seconds_per_slot
+  delay ← in_range MinValidatorWithdrawabilityDelay values.min_validator_withdrawability_delay
+  period ← in_range ShardCommitteePeriod values.shard_committee_period
+  ejection ← in_range EjectionBalance values.ejection_balance
+  churn ← in_range MinPerEpochChurnLimit values.min_per_epoch_churn_limit
+  quotient ← in_range ChurnLimitQuotient values.churn_limit_quotient
+  boost ← in_range ProposerScoreBoost values.proposer_score_boost
+  Ok values
+
+-- the configuration that the bytes write, or the first thing that is wrong with them. `lines` cuts them at each line
+-- feed, drops one carriage return before a line feed, and takes no line from an empty rest behind the last line feed
+unfoldable pub config_of : List ℕ → Result ConfigValues ConfigFault
+config_of bytes =
+    if nat_lt 65536 (length bytes) then Err TooLong else (do
+      settings ← after_lines nothing_set 1 (lines bytes)
+      values ← all_set settings
+      all_in_range values)
