@@ -1,5 +1,5 @@
 -- The lines of bytes, as the first and the others.
-use Rattle.std.proofs.Common.{◌≡◌, ℕ, ◌+◌, ◌<◌, ◌≤◌, Bool, true, false, not, cond, suc,  nat_lt, eqb, List, [], ◌∷◌, length, take, drop, Option, Some, None, refl, ap, sym, ◌∙◌, arith}
+use Rattle.std.proofs.Common.{◌≡◌, ℕ, ◌+◌, ◌<◌, ◌≤◌, Bool, true, false, not, cond, suc, nat_lt, eqb, List, [], ◌∷◌, length, take, drop, Some, None, refl, ap, ◌∙◌, arith}
 use Rattle.std.specs.List.{slice_split, onto_first, position, position_or_len, before_first, after_first}
 use Rattle.std.specs.Str.Lines.{lines, lines_of_parts, strip_carriage_return}
 use Rattle.std.proofs.lemmas.List.Splits.{slice_split_first}
@@ -14,8 +14,8 @@ first_part [] = ([], ([], refl))
 first_part (b ∷ bytes) =
     let rest = first_part bytes in
     elim (is_feed b) as (λ v. (part : List ℕ) × ((parts : List (List ℕ)) × (cond v ([] ∷ slice_split is_feed bytes) (onto_first b (slice_split is_feed bytes)) ≡ part ∷ parts))) [
-      true ↦ ([], (slice_split is_feed bytes, refl))
-    | false ↦ (b ∷ rest.0, (rest.1.0, ap (onto_first b) rest.1.1))
+      | true ↦ ([], (slice_split is_feed bytes, refl))
+      | false ↦ (b ∷ rest.0, (rest.1.0, ap (onto_first b) rest.1.1))
     ]
 
 lines_first : (line rest : List ℕ) → lines_of_parts (line ∷ slice_split is_feed rest) ≡ strip_carriage_return line ∷ lines_of_parts (slice_split is_feed rest)
@@ -28,8 +28,8 @@ last_part : (bytes : List ℕ) → length bytes ≤ position_or_len is_feed byte
 last_part [] h = refl
 last_part (b ∷ bytes) h =
     elim (is_feed b) as (λ v. suc (length bytes) ≤ cond (not v) (1 + position_or_len is_feed bytes) 0 → cond v ([] ∷ slice_split is_feed bytes) (onto_first b (slice_split is_feed bytes)) ≡ (b ∷ bytes) ∷ []) [
-      true ↦ λ h. absurd (omega arith)
-    | false ↦ λ h. ap (onto_first b) (last_part bytes (omega arith))
+      | true ↦ λ h. absurd (omega arith)
+      | false ↦ λ h. ap (onto_first b) (last_part bytes (omega arith))
     ] h
 
 position_some : (n m end : ℕ) → Some end ≡ cond (nat_lt n m) (Some n) None → (n < m) × (end ≡ n)

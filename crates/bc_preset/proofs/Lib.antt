@@ -2,3 +2,4 @@ pub mod Bounds
 pub mod Digits
 pub mod Prefixes
 pub mod FirstLine
+pub mod Ranges

@@ -5,3 +5,4 @@ pub mod Numbers
 pub mod Lines
 pub mod LineViews
 pub mod Settings
+pub mod Configs

@@ -13,6 +13,7 @@ mod numbers;
 mod presets;
 mod settings;
 
+pub use configuration::{Config, ConfigValues, MAX_CONFIG_LEN};
 pub use faults::ConfigFault;
 pub use keys::Key;
 pub use presets::Preset;

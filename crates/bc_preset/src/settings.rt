@@ -3,6 +3,7 @@
 
 ghost use Rattle.std.specs.Prelude.{◌≡◌, ◌<◌, ◌≤◌, ◌+◌, ◌==◌, ◌∷◌, length, position, IfSome};
 ghost use Rattle.std.specs.Str.Lines.{lines, strip_carriage_return};
+ghost use Rattle.bc_preset.specs.Presets.{IsPreset};
 ghost use Rattle.bc_preset.specs.Numbers.{number_of};
 ghost use Rattle.bc_preset.specs.Lines.{line_of};
 ghost use Rattle.bc_preset.specs.Settings.{or_fault, preset_named, preset_of, nothing_set, is_set, set_key, after_line, after_lines};
@@ -38,7 +39,8 @@ impl PresetName {
     /// The numbers of the preset.
     #[tactic(auto, unfolding(crate::specs::Settings::preset_of))]
     pub fn preset(self) -> Preset
-        ensures { result ≡ preset_of self }
+        ensures exact { result ≡ preset_of self }
+        ensures preset { IsPreset result }
     {
         match self {
             PresetName::Mainnet => Preset::mainnet(),
@@ -96,7 +98,9 @@ impl Settings {
         match key {
             Key::PresetBase => self.preset_base.is_some(),
             Key::SecondsPerSlot => self.seconds_per_slot.is_some(),
-            Key::MinValidatorWithdrawabilityDelay => self.min_validator_withdrawability_delay.is_some(),
+            Key::MinValidatorWithdrawabilityDelay => self
+                .min_validator_withdrawability_delay
+                .is_some(),
             Key::ShardCommitteePeriod => self.shard_committee_period.is_some(),
             Key::EjectionBalance => self.ejection_balance.is_some(),
             Key::MinPerEpochChurnLimit => self.min_per_epoch_churn_limit.is_some(),
@@ -117,9 +121,13 @@ impl Settings {
             Key::MinValidatorWithdrawabilityDelay => {
                 settings.min_validator_withdrawability_delay = Some(number_in(line, text)?);
             }
-            Key::ShardCommitteePeriod => settings.shard_committee_period = Some(number_in(line, text)?),
+            Key::ShardCommitteePeriod => settings.shard_committee_period = Some(number_in(
+                line, text,
+            )?),
             Key::EjectionBalance => settings.ejection_balance = Some(number_in(line, text)?),
-            Key::MinPerEpochChurnLimit => settings.min_per_epoch_churn_limit = Some(number_in(line, text)?),
+            Key::MinPerEpochChurnLimit => settings.min_per_epoch_churn_limit = Some(number_in(
+                line, text,
+            )?),
             Key::ChurnLimitQuotient => settings.churn_limit_quotient = Some(number_in(line, text)?),
             Key::ProposerScoreBoost => settings.proposer_score_boost = Some(number_in(line, text)?),
         }

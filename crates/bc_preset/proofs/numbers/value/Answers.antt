@@ -1,4 +1,4 @@
-use Rattle.std.proofs.Common.{◌≡◌, ◌+◌, ◌-◌, ◌*◌, get_or, length, arith, sym, ◌∙◌}
+use Rattle.std.proofs.Common.{arith, sym, ◌∙◌}
 use Rattle.bc_preset.proofs.Digits.{value_more, value_fits}
 use Rattle.bc_preset.proofs.numbers.value.Goals as goal
 
