@@ -1,0 +1,6 @@
+//! The program: command words, files and a sink in, lines and a status out.
+#![tactic(auto)]
+
+mod lines;
+mod store;
+mod words;
