@@ -2,5 +2,6 @@
 #![tactic(auto)]
 
 mod lines;
+mod reading;
 mod store;
 mod words;
