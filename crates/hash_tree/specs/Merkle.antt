@@ -1,6 +1,7 @@
 -- Merkle trees over chunks of 32 bytes (simple-serialize.md, "Merkleization"). A chunk and a root are lists of
 -- 32 bytes, and a byte is a number below 256.
-use Rattle.std.specs.Prelude.{ℕ, zero, suc, ◌+◌, ◌-◌, ◌^◌, List, [], ◌∷◌, ◌++◌, length, take, drop, replicate}
+use Rattle.std.specs.Prelude.{ℕ, zero, suc, ◌+◌, ◌-◌, ◌/◌, ◌^◌, List, [], ◌∷◌, ◌++◌, length, take, drop, replicate}
+use Rattle.std.specs.List.{flat_map}
 use Rattle.std.specs.Int.{w64, to_le_bytes}
 use Rattle.sha2.specs.Sha256.{sha256}
 
@@ -29,9 +30,21 @@ unfoldable pub chunks_of : ℕ → List ℕ → List (List ℕ)
 chunks_of zero bytes = []
 chunks_of (suc count) bytes = padded_chunk (take 32 bytes) ∷ chunks_of count (drop 32 bytes)
 
+-- the bytes of a number of 64 bits, low byte first
+unfoldable pub u64_bytes : ℕ → List ℕ
+u64_bytes n = to_le_bytes w64 n
+
+-- the bytes of numbers of 64 bits, one after another
+unfoldable pub u64s_bytes : List ℕ → List ℕ
+u64s_bytes numbers = flat_map u64_bytes numbers
+
+-- pack, for as many chunks as the bytes need
+abbrev pub byte_chunks : List ℕ → List (List ℕ)
+byte_chunks bytes = chunks_of ((length bytes + 31) / 32) bytes
+
 -- a length as 32 bytes, low byte first
 unfoldable pub length_chunk : ℕ → List ℕ
-length_chunk n = to_le_bytes w64 n ++ replicate 24 0
+length_chunk n = u64_bytes n ++ replicate 24 0
 
 -- mix_in_length
 unfoldable pub mix_in_length : List ℕ → ℕ → List ℕ

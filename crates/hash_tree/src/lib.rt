@@ -1,23 +1,20 @@
 //! Merkle roots over chunks of 32 bytes, as simple-serialize.md defines them.
 //!
-//! Chunks come from the SSZ containers above, and roots go back to them. `sha2` computes the hash.
+//! Chunks come from the SSZ containers above, and roots go back to them. `sha2` computes the hash. No call takes
+//! memory.
 #![tactic(auto)]
 
-ghost use Rattle.std.specs.Prelude.{◌≡◌, ◌++◌};
-ghost use Rattle.hash_tree.specs.Merkle.{hash};
+mod leaf;
+mod pair;
+mod roots;
+mod rows;
+mod tree;
+mod zero;
 
-use sha2::{Digest, Sha256};
+pub use leaf::Leaf;
+pub use pair::{chunk_root, hash_pair, mix_in_length};
+pub use roots::{merkle, merkle_bytes, merkle_leaves, merkle_u64};
+pub use zero::zero_hash;
 
 /// A chunk, or the root of a tree of chunks (simple-serialize.md, "Merkleization").
 pub type Root = [u8; 32];
-
-/// The hash of two nodes that stand side by side.
-#[tactic(auto, unfolding(crate::specs::Merkle::hash))]
-pub fn hash_pair(a: &Root, b: &Root) -> Root
-    ensures { result ≡ hash (a.now ++ b.now) }
-{
-    let mut hasher = Sha256::new();
-    hasher.update(a);
-    hasher.update(b);
-    hasher.finalize()
-}

@@ -1,0 +1,25 @@
+use Rattle.std.proofs.Common.{◌≡◌, ◌-◌, ◌^◌, length, take, drop, refl, arith, ap, sym, ◌∙◌}
+use Rattle.std.proofs.lemmas.List.{length-drop}
+use Rattle.hash_tree.specs.Merkle.{merkle_root}
+use Rattle.hash_tree.proofs.Halves.{merkle_root-halves, merkle_root-short, merkle_root-at_zero, width_halves}
+use Rattle.hash_tree.proofs.tree.+merkle_of.Goals as goal
+
+pub returns-then-depth-eq0 : goal.returns-then-depth-eq0
+returns-then-depth-eq0 g t c =
+    c.first.ensures ∙ sym (merkle_root-at_zero c.args.depth (g.R.Row.chunks c.args.row.now) c.first.result c.if-depth-eq0.true (omega arith))
+
+pub returns-then-count-half : goal.returns-then-count-half
+returns-then-count-half g t c =
+    let e = merkle_root-short c.args.depth (c.args.depth - 1) (g.R.Row.chunks c.args.row.now) (omega arith) (omega arith) in
+    cc
+
+pub merkle_of-requires-3 : goal.merkle_of-requires-3
+merkle_of-requires-3 g t c κs within =
+    let w = width_halves c.args.depth (c.args.depth - 1) (omega arith) in
+    let l : length (g.R.Row.chunks c.cut-left.result.1) ≡ length (g.R.Row.chunks c.args.row.now) - c.half_width-half.result = ap length {y = drop c.half_width-half.result (g.R.Row.chunks c.args.row.now)} c.cut-left.ensures.back ∙ length-drop c.half_width-half.result (g.R.Row.chunks c.args.row.now) in
+    (omega arith, (within, (omega arith, omega arith)))
+
+pub returns : goal.returns
+returns g t c =
+    let e = merkle_root-halves c.args.depth (c.args.depth - 1) (g.R.Row.chunks c.args.row.now) (take (2 ^ (c.args.depth - 1)) (g.R.Row.chunks c.args.row.now)) (drop (2 ^ (c.args.depth - 1)) (g.R.Row.chunks c.args.row.now)) (omega arith) refl refl in
+    cc

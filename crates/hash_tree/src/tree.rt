@@ -1,0 +1,59 @@
+//! The Merkle root of a row of chunks, by halves, down to single chunks.
+//!
+//! Rows come from `rows`, and hold borrowed slices, so that nothing is copied. What a row lacks up to the tree's
+//! width is taken from the table of zero roots, whole subtrees at a time.
+
+ghost use Rattle.std.specs.Prelude.{◌≡◌, ℕ, ◌-◌, ◌^◌, ◌<◌, ◌≤◌, List, length, get_or, take, drop};
+ghost use Rattle.hash_tree.specs.Merkle.{merkle_root};
+
+use crate::{Root, hash_pair, zero_hash};
+
+/// A row of chunks that is cut in two without copying it.
+pub trait Row: Copy {
+    /// The chunks of the row.
+    ghost chunks: { Self → List (List ℕ) };
+
+    /// How many chunks there are.
+    fn count(&self) -> usize
+        ensures { result ≡ length (chunks self.now) };
+
+    /// The first chunk.
+    fn first(&self) -> Root
+        requires { 0 < length (chunks self.now) }
+        ensures { result ≡ get_or (chunks self.now) 0 result };
+
+    /// The chunks before a place, and those from there on.
+    fn cut(&self, at: usize) -> (Self, Self)
+        requires { at < length (chunks self.now) }
+        ensures front { chunks result.0 ≡ take at (chunks self.now) }
+        ensures back { chunks result.1 ≡ drop at (chunks self.now) };
+}
+
+/// How many chunks one half of a tree holds.
+fn half_width(depth: u32) -> usize
+    requires inner { 0 < depth }
+    requires low { depth ≤ 40 }
+    ensures { result ≡ 2 ^ (depth - 1) }
+{
+    1 << (depth - 1)
+}
+
+/// The root of the row's chunks in a tree of this depth.
+pub fn merkle_of<R: Row>(row: &R, depth: u32) -> Root
+    requires low { depth ≤ 40 }
+    requires fits { length (R.chunks row.now) ≤ 2 ^ depth }
+    ensures { result ≡ merkle_root depth (R.chunks row.now) }
+{
+    if row.count() == 0 {
+        return zero_hash(depth);
+    }
+    if depth == 0 {
+        return row.first();
+    }
+    let half = half_width(depth);
+    if row.count() <= half {
+        return hash_pair(&merkle_of(row, depth - 1), &zero_hash(depth - 1));
+    }
+    let (left, right) = row.cut(half);
+    hash_pair(&merkle_of(&left, depth - 1), &merkle_of(&right, depth - 1))
+}
