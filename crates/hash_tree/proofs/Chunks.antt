@@ -1,7 +1,7 @@
 -- chunks of bytes and of numbers, cut at a place
-use Rattle.std.proofs.Common.{ℕ, zero, suc, ◌+◌, ◌-◌, ◌*◌, ◌/◌, ◌^◌, ◌<◌, ◌≤◌, ◌≡◌, List, [], ◌∷◌, ◌++◌, length, get_or, take, drop, refl, sym, ap, ◌∙◌, arith, add-suc, add-one, replicate, min}
+use Rattle.std.proofs.Common.{ℕ, zero, suc, ◌+◌, ◌-◌, ◌*◌, ◌/◌, ◌<◌, ◌≤◌, ◌≡◌, List, [], ◌∷◌, ◌++◌, length, get_or, take, drop, refl, sym, ap, ◌∙◌, arith}
 use Rattle.std.specs.List.{flat_map}
-use Rattle.std.proofs.lemmas.List.{take_all, drop_all, length-take, length-drop, drop-drop, take-take, drop-take, append_assoc, length-append, take_at, drop_at}
+use Rattle.std.proofs.lemmas.List.{length-take, length-drop, drop-drop, take-take, drop-take, take_at, drop_at}
 use Rattle.std.proofs.Math.Seq.{take-add}
 use Rattle.hash_tree.specs.Merkle.{padded_chunk, chunks_of, byte_chunks, u64_bytes, u64s_bytes}
 

@@ -1,6 +1,6 @@
 -- Merkle trees over chunks of 32 bytes (simple-serialize.md, "Merkleization"). A chunk and a root are lists of
 -- 32 bytes, and a byte is a number below 256.
-use Rattle.std.specs.Prelude.{ℕ, zero, suc, ◌+◌, ◌-◌, ◌/◌, ◌^◌, List, [], ◌∷◌, ◌++◌, length, take, drop, replicate}
+use Rattle.std.specs.Prelude.{ℕ, zero, suc, ◌+◌, ◌-◌, ◌*◌, ◌/◌, ◌^◌, List, [], ◌∷◌, ◌++◌, length, take, drop, replicate}
 use Rattle.std.specs.List.{flat_map}
 use Rattle.std.specs.Int.{w64, to_le_bytes}
 use Rattle.sha2.specs.Sha256.{sha256}
@@ -41,6 +41,10 @@ u64s_bytes numbers = flat_map u64_bytes numbers
 -- pack, for as many chunks as the bytes need
 abbrev pub byte_chunks : List ℕ → List (List ℕ)
 byte_chunks bytes = chunks_of ((length bytes + 31) / 32) bytes
+
+-- pack of numbers of 64 bits, four to a chunk
+abbrev pub u64_chunks : List ℕ → List (List ℕ)
+u64_chunks numbers = chunks_of ((8 * length numbers + 31) / 32) (u64s_bytes numbers)
 
 -- a length as 32 bytes, low byte first
 unfoldable pub length_chunk : ℕ → List ℕ

@@ -3,7 +3,7 @@
 //! Slices come from the containers and lists above, which mix in lengths themselves. Nothing is copied.
 
 ghost use Rattle.std.specs.Prelude.{◌≡◌, ◌+◌, ◌/◌, ◌^◌, ◌≤◌, length, map};
-ghost use Rattle.hash_tree.specs.Merkle.{merkle_root, byte_chunks, u64s_bytes};
+ghost use Rattle.hash_tree.specs.Merkle.{merkle_root, byte_chunks, u64_chunks};
 
 use crate::Root;
 use crate::leaf::Leaf;
@@ -45,7 +45,7 @@ pub fn merkle_bytes(bytes: &[u8], depth: u32) -> Root
 pub fn merkle_u64(numbers: &[u64], depth: u32) -> Root
     requires low { depth ≤ 40 }
     requires fits { (length numbers.now + 3) / 4 ≤ 2 ^ depth }
-    ensures { result ≡ merkle_root depth (byte_chunks (u64s_bytes numbers.now)) }
+    ensures { result ≡ merkle_root depth (u64_chunks numbers.now) }
 {
     let row = NumberRow { numbers };
     merkle_of(&row, depth)

@@ -1,6 +1,5 @@
 use Rattle.std.proofs.Common.{◌≡◌, ◌-◌, ◌^◌, length, take, drop, refl, arith, ap, sym, ◌∙◌}
 use Rattle.std.proofs.lemmas.List.{length-drop}
-use Rattle.hash_tree.specs.Merkle.{merkle_root}
 use Rattle.hash_tree.proofs.Halves.{merkle_root-halves, merkle_root-short, merkle_root-at_zero, width_halves}
 use Rattle.hash_tree.proofs.tree.+merkle_of.Goals as goal
 

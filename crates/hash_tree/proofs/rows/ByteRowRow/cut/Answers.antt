@@ -1,5 +1,4 @@
-use Rattle.std.proofs.Common.{◌≡◌, ◌*◌, ◌+◌, ◌/◌, ◌≤◌, length, arith}
-use Rattle.hash_tree.specs.Merkle.{chunks_of}
+use Rattle.std.proofs.Common.{arith}
 use Rattle.hash_tree.proofs.Chunks.{chunk_count, take-byte_chunks, drop-byte_chunks}
 use Rattle.hash_tree.proofs.rows.ByteRowRow.cut.Goals as goal
 

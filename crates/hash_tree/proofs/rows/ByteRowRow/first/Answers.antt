@@ -1,6 +1,5 @@
-use Rattle.std.proofs.Common.{◌≡◌, ◌≤◌, length, sym, ◌∙◌, refl, take, arith}
-use Rattle.std.proofs.lemmas.List.{take_all, length-take, length-take-le}
-use Rattle.hash_tree.specs.Merkle.{chunks_of}
+use Rattle.std.proofs.Common.{◌≡◌, length, sym, ◌∙◌, refl, take, arith}
+use Rattle.std.proofs.lemmas.List.{take_all, length-take-le}
 use Rattle.hash_tree.proofs.Chunks.{chunk_count, first-byte_chunks}
 use Rattle.hash_tree.proofs.rows.ByteRowRow.first.Goals as goal
 

@@ -1,5 +1,5 @@
-use Rattle.std.proofs.Common.{◌≡◌, ◌*◌, ◌+◌, ◌/◌, ◌≤◌, length, ap, ◌∙◌, arith}
-use Rattle.hash_tree.specs.Merkle.{chunks_of, u64s_bytes}
+use Rattle.std.proofs.Common.{◌*◌, ap, ◌∙◌, arith}
+use Rattle.hash_tree.specs.Merkle.{u64s_bytes}
 use Rattle.hash_tree.proofs.Chunks.{number_chunk_facts, take-byte_chunks, drop-byte_chunks, take-u64s_bytes, drop-u64s_bytes}
 use Rattle.hash_tree.proofs.rows.NumberRowRow.cut.Goals as goal
 

@@ -1,5 +1,5 @@
-use Rattle.std.proofs.Common.{◌≡◌, ◌∙◌, refl, take, arith}
-use Rattle.hash_tree.specs.Merkle.{chunks_of, u64s_bytes}
+use Rattle.std.proofs.Common.{refl, take, arith}
+use Rattle.hash_tree.specs.Merkle.{u64s_bytes}
 use Rattle.hash_tree.proofs.Chunks.{number_chunk_facts, first_numbers, first-byte_chunks}
 use Rattle.hash_tree.proofs.rows.NumberRowRow.first.Goals as goal
 
