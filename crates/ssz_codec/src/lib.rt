@@ -4,8 +4,11 @@
 //! Bytes come from files and records; values go to the containers above.
 #![tactic(auto)]
 
+mod basic;
 mod fault;
 mod layout;
+mod ssz;
 
 pub use fault::SszFault;
 pub use layout::{Field, cut};
+pub use ssz::{Ssz, one_writing, reads_back};
