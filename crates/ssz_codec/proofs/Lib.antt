@@ -1,1 +1,3 @@
 mod Cutting
+pub mod ItemsLoop
+pub mod VariableList

@@ -42,9 +42,10 @@ fn fixed_len(fields: &[Field]) -> usize
 
 /// The offset at this place.
 #[tactic(auto, unfolding(crate::specs::Layout::offset_of))]
-fn offset_at(bytes: &[u8], at: usize) -> usize
+pub(crate) fn offset_at(bytes: &[u8], at: usize) -> usize
     requires { at + 4 ≤ length bytes.now }
-    ensures { result ≡ offset_of (take 4 (drop at bytes.now)) }
+    ensures value { result ≡ offset_of (take 4 (drop at bytes.now)) }
+    ensures small { result < 2 ^ 32 }
 {
     let piece = &bytes[at..at + 4];
     u32::from_le_bytes([piece[0], piece[1], piece[2], piece[3]]) as usize

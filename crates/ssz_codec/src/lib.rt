@@ -6,9 +6,13 @@
 
 mod basic;
 mod fault;
+mod items;
 mod layout;
+mod lists;
 mod ssz;
 
 pub use fault::SszFault;
+pub use items::Items;
 pub use layout::{Field, cut};
+pub use lists::{read_items, read_list, read_variable_list};
 pub use ssz::{Ssz, one_writing, reads_back};

@@ -32,11 +32,9 @@ pub trait Ssz: Drop {
 /// What was written is read again.
 pub fn reads_back<T: Ssz>()
     ensures { (v : T) → T.codec.Within v → T.codec.parse (T.codec.writing v) ≡ Some v }
-{
-}
+{}
 
 /// At most one value has a given writing.
 pub fn one_writing<T: Ssz>()
     ensures { (v w : T) → T.codec.Within v → T.codec.Within w → T.codec.writing v ≡ T.codec.writing w → v ≡ w }
-{
-}
+{}

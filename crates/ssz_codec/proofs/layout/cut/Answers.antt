@@ -63,7 +63,7 @@ returns-then-start-end c =
     let h = behind (λ part. part.now) c.args.fields.now c.loop-i.parts c.loop-i.i j c.loop-i.at c.loop-i.end c.args.bytes.now (omega arith) c.loop-i.invariant.so_far in
     let e : c.loop-i.i ≡ j + 1 = omega arith in
     let place : c.loop-i.at + heads_len (drop (j + 1) c.args.fields.now) ≡ heads_len c.args.fields.now = subst (λ n. c.loop-i.at + heads_len (drop n c.args.fields.now) ≡ heads_len c.args.fields.now) e c.loop-i.invariant.place in
-    cut_falls c.args.fields.now j (c.loop-i.at - 4) c.loop-i.at c.offset_at-start.result c.loop-i.end c.args.bytes.now _ (omega arith) c.in-Variable.is (omega arith) c.offset_at-start.ensures (omega arith) place h
+    cut_falls c.args.fields.now j (c.loop-i.at - 4) c.loop-i.at c.offset_at-start.result c.loop-i.end c.args.bytes.now _ (omega arith) c.in-Variable.is (omega arith) c.offset_at-start.ensures.value (omega arith) place h
 
 pub loop-i-preserved : goal.loop-i-preserved
 loop-i-preserved c =
@@ -71,7 +71,7 @@ loop-i-preserved c =
     let one = heads_here c.args.fields.now c.loop-i.i j Variable (omega arith) (omega arith) c.in-Variable.is in
     let two = heads_le c.args.fields.now j in
     let h = behind (λ part. part.now) c.args.fields.now c.loop-i.parts c.loop-i.i j c.loop-i.at c.loop-i.end c.args.bytes.now (omega arith) c.loop-i.invariant.so_far in
-    let k = cut_offset c.args.fields.now j (c.loop-i.at - 4) c.loop-i.at c.offset_at-start.result c.loop-i.end c.args.bytes.now _ (omega arith) c.in-Variable.is (omega arith) c.offset_at-start.ensures (omega arith) h in
+    let k = cut_offset c.args.fields.now j (c.loop-i.at - 4) c.loop-i.at c.offset_at-start.result c.loop-i.end c.args.bytes.now _ (omega arith) c.in-Variable.is (omega arith) c.offset_at-start.ensures.value (omega arith) h in
     record {
       within = omega arith;
       place = omega arith;

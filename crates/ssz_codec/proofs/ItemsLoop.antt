@@ -1,0 +1,102 @@
+-- Reading values one after another, as a loop does.
+use Rattle.std.proofs.Common.{◌≡◌, ℕ, suc, ◌-◌, ◌+◌, ◌≤◌, ◌<◌, cond, List, [], ◌∷◌, ◌++◌, length, get_or, take, drop, map, Option, Some, None, refl, sym, ap, ◌∙◌, append_assoc, arith}
+use Rattle.std.specs.Prelude.{nat_lt, ◌==◌}
+use Rattle.std.proofs.lemmas.Bool.{lt-ltb, le-ltb, eq-eqb, ne_eqb}
+use Rattle.std.proofs.lemmas.List.{append-nil, drop_more, drop_all}
+use Rattle.ssz_codec.specs.declared.fault.SszFault.{SszFault}
+use Rattle.ssz_codec.specs.declared.fault.SszFault.TheVariants.{NotAWriting, NoMemory}
+use Rattle.ssz_codec.specs.Layout.{◌>>=◌}
+use Rattle.ssz_codec.specs.Lists.{parse_items, parse_parts}
+use Rattle.ssz_codec.specs.Reads.{Fails}
+
+-- what was read before, and what is still read
+abbrev pub with_front : {A : Type 0} → List A → Option (List A) → Option (List A)
+with_front front read = read >>= λ xs. Some (front ++ xs)
+
+regroup : {A : Type 0} (front : List A) (x : A) (read : Option (List A)) → with_front front (read >>= λ xs. Some (x ∷ xs)) ≡ with_front (front ++ x ∷ []) read
+regroup front x None = refl
+regroup front x (Some xs) = ap (λ ys. Some ys) (sym (append_assoc front (x ∷ []) xs))
+
+abbrev item_step : {A : Type 0} → (List ℕ → Option A) → ℕ → ℕ → List ℕ → Option (List A)
+item_step parse size count bytes = parse (take size bytes) >>= λ x. parse_items parse size count (drop size bytes) >>= λ xs. Some (x ∷ xs)
+
+-- the count that is left is one more than the next one
+left : {A : Type 0} (parse : List ℕ → Option A) (size count i : ℕ) (bytes : List ℕ) → i < count
+    → parse_items parse size (count - i) bytes ≡ cond (nat_lt (length bytes) size) None (item_step parse size (count - (i + 1)) bytes)
+unfolding parse_items
+left parse size count i bytes lt =
+    let k : count - i ≡ suc (count - (i + 1)) = omega arith in
+    ap (λ n. parse_items parse size n bytes) k
+
+pub item_more : {A : Type 0} (parse : List ℕ → Option A) (size count i : ℕ) (front : List A) (bytes : List ℕ) (x : A) (total : Option (List A)) → i < count → size ≤ length bytes → parse (take size bytes) ≡ Some x
+    → with_front front (parse_items parse size (count - i) bytes) ≡ total → with_front (front ++ x ∷ []) (parse_items parse size (count - (i + 1)) (drop size bytes)) ≡ total
+item_more {A = A} parse size count i front bytes x total lt le is so_far =
+    let one : parse_items parse size (count - i) bytes ≡ (parse_items parse size (count - (i + 1)) (drop size bytes) >>= λ xs. Some (x ∷ xs)) =
+    left parse size count i bytes lt
+    ∙ ap (λ b. cond b None (item_step parse size (count - (i + 1)) bytes)) (le-ltb _ _ le)
+    ∙ ap (λ (o : Option A). o >>= λ y. parse_items parse size (count - (i + 1)) (drop size bytes) >>= λ xs. Some (y ∷ xs)) is in
+    sym (regroup front x (parse_items parse size (count - (i + 1)) (drop size bytes))) ∙ ap (with_front front) (sym one) ∙ so_far
+
+pub item_fails : {A : Type 0} (e : SszFault) (parse : List ℕ → Option A) (size count i : ℕ) (front : List A) (bytes : List ℕ) (total : Option (List A)) → i < count → size ≤ length bytes → Fails e (parse (take size bytes))
+    → with_front front (parse_items parse size (count - i) bytes) ≡ total → Fails e total
+item_fails NoMemory parse size count i front bytes total lt le is so_far = tt
+item_fails {A = A} NotAWriting parse size count i front bytes total lt le is so_far =
+    let one : parse_items parse size (count - i) bytes ≡ None =
+    left parse size count i bytes lt
+    ∙ ap (λ b. cond b None (item_step parse size (count - (i + 1)) bytes)) (le-ltb _ _ le)
+    ∙ ap (λ (o : Option A). o >>= λ y. parse_items parse size (count - (i + 1)) (drop size bytes) >>= λ xs. Some (y ∷ xs)) is in
+    sym so_far ∙ ap (with_front front) one
+
+pub item_short : {A : Type 0} (parse : List ℕ → Option A) (size count i : ℕ) (front : List A) (bytes : List ℕ) (total : Option (List A)) → i < count → length bytes < size
+    → with_front front (parse_items parse size (count - i) bytes) ≡ total → total ≡ None
+item_short parse size count i front bytes total lt short so_far =
+    let one : parse_items parse size (count - i) bytes ≡ None =
+    left parse size count i bytes lt ∙ ap (λ b. cond b None (item_step parse size (count - (i + 1)) bytes)) (lt-ltb _ _ short) in
+    sym so_far ∙ ap (with_front front) one
+
+last_of : {A : Type 0} (parse : List ℕ → Option A) (size count i : ℕ) (bytes : List ℕ) → count ≤ i → parse_items parse size (count - i) bytes ≡ cond (length bytes == 0) (Some []) None
+unfolding parse_items
+last_of parse size count i bytes le =
+    let k : count - i ≡ 0 = omega arith in
+    ap (λ n. parse_items parse size n bytes) k
+
+pub items_end : {A : Type 0} (parse : List ℕ → Option A) (size count i : ℕ) (front : List A) (bytes : List ℕ) (total : Option (List A)) → count ≤ i → length bytes ≡ 0
+    → with_front front (parse_items parse size (count - i) bytes) ≡ total → total ≡ Some front
+items_end parse size count i front bytes total le none so_far =
+    sym so_far ∙ ap (with_front front) (last_of parse size count i bytes le ∙ ap (λ b. cond b (Some []) None) (eq-eqb _ _ none)) ∙ ap (λ xs. Some xs) (append-nil front)
+
+pub items_over : {A : Type 0} (parse : List ℕ → Option A) (size count i : ℕ) (front : List A) (bytes : List ℕ) (total : Option (List A)) → count ≤ i → (length bytes ≡ 0 → ⊥)
+    → with_front front (parse_items parse size (count - i) bytes) ≡ total → total ≡ None
+items_over parse size count i front bytes total le some so_far =
+    sym so_far ∙ ap (with_front front) (last_of parse size count i bytes le ∙ ap (λ b. cond b (Some []) None) (ne_eqb _ _ some))
+
+-- ---- parts
+
+pub part_more : {A : Type 0} (parse : List ℕ → Option A) (front : List A) (part : List ℕ) (parts : List (List ℕ)) (x : A) (total : Option (List A)) → parse part ≡ Some x
+    → with_front front (parse_parts parse (part ∷ parts)) ≡ total → with_front (front ++ x ∷ []) (parse_parts parse parts) ≡ total
+unfolding parse_parts
+part_more {A = A} parse front part parts x total is so_far =
+    let one : parse_parts parse (part ∷ parts) ≡ (parse_parts parse parts >>= λ xs. Some (x ∷ xs)) =
+    ap (λ (o : Option A). o >>= λ y. parse_parts parse parts >>= λ xs. Some (y ∷ xs)) is in
+    sym (regroup front x (parse_parts parse parts)) ∙ ap (with_front front) (sym one) ∙ so_far
+
+pub part_fails : {A : Type 0} (e : SszFault) (parse : List ℕ → Option A) (front : List A) (part : List ℕ) (parts : List (List ℕ)) (total : Option (List A)) → Fails e (parse part)
+    → with_front front (parse_parts parse (part ∷ parts)) ≡ total → Fails e total
+unfolding parse_parts
+part_fails NoMemory parse front part parts total is so_far = tt
+part_fails {A = A} NotAWriting parse front part parts total is so_far =
+    sym so_far ∙ ap (with_front front) (ap (λ (o : Option A). o >>= λ y. parse_parts parse parts >>= λ xs. Some (y ∷ xs)) is)
+
+pub parts_end : {A : Type 0} (parse : List ℕ → Option A) (front : List A) (total : Option (List A)) → with_front front (parse_parts parse []) ≡ total → total ≡ Some front
+unfolding parse_parts
+parts_end parse front total so_far = sym so_far ∙ ap (λ xs. Some xs) (append-nil front)
+
+pub front_none : {A : Type 0} (read : Option (List A)) → with_front [] read ≡ read
+front_none None = refl
+front_none (Some xs) = refl
+
+pub parts_from : {X : Type 0} (f : X → List ℕ) (parts : List X) (i : ℕ) (d : X) → i < length parts → map f (drop i parts) ≡ f (get_or parts i d) ∷ map f (drop (i + 1) parts)
+parts_from f parts i d lt = ap (map f) (drop_more parts i d lt)
+
+pub parts_none : {X : Type 0} (f : X → List ℕ) (parts : List X) (i : ℕ) → length parts ≤ i → map f (drop i parts) ≡ []
+parts_none f parts i le = ap (map f) (drop_all i parts le)

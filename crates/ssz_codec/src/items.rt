@@ -1,0 +1,79 @@
+//! A list of values, which contracts see as the list alone.
+
+ghost use Rattle.std.specs.Prelude.{◌≡◌, ◌==◌, [], ◌∷◌, ◌++◌, length, slice_get, OnOk, OnErr};
+ghost use Rattle.std.specs.Option.{option_map};
+
+use bc_words::NoMemory;
+use std::alloc::Global;
+use std::marker::Model;
+
+/// The values of a list or a vector, in order.
+#[derive(Drop)]
+pub struct Items<T> {
+    values: Vec<T>,
+}
+
+impl<T> Model for Items<T> {
+    ghost use Rattle.std.specs.Prelude.{List};
+
+    ghost Value = { List T };
+
+    ghost view = { λ items. items.values.items };
+}
+
+impl<T> Items<T> {
+    /// The empty list.
+    pub fn new(alloc: Global) -> Items<T>
+        ensures { result ≡ [] }
+    {
+        Items {
+            values: Vec::new(alloc),
+        }
+    }
+
+    /// The list of these values.
+    pub fn from_vec(values: Vec<T>) -> Items<T>
+        ensures { result ≡ values.items }
+    {
+        Items { values }
+    }
+
+    /// How many there are.
+    pub fn len(&self) -> usize
+        ensures { result ≡ length self.now }
+    {
+        self.values.len()
+    }
+
+    /// Whether there is none.
+    pub fn is_empty(&self) -> bool
+        ensures { result ≡ (length self.now == 0) }
+    {
+        self.values.is_empty()
+    }
+
+    /// All of them.
+    pub fn as_slice(&self) -> &[T]
+        ensures { result.now ≡ self.now }
+    {
+        self.values.as_slice()
+    }
+
+    /// The value at this place, None exactly where there is none.
+    pub fn get(&self, i: usize) -> Option<&T>
+        ensures { option_map (λ x. x.now) result ≡ slice_get self.now i }
+    {
+        self.values.as_slice().get(i)
+    }
+}
+
+impl<T: Drop> Items<T> {
+    /// One more value at the end. Where memory is refused, the list is as before and the value is dropped.
+    pub fn push(&mut self, value: T) -> Result<(), NoMemory>
+        ensures ok { OnOk result (self.new ≡ self.old ++ value ∷ []) }
+        ensures err { OnErr result (self.new ≡ self.old) }
+    {
+        self.values.push(value)?;
+        Ok(())
+    }
+}

@@ -1,0 +1,106 @@
+//! Reading vectors and lists: the bytes come from the readers of containers.
+
+ghost use Rattle.std.specs.Prelude.{◌≡◌, ◌<◌, ◌≤◌, ◌*◌, ◌/◌, ◌^◌, length, map, replicate, MatchResult, Some};
+ghost use Rattle.ssz_codec.specs.declared.layout.Field.TheVariants.{Variable};
+ghost use Rattle.ssz_codec.specs.Lists.{parse_items, parse_list, parse_parts, parse_variable_list};
+ghost use Rattle.ssz_codec.specs.Layout.{cut};
+ghost use Rattle.ssz_codec.specs.Reads.{Gives, Fails};
+
+use crate::fault::SszFault;
+use crate::items::Items;
+use crate::layout::{self, Field};
+use crate::ssz::Ssz;
+use std::alloc::Global;
+
+/// Reads so many values of fixed size, one after another: a vector. The size is the codec's.
+pub fn read_items<T: Ssz>(
+    alloc: Global,
+    bytes: &[u8],
+    size: usize,
+    count: usize,
+) -> Result<Items<T>, SszFault>
+    ensures { Gives result (parse_items T.codec.parse size count bytes.now) }
+{
+    let mut values = Vec::with_capacity(alloc, count)?;
+    let mut rest = bytes;
+    for _ in 0..count {
+        if rest.len() < size {
+            return Err(SszFault::NotAWriting);
+        }
+        let (front, after) = rest.split_at(size);
+        let value = T::parse(alloc, front)?;
+        values.push(value)?;
+        rest = after;
+    }
+    if !rest.is_empty() {
+        return Err(SszFault::NotAWriting);
+    }
+    Ok(Items::from_vec(values))
+}
+
+/// Reads a list of values of fixed size, at most `limit` of them. The size is the codec's.
+#[tactic(auto, unfolding(crate::specs::Lists::parse_list))]
+pub fn read_list<T: Ssz>(
+    alloc: Global,
+    bytes: &[u8],
+    size: usize,
+    limit: u64,
+) -> Result<Items<T>, SszFault>
+    requires { 0 < size }
+    ensures { Gives result (parse_list T.codec.parse size limit bytes.now) }
+{
+    let count = bytes.len() / size;
+    if count as u64 > limit {
+        return Err(SszFault::NotAWriting);
+    }
+    read_items(alloc, bytes, size, count)
+}
+
+/// Reads one value of each part.
+fn read_parts<T: Ssz>(alloc: Global, parts: &[&[u8]]) -> Result<Items<T>, SszFault>
+    ensures { Gives result (parse_parts T.codec.parse (map (λ part. part.now) parts.now)) }
+{
+    let mut values = Vec::with_capacity(alloc, parts.len())?;
+    for part in parts {
+        let value = T::parse(alloc, part)?;
+        values.push(value)?;
+    }
+    Ok(Items::from_vec(values))
+}
+
+/// Cuts a list of so many variable parts.
+#[tactic(auto, using(crate::specs::ListLaws::variable_heads))]
+fn cut_list(alloc: Global, bytes: &[u8], count: usize) -> Result<Vec<&[u8]>, SszFault>
+    requires { 4 * count < 2 ^ 32 }
+    ensures { MatchResult result (λ parts. cut (replicate count Variable) bytes.now ≡ Some (map (λ part. part.now) parts.items)) (λ e. Fails e (cut (replicate count Variable) bytes.now)) }
+{
+    let fields = vec![in alloc; Field::Variable; count]?;
+    let mut parts = vec![in alloc; bytes; count]?;
+    layout::cut(bytes, &fields, &mut parts)?;
+    Ok(parts)
+}
+
+/// Reads a list of values of variable size, at most `limit` of them.
+pub fn read_variable_list<T: Ssz>(
+    alloc: Global,
+    bytes: &[u8],
+    limit: u64,
+) -> Result<Items<T>, SszFault>
+    ensures { Gives result (parse_variable_list T.codec.parse limit bytes.now) }
+{
+    if bytes.is_empty() {
+        return Ok(Items::new(alloc));
+    }
+    if bytes.len() < 4 {
+        return Err(SszFault::NotAWriting);
+    }
+    let count = layout::offset_at(bytes, 0) / 4;
+    if count as u64 > limit {
+        return Err(SszFault::NotAWriting);
+    }
+    if count > bytes.len() / 4 {
+        return Err(SszFault::NotAWriting);
+    }
+    let parts = cut_list(alloc, bytes, count)?;
+    read_parts(alloc, &parts)
+}
