@@ -1,14 +1,11 @@
 -- Basic types and vectors of bytes and bits (simple-serialize.md, "Basic types", "uintN", "boolean", "Bitvector[N]").
 use Rattle.std.specs.Prelude.{◌≡◌, ℕ, zero, suc, ◌+◌, ◌*◌, ◌/◌, ◌%◌, ◌<◌, ◌^◌, Bool, true, false, cond, List, [], ◌∷◌, length, Option, Some, None, nat_lt, ◌==◌, if◌then◌else◌}
-use Rattle.std.specs.Int.{w64, to_le_bytes, from_le_bytes}
-use Rattle.hash_tree.specs.Merkle.{merkle_root, padded_chunk, chunks_of}
+use Rattle.std.specs.Int.{w64, from_le_bytes}
+use Rattle.hash_tree.specs.Merkle.{merkle_root, padded_chunk, byte_chunks, u64_bytes}
 use Rattle.ssz_codec.specs.declared.layout.Field.TheVariants.{Fixed}
 use Rattle.ssz_codec.specs.Codec.{Codec}
 
--- a u64 in its eight bytes, low byte first, and back
-unfoldable pub number_bytes : ℕ → List ℕ
-number_bytes n = to_le_bytes w64 n
-
+-- the number that eight bytes write, low byte first
 unfoldable pub number_of : List ℕ → ℕ
 number_of bytes = from_le_bytes w64 bytes
 
@@ -17,9 +14,9 @@ abbrev pub number_codec : Codec ℕ
 number_codec = record {
   field = Fixed 8;
   Within = λ n. n < 2 ^ 64;
-  writing = number_bytes;
+  writing = u64_bytes;
   parse = λ bytes. if length bytes == 8 then Some (number_of bytes) else None;
-  root = λ n. padded_chunk (number_bytes n);
+  root = λ n. padded_chunk (u64_bytes n);
 }
 
 abbrev pub bool_bytes : Bool → List ℕ
@@ -42,19 +39,31 @@ bool_codec = record {
   root = λ b. padded_chunk (bool_bytes b);
 }
 
--- how many chunks of 32 bytes these bytes fill
-abbrev pub chunk_count : ℕ → ℕ
-chunk_count n = (n + 31) / 32
-
--- BytesN, a vector of N bytes, which is its own writing. The tree of its chunks has the depth.
-abbrev pub bytes_codec : ℕ → ℕ → Codec (List ℕ)
-bytes_codec n depth = record {
+-- BytesN, a vector of N bytes, which is its own writing; its root is given
+abbrev pub bytes_codec : ℕ → (List ℕ → List ℕ) → Codec (List ℕ)
+bytes_codec n root = record {
   field = Fixed n;
   Within = λ v. length v ≡ n;
   writing = λ v. v;
   parse = λ bytes. if length bytes == n then Some bytes else None;
-  root = λ v. merkle_root depth (chunks_of (chunk_count n) v);
+  root = root;
 }
+
+-- Bytes4, in one chunk
+abbrev pub bytes4_codec : Codec (List ℕ)
+bytes4_codec = bytes_codec 4 padded_chunk
+
+-- Bytes32, which is one chunk
+abbrev pub bytes32_codec : Codec (List ℕ)
+bytes32_codec = bytes_codec 32 (λ chunk. chunk)
+
+-- Bytes48, in two chunks
+abbrev pub bytes48_codec : Codec (List ℕ)
+bytes48_codec = bytes_codec 48 (λ v. merkle_root 1 (byte_chunks v))
+
+-- Bytes96, in three chunks
+abbrev pub bytes96_codec : Codec (List ℕ)
+bytes96_codec = bytes_codec 96 (λ v. merkle_root 2 (byte_chunks v))
 
 -- the number whose binary digits these are, the lowest first, and back
 abbrev pub bits_number : List Bool → ℕ

@@ -3,24 +3,25 @@ use Rattle.std.proofs.Common.{◌≡◌, ℕ, zero, suc, ◌+◌, ◌*◌, ◌/�
 use Rattle.std.specs.Prelude.{nat_lt, ◌==◌}
 use Rattle.std.proofs.lemmas.Bool.{ltb-true, lt-ltb, eqb-true, eqb-false, eq-eqb, ne_eqb}
 use Rattle.std.proofs.lemmas.Nat.{le_bytes_8, from_le_bytes-to_le_bytes_8}
-use Rattle.ssz_codec.specs.Basic.{number_bytes, number_of, number_codec, bool_bytes, parse_bool, bool_codec, bytes_codec, bits_number, number_bits, parse_bits, bit_vector_codec}
+use Rattle.hash_tree.specs.Merkle.{u64_bytes}
+use Rattle.ssz_codec.specs.Basic.{number_of, number_codec, bool_bytes, parse_bool, bool_codec, bytes_codec, bits_number, number_bits, parse_bits, bit_vector_codec}
 use Rattle.ssz_codec.specs.Lawful.{IsBytes, IsLawful}
 use Rattle.ssz_codec.specs.LayoutLaws.{when_some, some_is}
 
-number_back : (bytes : List ℕ) → length bytes ≡ 8 → IsBytes bytes → number_bytes (number_of bytes) ≡ bytes
-unfolding number_bytes number_of
+number_back : (bytes : List ℕ) → length bytes ≡ 8 → IsBytes bytes → u64_bytes (number_of bytes) ≡ bytes
+unfolding u64_bytes number_of
 number_back bytes len fits = le_bytes_8 bytes _ len fits refl
 
 number_below : (bytes : List ℕ) → IsBytes bytes → number_of bytes < 2 ^ 64
 unfolding number_of
 number_below bytes fits = omega (arith, fits 0, fits 1, fits 2, fits 3, fits 4, fits 5, fits 6, fits 7)
 
-number_again : (n : ℕ) → n < 2 ^ 64 → number_of (number_bytes n) ≡ n
-unfolding number_bytes number_of
+number_again : (n : ℕ) → n < 2 ^ 64 → number_of (u64_bytes n) ≡ n
+unfolding u64_bytes number_of
 number_again n lt = from_le_bytes-to_le_bytes_8 n lt
 
-pub number_len : (n : ℕ) → length (number_bytes n) ≡ 8
-unfolding number_bytes
+pub number_len : (n : ℕ) → length (u64_bytes n) ≡ 8
+unfolding u64_bytes
 number_len n = refl
 
 pub number_lawful : IsLawful number_codec
@@ -28,9 +29,9 @@ number_lawful = record {
   sound = λ bytes v fits e.
       let w = when_some (length bytes == 8) (Some (number_of bytes)) v e in
       let v-is : number_of bytes ≡ v = some_is _ _ w.1 in
-      (subst (λ n. n < 2 ^ 64) v-is (number_below bytes fits), sym (number_back bytes (eqb-true _ _ w.0) fits) ∙ ap number_bytes v-is);
+      (subst (λ n. n < 2 ^ 64) v-is (number_below bytes fits), sym (number_back bytes (eqb-true _ _ w.0) fits) ∙ ap u64_bytes v-is);
   complete = λ v within.
-      ap (λ b. cond b (Some (number_of (number_bytes v))) None) (eq-eqb _ _ (number_len v)) ∙ ap (λ n. Some n) (number_again v within);
+      ap (λ b. cond b (Some (number_of (u64_bytes v))) None) (eq-eqb _ _ (number_len v)) ∙ ap (λ n. Some n) (number_again v within);
   size = λ v within. number_len v;
 }
 
@@ -52,8 +53,8 @@ bool_lawful = record {
   size = λ v within. refl;
 }
 
-pub bytes_lawful : (n depth : ℕ) → IsLawful (bytes_codec n depth)
-bytes_lawful n depth = record {
+pub bytes_lawful : (n : ℕ) (root : List ℕ → List ℕ) → IsLawful (bytes_codec n root)
+bytes_lawful n root = record {
   sound = λ bytes v fits e.
       let w = when_some (length bytes == n) (Some bytes) v e in
       let v-is : bytes ≡ v = some_is _ _ w.1 in

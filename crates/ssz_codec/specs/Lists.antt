@@ -1,11 +1,10 @@
 -- Vectors and lists (simple-serialize.md, "Vectors, containers, lists").
 use Rattle.std.specs.Prelude.{◌≡◌, ℕ, zero, suc, ◌*◌, ◌/◌, ◌≤◌, List, [], ◌∷◌, length, take, drop, map, replicate, Option, Some, None, nat_lt, ◌==◌, if◌then◌else◌}
 use Rattle.std.specs.List.{flat_map, AllByRecursion}
-use Rattle.hash_tree.specs.Merkle.{merkle_root, mix_in_length, chunks_of}
+use Rattle.hash_tree.specs.Merkle.{merkle_root, mix_in_length}
 use Rattle.ssz_codec.specs.declared.layout.Field.TheVariants.{Fixed, Variable}
 use Rattle.ssz_codec.specs.Layout.{◌>>=◌, head_len, offset_of, joined, OffsetsFit, cut}
 use Rattle.ssz_codec.specs.Codec.{Codec}
-use Rattle.ssz_codec.specs.Basic.{chunk_count}
 
 -- so many values of the size, one after another, and nothing behind them
 unfoldable pub parse_items : {A : Type 0} → (List ℕ → Option A) → ℕ → ℕ → List ℕ → Option (List A)
@@ -22,10 +21,6 @@ parse_parts parse (part ∷ parts) = parse part >>= λ x. parse_parts parse part
 -- the leaves of a tree of composite values: their roots
 abbrev pub root_leaves : {A : Type 0} → Codec A → List A → List (List ℕ)
 root_leaves c xs = map c.root xs
-
--- the leaves of a tree of basic values: their bytes in chunks
-abbrev pub packed_leaves : {A : Type 0} → Codec A → List A → List (List ℕ)
-packed_leaves c xs = chunks_of (chunk_count (head_len c.field * length xs)) (flat_map c.writing xs)
 
 -- Vector[T, N] of values of fixed size
 abbrev pub vector_codec : {A : Type 0} → Codec A → ℕ → (List A → List (List ℕ)) → ℕ → Codec (List A)

@@ -10,9 +10,11 @@ mod items;
 mod layout;
 mod lists;
 mod ssz;
+mod writer;
 
 pub use fault::SszFault;
 pub use items::Items;
 pub use layout::{Field, cut};
 pub use lists::{read_items, read_list, read_variable_list};
 pub use ssz::{Ssz, one_writing, reads_back};
+pub use writer::Writer;
