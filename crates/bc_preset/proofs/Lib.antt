@@ -3,3 +3,4 @@ pub mod Digits
 pub mod Prefixes
 pub mod FirstLine
 pub mod Ranges
+pub mod OnePass

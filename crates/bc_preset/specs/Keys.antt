@@ -11,6 +11,17 @@ abbrev pub keys : List Key
 keys =
     PresetBase ∷ SecondsPerSlot ∷ MinValidatorWithdrawabilityDelay ∷ ShardCommitteePeriod ∷ EjectionBalance ∷ MinPerEpochChurnLimit ∷ ChurnLimitQuotient ∷ ProposerScoreBoost ∷ []
 
+-- the row of a key in the table
+abbrev pub row_of : Key → ℕ
+row_of PresetBase = 0
+row_of SecondsPerSlot = 1
+row_of MinValidatorWithdrawabilityDelay = 2
+row_of ShardCommitteePeriod = 3
+row_of EjectionBalance = 4
+row_of MinPerEpochChurnLimit = 5
+row_of ChurnLimitQuotient = 6
+row_of ProposerScoreBoost = 7
+
 -- a key as a file spells it
 unfoldable pub name_of : Key → List ℕ
 name_of PresetBase = codes "PRESET_BASE"

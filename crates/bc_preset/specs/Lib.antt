@@ -4,5 +4,5 @@ pub mod Keys
 pub mod Numbers
 pub mod Lines
 pub mod LineViews
-pub mod Settings
+pub mod OnePass
 pub mod Configs

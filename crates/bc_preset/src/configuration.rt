@@ -53,10 +53,10 @@ impl Model for Config {
 }
 
 impl Settings {
-    ghost use Rattle.bc_preset.specs.Settings.{all_set};
+    ghost use Rattle.bc_preset.specs.OnePass.{all_set};
 
     /// The value of each key, or the first key of the table that has none.
-    #[tactic(auto, unfolding(crate::specs::Settings::all_set))]
+    #[tactic(auto, unfolding(crate::specs::OnePass::all_set))]
     fn all_set(&self) -> Result<ConfigValues, ConfigFault>
         ensures exact { result ≡ all_set self.now }
         ensures preset { IfOk result (λ v. IsPreset v.preset) }
@@ -100,9 +100,9 @@ impl Settings {
 
 impl Key {
     ghost use Rattle.bc_preset.specs.Keys.{allows};
-    ghost use Rattle.bc_preset.specs.Settings.{in_range};
+    ghost use Rattle.bc_preset.specs.Configs.{in_range};
 
-    #[tactic(auto, unfolding(crate::specs::Settings::in_range))]
+    #[tactic(auto, unfolding(crate::specs::Configs::in_range))]
     fn check(self, value: u64) -> Result<u64, ConfigFault>
         ensures exact { result ≡ in_range self value }
         ensures allowed { OnOk result (allows self value ≡ true) }
@@ -116,10 +116,10 @@ impl Key {
 }
 
 impl ConfigValues {
-    ghost use Rattle.bc_preset.specs.Settings.{all_in_range};
+    ghost use Rattle.bc_preset.specs.Configs.{all_in_range};
 
     /// The configuration with these values, or the first key of the table whose value is out of its range.
-    #[tactic(auto, unfolding(crate::specs::Settings::all_in_range))]
+    #[tactic(auto, unfolding(crate::specs::Configs::all_in_range))]
     fn all_in_range(self) -> Result<Config, ConfigFault>
         requires { IsPreset self.preset }
         ensures { result ≡ all_in_range self }
@@ -137,12 +137,20 @@ impl ConfigValues {
 
 impl Config {
     ghost use Rattle.bc_preset.specs.Configs.{IsConfig};
-    ghost use Rattle.bc_preset.specs.Settings.{config_of};
+    ghost use Rattle.bc_preset.specs.Configs.{config_of};
+    ghost use Rattle.bc_preset.specs.OnePass.{one_pass};
 
     /// The configuration that the bytes write, or the first thing that is wrong with them.
-    #[tactic(auto, unfolding(crate::specs::Settings::config_of))]
+    #[tactic(auto, using(crate::proofs::OnePass::one_pass_is))]
     pub fn read(bytes: &[u8]) -> Result<Config, ConfigFault>
         ensures { result ≡ config_of bytes.now }
+    {
+        Config::read_in_one_pass(bytes)
+    }
+
+    #[tactic(auto, unfolding(crate::specs::OnePass::one_pass))]
+    fn read_in_one_pass(bytes: &[u8]) -> Result<Config, ConfigFault>
+        ensures { result ≡ one_pass bytes.now }
     {
         if bytes.len() > MAX_CONFIG_LEN {
             return Err(ConfigFault::TooLong);

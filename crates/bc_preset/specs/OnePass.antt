@@ -1,39 +1,15 @@
--- A configuration: its lines from the first on, then the keys that are missing, then the ranges.
-use Rattle.std.specs.Prelude.{ℕ, ◌+◌, Bool, nat_lt, is_some, if◌then◌else◌, List, [], ◌∷◌, length, Option, Some, None, Result, Ok, Err, codes}
-use Rattle.std.specs.Str.{bytes_eq}
+-- The reading of a configuration in one pass, as the private functions do it. `specs/Configs.antt` says what is read.
+use Rattle.std.specs.Prelude.{ℕ, ◌+◌, Bool, nat_lt, is_some, if◌then◌else◌, List, [], ◌∷◌, length, Some, None, Result, Ok, Err}
 use Rattle.std.specs.Str.Lines.{lines}
-use Rattle.bc_preset.specs.declared.presets.Preset.{Preset}
 use Rattle.bc_preset.specs.declared.keys.Key.{Key}
 use Rattle.bc_preset.specs.declared.keys.Key.TheVariants.{PresetBase, SecondsPerSlot, MinValidatorWithdrawabilityDelay, ShardCommitteePeriod, EjectionBalance, MinPerEpochChurnLimit, ChurnLimitQuotient, ProposerScoreBoost}
 use Rattle.bc_preset.specs.declared.faults.ConfigFault.{ConfigFault}
-use Rattle.bc_preset.specs.declared.faults.ConfigFault.TheVariants.{TooLong, BadLine, Twice, BadNumber, BadPreset, Missing, OutOfRange}
-use Rattle.bc_preset.specs.declared.settings.PresetName.{PresetName}
-use Rattle.bc_preset.specs.declared.settings.PresetName.TheVariants.{Mainnet, Minimal}
+use Rattle.bc_preset.specs.declared.faults.ConfigFault.TheVariants.{TooLong, BadLine, Twice, BadNumber, BadPreset, Missing}
 use Rattle.bc_preset.specs.declared.settings.Settings.{Settings}
 use Rattle.bc_preset.specs.declared.configuration.ConfigValues.{ConfigValues}
-use Rattle.bc_preset.specs.Presets.{mainnet, minimal}
-use Rattle.bc_preset.specs.Keys.{allows}
+use Rattle.bc_preset.specs.Configs.{◌>>=◌, or_fault, preset_named, preset_of, all_in_range}
 use Rattle.bc_preset.specs.Numbers.{number_of}
 use Rattle.bc_preset.specs.Lines.{Line, skipped, other, setting, faulty, line_of}
-
--- the first fault ends the reading
-infixl 10 ◌>>=◌
-abbrev pub ◌>>=◌ : {A B : Type 0} → Result A ConfigFault → (A → Result B ConfigFault) → Result B ConfigFault
-(Ok x) >>= f = f x
-(Err fault) >>= f = Err fault
-
--- a value that is there, or this fault
-abbrev pub or_fault : {A : Type 0} → ConfigFault → Option A → Result A ConfigFault
-or_fault fault None = Err fault
-or_fault fault (Some x) = Ok x
-
--- the preset with this name
-unfoldable pub preset_named : List ℕ → Option PresetName
-preset_named text = if bytes_eq text (codes "mainnet") then Some Mainnet else (if bytes_eq text (codes "minimal") then Some Minimal else None)
-
-unfoldable pub preset_of : PresetName → Preset
-preset_of Mainnet = mainnet
-preset_of Minimal = minimal
 
 -- no key is set
 abbrev pub nothing_set : Settings
@@ -123,26 +99,9 @@ all_set s = do
     proposer_score_boost = boost;
   })
 
--- the value, if the key may have it
-unfoldable pub in_range : Key → ℕ → Result ℕ ConfigFault
-in_range key value = if allows key value then Ok value else Err (OutOfRange key)
-
--- each value is in its key's range, or the first of the table is out of its range
-unfoldable pub all_in_range : ConfigValues → Result ConfigValues ConfigFault
-all_in_range values = do
-  seconds ← in_range SecondsPerSlot values.seconds_per_slot
-  delay ← in_range MinValidatorWithdrawabilityDelay values.min_validator_withdrawability_delay
-  period ← in_range ShardCommitteePeriod values.shard_committee_period
-  ejection ← in_range EjectionBalance values.ejection_balance
-  churn ← in_range MinPerEpochChurnLimit values.min_per_epoch_churn_limit
-  quotient ← in_range ChurnLimitQuotient values.churn_limit_quotient
-  boost ← in_range ProposerScoreBoost values.proposer_score_boost
-  Ok values
-
--- the configuration that the bytes write, or the first thing that is wrong with them. `lines` cuts them at each line
--- feed, drops one carriage return before a line feed, and takes no line from an empty rest behind the last line feed
-unfoldable pub config_of : List ℕ → Result ConfigValues ConfigFault
-config_of bytes =
+-- the same in one pass
+unfoldable pub one_pass : List ℕ → Result ConfigValues ConfigFault
+one_pass bytes =
     if nat_lt 65536 (length bytes) then Err TooLong else (do
       settings ← after_lines nothing_set 1 (lines bytes)
       values ← all_set settings
