@@ -105,3 +105,7 @@ container depth r = record {
   parse = λ bytes. cut r.fields bytes >>= λ parts. r.parse parts;
   root = λ v. merkle_root depth (r.roots v);
 }
+
+-- a codec of fixed size, with its size written out
+abbrev pub sized : {A : Type 0} → ℕ → Codec A → Codec A
+sized n c = record { field = Fixed n; Within = c.Within; writing = c.writing; parse = c.parse; root = c.root }

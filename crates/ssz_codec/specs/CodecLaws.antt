@@ -5,7 +5,7 @@ use Rattle.std.proofs.lemmas.List.{take_at, drop_at, take-append-drop, length-ap
 use Rattle.ssz_codec.specs.declared.layout.Field.{Field}
 use Rattle.ssz_codec.specs.declared.layout.Field.TheVariants.{Fixed, Variable}
 use Rattle.ssz_codec.specs.Layout.{◌>>=◌, heads_len, heads, bodies, joined, OffsetsFit, cut}
-use Rattle.ssz_codec.specs.Codec.{Codec, Row, ◌⊗◌, pair, only, ◌&◌, ◌&&◌, map_row, and_fixed, field_of, container}
+use Rattle.ssz_codec.specs.Codec.{Codec, Row, ◌⊗◌, pair, only, ◌&◌, ◌&&◌, map_row, and_fixed, field_of, container, sized}
 use Rattle.ssz_codec.specs.Lawful.{IsBytes, HasSize, FitFields, IsLawful, IsLawfulRow}
 use Rattle.ssz_codec.specs.LayoutLaws.{bind_some, some_is, cut_is_joined, joined_is_cut, heads_is_long}
 
@@ -137,4 +137,11 @@ container_lawful depth r law = record {
       ap (λ (o : Option (List (List ℕ))). o >>= λ parts. r.parse parts) (joined_is_cut r.fields (r.parts v) (law.sizes v within.0) within.1)
       ∙ law.complete v within.0;
   size = λ v within. size_from (field_of r.fields) r.fields (r.parts v) (law.sizes v within.0) (are_fixed r.fields (r.parts v) (law.sizes v within.0));
+}
+
+pub sized_lawful : {A : Type 0} (n : ℕ) (c : Codec A) → c.field ≡ Fixed n → IsLawful c → IsLawful (sized n c)
+sized_lawful n c is law = record {
+  sound = law.sound;
+  complete = law.complete;
+  size = λ v within. subst (λ f. HasSize f (c.writing v)) is (law.size v within);
 }

@@ -1,0 +1,20 @@
+//! The small containers of phase 0 (beacon-chain.md, "Containers"): their fields, writings, roots and readings.
+//!
+//! Bytes come from blocks and states above; the values go to every layer of the state transition.
+#![tactic(auto)]
+
+mod attestation_data;
+mod block_header;
+mod checkpoint;
+mod eth1_data;
+mod fork;
+mod validator;
+mod voluntary_exit;
+
+pub use attestation_data::AttestationData;
+pub use block_header::BeaconBlockHeader;
+pub use checkpoint::Checkpoint;
+pub use eth1_data::Eth1Data;
+pub use fork::Fork;
+pub use validator::Validator;
+pub use voluntary_exit::VoluntaryExit;
