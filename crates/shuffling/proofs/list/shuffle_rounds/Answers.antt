@@ -1,0 +1,29 @@
+use Rattle.std.proofs.Common.{◌≡◌, ℕ, ◌-◌, ◌<◌, length, slice_index, sym, ap, ◌∙◌, arith}
+use Rattle.std.proofs.lemmas.List.FromFn.{fill_by_all}
+use Rattle.shuffling.specs.Shuffling.{after_round, shuffled_place, shuffled_list}
+use Rattle.shuffling.proofs.Rounds.{place_below, place_next, place_first}
+use Rattle.shuffling.proofs.list.shuffle_rounds.Goals as goal
+
+pub loop-round-preserved : goal.loop-round-preserved
+loop-round-preserved c =
+    let seed = c.args.seed.now in
+    let count = length c.args.list.now in
+    let round = c.loop-round.round in
+    record {
+      fits = omega arith;
+      shuffled = λ index below.
+        let place = shuffled_place seed (round - 1) count index in
+        let inside : place < length c.loop-round.list = omega (arith, place_below seed count (round - 1) index below) in
+        c.shuffle_round.ensures place inside
+          ∙ ap (λ n. slice_index c.loop-round.list (after_round seed (round - 1) n place)) c.loop-round.auto.list
+          ∙ ap (slice_index c.loop-round.list) (place_next seed count round index (omega arith))
+          ∙ c.loop-round.invariant.shuffled index below
+    }
+
+pub returns : goal.returns
+unfolding shuffled_list
+returns c =
+    let seed = c.args.seed.now in
+    let old = c.args.list.now in
+    fill_by_all (λ index. slice_index old (shuffled_place seed c.args.rounds (length old) index)) c.loop-round.list (length old) 0 c.loop-round.auto.list
+      (λ index below. ap (slice_index c.loop-round.list) (sym (place_first seed (length old) c.loop-round.round index (omega arith))) ∙ c.loop-round.invariant.shuffled index below)

@@ -1,0 +1,37 @@
+-- The swap-or-not shuffle of beacon-chain.md, "compute_shuffled_index". A seed is a list of 32 bytes.
+use Rattle.std.specs.Prelude.{ℕ, zero, suc, ◌+◌, ◌-◌, ◌/◌, ◌%◌, ◌^◌, max, List, [], ◌∷◌, ◌++◌, length, take, map, slice_index, ◌==◌, if◌then◌else◌}
+use Rattle.std.specs.List.{range_with_len}
+use Rattle.std.specs.Int.{w32, w64, to_le_bytes, from_le_bytes}
+use Rattle.hash_tree.specs.Merkle.{hash}
+
+-- the pivot of a round: the first 8 bytes of hash(seed + round), as an index below count
+unfoldable pub pivot_of : List ℕ → ℕ → ℕ → ℕ
+pivot_of seed round count = from_le_bytes w64 (take 8 (hash (seed ++ round ∷ []))) % count
+
+-- the source of a round for a page of 256 positions: hash(seed + round + page)
+unfoldable pub source_of : List ℕ → ℕ → ℕ → List ℕ
+source_of seed round page = hash (seed ++ round ∷ to_le_bytes w32 page)
+
+-- the bit of a position in the source of its page: bit position % 8 of byte position % 256 / 8
+unfoldable pub bit_in : List ℕ → ℕ → ℕ
+bit_in source position = slice_index source (position % 256 / 8) / 2 ^ (position % 8) % 2
+
+-- the bit of a position in a round
+unfoldable pub bit_of : List ℕ → ℕ → ℕ → ℕ
+bit_of seed round position = bit_in (source_of seed round (position / 256)) position
+
+-- one round: an index becomes its flip where the bit of the greater of the two is 1
+unfoldable pub after_round : List ℕ → ℕ → ℕ → ℕ → ℕ
+after_round seed round count index =
+    let flip : ℕ = (pivot_of seed round count + count - index) % count in
+    if bit_of seed round (max index flip) == 1 then flip else index
+
+-- compute_shuffled_index, after so many rounds, the first of which has number 0
+unfoldable pub shuffled_place : List ℕ → ℕ → ℕ → ℕ → ℕ
+shuffled_place seed zero count index = index
+shuffled_place seed (suc round) count index = after_round seed round count (shuffled_place seed round count index)
+
+-- the list whose place i holds the item at the shuffled place of i
+unfoldable pub shuffled_list : List ℕ → ℕ → List ℕ → List ℕ
+shuffled_list seed rounds items =
+    map (λ index. slice_index items (shuffled_place seed rounds (length items) index)) (range_with_len 0 (length items))

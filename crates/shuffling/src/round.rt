@@ -1,0 +1,47 @@
+//! What one round of the shuffle takes from the seed: its pivot, and a bit for each position.
+
+ghost use Rattle.std.specs.Prelude.{◌≡◌, ◌<◌, ◌/◌, ◌^◌};
+ghost use Rattle.shuffling.specs.Shuffling.{pivot_of, source_of, bit_in};
+
+use hash_tree::Root;
+use sha2::{Digest, Sha256};
+
+/// The pivot of a round, below `count`.
+#[tactic(auto, unfolding(crate::specs::Shuffling::pivot_of, hash_tree::specs::Merkle::hash))]
+pub fn pivot_at(seed: &Root, round: u8, count: u64) -> u64
+    requires { 0 < count }
+    ensures pivot { result ≡ pivot_of seed.now round count }
+    ensures below { result < count }
+{
+    let mut hasher = Sha256::new();
+    hasher.update(seed);
+    hasher.update(&[round]);
+    let digest = hasher.finalize();
+    let first = [
+        digest[0], digest[1], digest[2], digest[3], digest[4], digest[5], digest[6], digest[7],
+    ];
+    u64::from_le_bytes(first) % count
+}
+
+/// The bits of the page of 256 positions in which `position` is.
+#[tactic(auto, unfolding(crate::specs::Shuffling::source_of, hash_tree::specs::Merkle::hash))]
+pub fn source_at(seed: &Root, round: u8, position: u64) -> [u8; 32]
+    requires { position < 2 ^ 40 }
+    ensures { result ≡ source_of seed.now round (position / 256) }
+{
+    let page = (position / 256) as u32;
+    let mut hasher = Sha256::new();
+    hasher.update(seed);
+    hasher.update(&[round]);
+    hasher.update(&page.to_le_bytes());
+    hasher.finalize()
+}
+
+/// The bit of a position in the source of its page.
+#[tactic(auto, unfolding(crate::specs::Shuffling::bit_in))]
+pub fn bit_at(source: &[u8; 32], position: u64) -> u8
+    ensures bit { result ≡ bit_in source.now position }
+    ensures below { result < 2 }
+{
+    (source[(position % 256 / 8) as usize] >> (position % 8)) % 2
+}
