@@ -1,2 +1,3 @@
-pub mod Pairs
+pub mod Bits
+pub mod Pass
 pub mod Rounds

@@ -1,6 +1,6 @@
 -- Each round takes an index below count to one below count, and is its own inverse there. So the shuffled places of
 -- all indices are all different, and each index is the shuffled place of one.
-use Rattle.std.proofs.Common.{◌≡◌, ℕ, zero, suc, ◌+◌, ◌-◌, ◌%◌, ◌<◌, ◌≤◌, max, List, eqb, Bool, true, false, cond, refl, sym, ap, ◌∙◌, arith, ◌⊎◌, inl, inr, leb, ltb}
+use Rattle.std.proofs.Common.{◌≡◌, ℕ, zero, suc, ◌+◌, ◌-◌, ◌%◌, ◌<◌, ◌≤◌, max, List, eqb, Bool, true, false, cond, refl, sym, ap, ◌∙◌, arith, inl, inr}
 use Rattle.std.proofs.Math.Nat.{mod-eq_of_lt, add-mod_right, mod-lt}
 use Rattle.std.proofs.lemmas.Bool.{cases_lt}
 use Rattle.shuffling.specs.Shuffling.{pivot_of, bit_of, after_round, shuffled_place}
@@ -22,9 +22,9 @@ flip_below pivot count index below = mod-lt _ (omega arith)
 
 pub flip_twice : (pivot count index : ℕ) → pivot < count → index < count → flip_of pivot count (flip_of pivot count index) ≡ index
 flip_twice pivot count index fits below = elim (cases_lt pivot index) [
-    inr low ↦ rw (flip_low pivot count index fits low, flip_low pivot count (pivot - index) fits (omega arith)) (omega arith)
+  | inr low ↦ rw (flip_low pivot count index fits low, flip_low pivot count (pivot - index) fits (omega arith)) (omega arith)
   | inl high ↦ rw (flip_high pivot count index high below, flip_high pivot count (pivot + count - index) (omega arith) (omega arith)) (omega arith)
-  ]
+]
 
 pub pivot_below : (seed : List ℕ) (round count : ℕ) → 0 < count → pivot_of seed round count < count
 unfolding pivot_of
@@ -115,9 +115,9 @@ module _ (seed : List ℕ) (count : ℕ) where
   one_to_one zero index other below other_below same = same
   one_to_one (suc round) index other below other_below same =
       one_to_one round index other below other_below
-        (sym (after_twice seed round count (shuffled_place seed round count other) (place_below round other other_below))
-          ∙ ap (after_round seed round count) same
-          ∙ after_twice seed round count (shuffled_place seed round count index) (place_below round index below))
+      (sym (after_twice seed round count (shuffled_place seed round count other) (place_below round other other_below))
+      ∙ ap (after_round seed round count) same
+      ∙ after_twice seed round count (shuffled_place seed round count index) (place_below round index below))
 
   -- the index whose shuffled place is this one
   unfoldable pub index_at : ℕ → ℕ → ℕ
@@ -134,4 +134,4 @@ module _ (seed : List ℕ) (count : ℕ) where
   place_at_index zero place below = refl
   place_at_index (suc round) place below =
       ap (after_round seed round count) (place_at_index round (after_round seed round count place) (after_below seed round count place below))
-        ∙ after_twice seed round count place below
+      ∙ after_twice seed round count place below

@@ -2,10 +2,11 @@
 //! positions.
 
 ghost use Rattle.std.specs.Prelude.{◌≡◌, ℕ, ◌+◌, ◌-◌, ◌/◌, ◌%◌, ◌<◌, ◌≤◌, ◌^◌, length, slice_index, IsOk, IfOk};
-ghost use Rattle.std.specs.List.{SwappedAt};
-ghost use Rattle.shuffling.specs.Shuffling.{after_round, pivot_of, source_of, shuffled_list};
+ghost use Rattle.std.specs.Int.{bit_at};
+ghost use Rattle.shuffling.specs.Pass.{by_word, Passed};
+ghost use Rattle.shuffling.specs.Shuffling.{after_round, pivot_of, source_of, bit_in, shuffled_list};
 
-use crate::round::{bit_at, pivot_at, source_at};
+use crate::round::{pivot_at, source_at};
 use bc_words::NoMemory;
 use hash_tree::Root;
 use std::alloc::Global;
@@ -23,22 +24,54 @@ fn turn_page(source: &mut [u8; 32], seed: &Root, round: u8, first: usize, positi
     }
 }
 
-/// Two places change their items, or one keeps its own, without a branch.
-fn swap_items(list: &mut [u64], one: usize, other: usize)
-    requires one { one < length list.old }
-    requires other { other < length list.old }
-    ensures { SwappedAt list.old list.new one other }
+/// The bits of `position` and of the positions behind it that are in the same 64, the lowest first.
+#[tactic(auto, unfolding(crate::specs::Shuffling::bit_in))]
+fn word_at(source: &[u8; 32], position: u64) -> u64
+    ensures { (offset : ℕ) → position % 64 + offset < 64 → bit_at result offset ≡ bit_in source.now (position + offset) }
 {
-    let item = list[one];
-    list[one] = list[other];
-    list[other] = item;
+    let first = (position % 256 / 64 * 8) as usize;
+    let bytes = [
+        source[first],
+        source[first + 1],
+        source[first + 2],
+        source[first + 3],
+        source[first + 4],
+        source[first + 5],
+        source[first + 6],
+        source[first + 7],
+    ];
+    u64::from_le_bytes(bytes) >> (position % 64)
+}
+
+/// Swaps the positions from `first` up to but not `last` with their mirror images where their bits are 1.
+///
+/// A position and its mirror image, the earlier one, add up to `sum`. The lowest bit is that of `first`.
+fn swap_where_set(list: &mut [u64], sum: usize, first: usize, last: usize, word: u64)
+    requires ordered { first ≤ last }
+    requires in_list { last ≤ length list.old }
+    requires fits { length list.old ≤ 2 ^ 40 }
+    requires earlier { sum < first + first }
+    requires images { last ≤ sum + 1 }
+    ensures { Passed (by_word word first sum) sum first last list.old list.new }
+{
+    let mut position = first;
+    let mut bits = word;
+    while bits > 0 {
+        let offset = bits.trailing_zeros();
+        if offset as usize >= last - position {
+            return;
+        }
+        position += offset as usize;
+        list.swap(sum - position, position);
+        bits = bits >> offset >> 1;
+        position += 1;
+    }
 }
 
 /// One round over the places from `start` up to but not `end`, in which each place's flip is its mirror image.
-///
-/// Each pair of mirror images swaps where the bit of the later one is 1.
 fn swap_mirror_images(list: &mut [u64], start: usize, end: usize, seed: &Root, round: u8)
     requires ordered { start ≤ end }
+    requires some { 0 < end }
     requires in_list { end ≤ length list.old }
     requires fits { length list.old ≤ 2 ^ 40 }
     requires mirror { (place : ℕ) → start ≤ place → place < end → (pivot_of seed.now round (length list.old) + length list.old - place) % length list.old ≡ start + end - 1 - place }
@@ -46,13 +79,15 @@ fn swap_mirror_images(list: &mut [u64], start: usize, end: usize, seed: &Root, r
     ensures before { (place : ℕ) → place < start → slice_index list.new place ≡ slice_index list.old place }
     ensures behind { (place : ℕ) → end ≤ place → slice_index list.new place ≡ slice_index list.old place }
 {
+    let sum = start + end - 1;
     let middle = end - (end - start) / 2;
     let mut source = [0; 32];
-    for position in middle..end {
+    let mut position = middle;
+    while position < end {
         turn_page(&mut source, seed, round, middle, position);
-        let mirror = start + (end - 1 - position);
-        let bit = bit_at(&source, position as u64) as usize;
-        swap_items(list, mirror, mirror + bit * (position - mirror));
+        let next = end.min((position / 64 + 1) * 64);
+        swap_where_set(list, sum, position, next, word_at(&source, position as u64));
+        position = next;
     }
 }
 
@@ -84,7 +119,12 @@ fn shuffle_rounds(list: &mut [u64], seed: &Root, rounds: u32)
 
 /// The list whose place i holds the old item at the shuffled place of i, with so many rounds. The passes are in
 /// place, so memory isn't refused.
-pub fn shuffle_all(_alloc: Global, list: Vec<u64>, seed: &Root, rounds: u32) -> Result<Vec<u64>, NoMemory>
+pub fn shuffle_all(
+    _alloc: Global,
+    list: Vec<u64>,
+    seed: &Root,
+    rounds: u32,
+) -> Result<Vec<u64>, NoMemory>
     requires fits { length list.items ≤ 2 ^ 40 }
     requires rounds_fit { rounds ≤ 256 }
     ensures shuffled { IfOk result (λ shuffled. shuffled.items ≡ shuffled_list seed.now rounds list.items) }

@@ -1,6 +1,6 @@
-use Rattle.std.proofs.Common.{◌≡◌, ℕ, ◌+◌, ◌<◌, ◌≤◌, length, slice_index, inl, inr, sym, ap, ◌∙◌, arith}
+use Rattle.std.proofs.Common.{◌+◌, length, slice_index, inl, inr, ap, ◌∙◌, arith}
 use Rattle.std.proofs.lemmas.Bool.{cases_lt}
-use Rattle.shuffling.specs.Shuffling.{after_round, pivot_of}
+use Rattle.shuffling.specs.Shuffling.{after_round}
 use Rattle.shuffling.proofs.Rounds.{after_above}
 use Rattle.shuffling.proofs.list.shuffle_round.Goals as goal
 
@@ -11,11 +11,11 @@ returns-then-count-gt0 c = λ place below.
     let high = c.swap_mirror_images-then-count-gt0 in
     let pivot = c.pivot_at-pivot.result in
     elim (cases_lt place (pivot + 1)) [
-        inl less ↦ high.ensures.before place less ∙ low.ensures.inside place (omega arith) less
+      | inl less ↦ high.ensures.before place less ∙ low.ensures.inside place (omega arith) less
       | inr more ↦
           let after = after_round c.args.seed.now c.args.round (length old) place in
           let above = after_above c.args.seed.now c.args.round (length old) place (omega arith) below in
           high.ensures.inside place more (omega arith)
-            ∙ ap (λ count. slice_index low.new.list (after_round c.args.seed.now c.args.round count place)) low.auto.list
-            ∙ low.ensures.behind after (omega arith)
-      ]
+          ∙ ap (λ count. slice_index low.new.list (after_round c.args.seed.now c.args.round count place)) low.auto.list
+          ∙ low.ensures.behind after (omega arith)
+    ]

@@ -1,4 +1,4 @@
-use Rattle.std.proofs.Common.{◌≡◌, ℕ, ◌-◌, ◌<◌, length, slice_index, sym, ap, ◌∙◌, arith}
+use Rattle.std.proofs.Common.{◌-◌, ◌<◌, length, slice_index, sym, ap, ◌∙◌, arith}
 use Rattle.std.proofs.lemmas.List.FromFn.{fill_by_all}
 use Rattle.shuffling.specs.Shuffling.{after_round, shuffled_place, shuffled_list}
 use Rattle.shuffling.proofs.Rounds.{place_below, place_next, place_first}
@@ -12,12 +12,12 @@ loop-round-preserved c =
     record {
       fits = omega arith;
       shuffled = λ index below.
-        let place = shuffled_place seed (round - 1) count index in
-        let inside : place < length c.loop-round.list = omega (arith, place_below seed count (round - 1) index below) in
-        c.shuffle_round.ensures place inside
+          let place = shuffled_place seed (round - 1) count index in
+          let inside : place < length c.loop-round.list = omega (arith, place_below seed count (round - 1) index below) in
+          c.shuffle_round.ensures place inside
           ∙ ap (λ n. slice_index c.loop-round.list (after_round seed (round - 1) n place)) c.loop-round.auto.list
           ∙ ap (slice_index c.loop-round.list) (place_next seed count round index (omega arith))
-          ∙ c.loop-round.invariant.shuffled index below
+          ∙ c.loop-round.invariant.shuffled index below;
     }
 
 pub returns : goal.returns
@@ -26,4 +26,4 @@ returns c =
     let seed = c.args.seed.now in
     let old = c.args.list.now in
     fill_by_all (λ index. slice_index old (shuffled_place seed c.args.rounds (length old) index)) c.loop-round.list (length old) 0 c.loop-round.auto.list
-      (λ index below. ap (slice_index c.loop-round.list) (sym (place_first seed (length old) c.loop-round.round index (omega arith))) ∙ c.loop-round.invariant.shuffled index below)
+    (λ index below. ap (slice_index c.loop-round.list) (sym (place_first seed (length old) c.loop-round.round index (omega arith))) ∙ c.loop-round.invariant.shuffled index below)

@@ -1,39 +1,47 @@
-use Rattle.std.proofs.Common.{◌≡◌, ℕ, ◌+◌, ◌-◌, ◌*◌, ◌/◌, ◌%◌, ◌<◌, length, refl, sym, ap, ◌∙◌, arith}
+use Rattle.std.proofs.Common.{◌≡◌, ◌+◌, ◌-◌, ◌/◌, length, slice_index, sym, ap, ◌∙◌, arith, inl, inr}
+use Rattle.std.specs.Int.{bit_at}
+use Rattle.std.proofs.lemmas.Bool.{cases_lt}
 use Rattle.shuffling.specs.Shuffling.{pivot_of, after_round, bit_in, bit_of, source_of}
+use Rattle.shuffling.specs.Pass.{later, by_word}
 use Rattle.shuffling.proofs.Rounds.{flip_of, after_center}
-use Rattle.shuffling.proofs.Pairs.{begin, step, pair}
+use Rattle.shuffling.proofs.Pass.{join, same_choice}
 use Rattle.shuffling.proofs.list.swap_mirror_images.Goals as goal
-
-pub loop-position-init : goal.loop-position-init
-loop-position-init c =
-    let seed = c.args.seed.now in
-    let count = length c.args.list.now in
-    record {
-      halfway = begin (after_round seed c.args.round count) (c.args.start + c.args.end) _ c.args.list.now
-        (λ place less more. after_center seed c.args.round count place
-          (c.requires.mirror place (omega arith) (omega arith) ∙ omega arith));
-      page = λ less more. absurd (omega arith)
-    }
 
 pub loop-position-preserved : goal.loop-position-preserved
 unfolding bit_of
 loop-position-preserved c =
+    let loop = c.loop-position in
     let seed = c.args.seed.now in
     let count = length c.args.list.now in
-    let position = c.loop-position.position in
-    let mirror = c.args.start + (c.args.end - 1 - position) in
-    let bit = c.bit_at-bit.result in
-    let other = mirror + bit * (position - mirror) in
-    let there : flip_of (pivot_of seed c.args.round count) count mirror ≡ position = c.requires.mirror mirror (omega arith) (omega arith) ∙ omega arith in
-    let here : flip_of (pivot_of seed c.args.round count) count position ≡ mirror = c.requires.mirror position (omega arith) (omega arith) ∙ omega arith in
-    let is : bit_of seed c.args.round position ≡ bit =
-        ap (λ source. bit_in source position) (sym c.turn_page.ensures) ∙ sym c.bit_at-bit.ensures.bit in
-    let order : mirror < position = omega arith in
+    let sum = c.args.start + c.args.end - 1 in
+    let next = c.min-next.result in
     record {
-      halfway = step (after_round seed c.args.round count) (c.args.start + c.args.end) mirror position other c.args.list.now c.loop-position.list c.swap_items.new.list
-        (omega arith) order c.swap_items.ensures c.loop-position.invariant.halfway
-        (pair seed c.args.round count mirror position bit other there here order is c.bit_at-bit.ensures.below refl);
+      from = omega arith;
+      to = omega arith;
       page = λ less more.
-        let same : position / 256 ≡ (position + 1) / 256 = omega arith in
-        c.turn_page.ensures ∙ ap (source_of seed c.args.round) same
+          let same : loop.position / 256 ≡ next / 256 = omega arith in
+          c.turn_page.ensures ∙ ap (source_of seed c.args.round) same;
+      passed = join (after_round seed c.args.round count) (by_word c.word_at.result loop.position sum) sum _ loop.position next c.args.list.now loop.list c.swap_where_set.new.list
+          loop.invariant.from (omega arith) loop.invariant.passed c.swap_where_set.ensures
+          (λ place more less.
+          let flip : flip_of (pivot_of seed c.args.round count) count place ≡ sum - place = c.requires.mirror place (omega arith) (omega arith) ∙ omega arith in
+          let at : loop.position + (later sum place - loop.position) ≡ later sum place = omega arith in
+          let same : loop.position / 256 ≡ later sum place / 256 = omega arith in
+          let bit : bit_at c.word_at.result (later sum place - loop.position) ≡ bit_of seed c.args.round (later sum place) =
+          c.word_at.ensures (later sum place - loop.position) (omega arith)
+          ∙ ap (λ k. bit_in c.turn_page.new.source k) at
+          ∙ ap (λ source. bit_in source (later sum place)) (c.turn_page.ensures ∙ ap (source_of seed c.args.round) same) in
+          same_choice seed c.args.round count sum loop.position c.word_at.result place (omega arith) flip bit);
     }
+
+pub returns-clause-inside : goal.returns-clause-inside
+returns-clause-inside c = λ place more less.
+    let loop = c.loop-position in
+    let seed = c.args.seed.now in
+    let count = length c.args.list.now in
+    let sum = c.args.start + c.args.end - 1 in
+    elim (cases_lt (later sum place) (c.args.end - (c.args.end - c.args.start) / 2)) [
+      | inl low ↦ loop.invariant.passed.outside place (inl low)
+          ∙ ap (slice_index c.args.list.now) (sym (after_center seed c.args.round count place (c.requires.mirror place more less ∙ omega arith)))
+      | inr high ↦ loop.invariant.passed.inside place high (omega arith)
+    ]
