@@ -11,10 +11,10 @@ pub enum ConfigFault {
     #[error("the file is longer than 65536 bytes")]
     TooLong,
     /// The line is no key line, or its quotes are not closed, or something stands behind them.
-    #[error("line {0}: expected `KEY: value`, with nothing but a comment behind a closing quote")]
+    #[error("line {0}: expected a key at its start, a colon and a space, and nothing but a comment behind a closing quote")]
     BadLine(u64),
     /// The line sets a key of the table again.
-    #[error("line {0}: an earlier line has this key already")]
+    #[error("line {0}: expected a key that no earlier line has")]
     Twice(u64),
     /// The line's value is no number.
     #[error("line {0}: expected a decimal number without sign or leading zero, at most 18446744073709551615")]
