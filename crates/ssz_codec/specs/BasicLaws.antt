@@ -69,36 +69,36 @@ half_of : (b : Bool) (n : ℕ) → (n % 2 == 1) ≡ b → cond b 1 0 + 2 * (n / 
 half_of true n e = let odd : n % 2 ≡ 1 = eqb-true _ _ e in omega arith
 half_of false n e = let even : n % 2 ≡ 1 → ⊥ = eqb-false _ _ e in omega arith
 
-halves : (n : ℕ) → cond (n % 2 == 1) 1 0 + 2 * (n / 2) ≡ n
+pub halves : (n : ℕ) → cond (n % 2 == 1) 1 0 + 2 * (n / 2) ≡ n
 halves n = half_of (n % 2 == 1) n refl
 
-pow-step : (k : ℕ) → 2 ^ suc k ≡ 2 * 2 ^ k
+pub pow-step : (k : ℕ) → 2 ^ suc k ≡ 2 * 2 ^ k
 pow-step k = grind arith
 
-bits_of_number : (count n : ℕ) → n < 2 ^ count → bits_number (number_bits count n) ≡ n
+pub bits_of_number : (count n : ℕ) → n < 2 ^ count → bits_number (number_bits count n) ≡ n
 bits_of_number zero n lt = omega arith
 bits_of_number (suc count) n lt =
     let below : n / 2 < 2 ^ count = omega (arith, pow-step count) in
     ap (λ m. cond (n % 2 == 1) 1 0 + 2 * m) (bits_of_number count (n / 2) below) ∙ halves n
 
-number_bits_len : (count n : ℕ) → length (number_bits count n) ≡ count
+pub number_bits_len : (count n : ℕ) → length (number_bits count n) ≡ count
 number_bits_len zero n = refl
 number_bits_len (suc count) n = ap suc (number_bits_len count (n / 2))
 
-bits_below : (bits : List Bool) → bits_number bits < 2 ^ length bits
+pub bits_below : (bits : List Bool) → bits_number bits < 2 ^ length bits
 bits_below [] = omega arith
 bits_below (true ∷ bits) = omega (arith, bits_below bits, pow-step (length bits))
 bits_below (false ∷ bits) = omega (arith, bits_below bits, pow-step (length bits))
 
-first_bit : (b : Bool) (m : ℕ) → ((cond b 1 0 + 2 * m) % 2 == 1) ≡ b
+pub first_bit : (b : Bool) (m : ℕ) → ((cond b 1 0 + 2 * m) % 2 == 1) ≡ b
 first_bit true m = eq-eqb _ _ (omega arith)
 first_bit false m = ne_eqb _ _ (λ h. omega arith)
 
-other_bits : (b : Bool) (m : ℕ) → (cond b 1 0 + 2 * m) / 2 ≡ m
+pub other_bits : (b : Bool) (m : ℕ) → (cond b 1 0 + 2 * m) / 2 ≡ m
 other_bits true m = omega arith
 other_bits false m = omega arith
 
-bits_again : (bits : List Bool) → number_bits (length bits) (bits_number bits) ≡ bits
+pub bits_again : (bits : List Bool) → number_bits (length bits) (bits_number bits) ≡ bits
 bits_again [] = refl
 bits_again (b ∷ bits) =
     ap (λ c. c ∷ number_bits (length bits) ((cond b 1 0 + 2 * bits_number bits) / 2)) (first_bit b (bits_number bits))

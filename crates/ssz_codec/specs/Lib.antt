@@ -9,3 +9,6 @@ pub mod LayoutLaws
 pub mod CodecLaws
 pub mod BasicLaws
 pub mod ListLaws
+pub mod BitLists
+pub mod BitListLaws
+pub mod HeldBits

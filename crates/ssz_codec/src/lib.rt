@@ -5,6 +5,7 @@
 #![tactic(auto)]
 
 mod basic;
+mod bit_list;
 mod fault;
 mod items;
 mod layout;
@@ -12,6 +13,7 @@ mod lists;
 mod ssz;
 mod writer;
 
+pub use bit_list::BitList;
 pub use fault::SszFault;
 pub use items::Items;
 pub use layout::{Field, cut};
