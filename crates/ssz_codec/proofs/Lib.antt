@@ -1,3 +1,4 @@
 mod Cutting
 pub mod ItemsLoop
 pub mod VariableList
+pub mod HeldBits

@@ -41,6 +41,10 @@ packed_one count bits e l = rw e (ap (λ t. bits_number t ∷ []) (take_all 8 bi
 pub bits_bytes_one : (bits : List Bool) → 0 < length bits → length bits ≤ 8 → bits_bytes bits ≡ bits_number bits ∷ []
 bits_bytes_one bits some l = packed_one ((length bits + 7) / 8) bits (omega arith) l
 
+pub bits_bytes_nil : bits_bytes [] ≡ []
+unfolding packed_bits
+bits_bytes_nil = refl
+
 -- ---- the writing, byte by byte
 
 pub writing_step : (front bits : List Bool) → length front ≡ 8 → bit_list_writing (front ++ bits) ≡ bits_number front ∷ bit_list_writing bits
@@ -210,3 +214,41 @@ before_end_zero (n ∷ front) =
 pub before_end_nil : bits_before_end [] ≡ None
 unfolding bits_before_end
 before_end_nil = refl
+
+-- ---- reading, case by case
+
+parse_none : (limit : ℕ) (bytes : List ℕ) → bits_before_end bytes ≡ None → parse_bit_list limit bytes ≡ None
+unfolding parse_bit_list
+parse_none limit bytes e = ap (λ o. o >>= λ bits. cond (nat_lt limit (length bits)) None (Some bits)) e
+
+parse_with : (limit : ℕ) (bytes : List ℕ) (bits : List Bool) → bits_before_end bytes ≡ Some bits → parse_bit_list limit bytes ≡ cond (nat_lt limit (length bits)) None (Some bits)
+unfolding parse_bit_list
+parse_with limit bytes bits e = ap (λ o. o >>= λ more. cond (nat_lt limit (length more)) None (Some more)) e
+
+pub reads_no_bytes : (limit : ℕ) (bytes : List ℕ) → length bytes ≡ 0 → parse_bit_list limit bytes ≡ None
+reads_no_bytes limit [] e = parse_none limit [] before_end_nil
+reads_no_bytes limit (n ∷ bytes) e = absurd (omega arith)
+
+pub reads_no_delimiter : (limit last : ℕ) (bytes front : List ℕ) → bytes ≡ front ++ last ∷ [] → last ≡ 0 → parse_bit_list limit bytes ≡ None
+reads_no_delimiter limit last bytes front e z =
+    parse_none limit bytes (ap bits_before_end e ∙ ap (λ m. bits_before_end (front ++ m ∷ [])) z ∙ before_end_zero front)
+
+pub length-whole_bits : (bytes : List ℕ) → length (whole_bits bytes) ≡ 8 * length bytes
+length-whole_bits [] = refl
+length-whole_bits (n ∷ bytes) = omega (arith, length-append (number_bits 8 n) (whole_bits bytes), number_bits_len 8 n, length-whole_bits bytes)
+
+module _ (limit last place : ℕ) (bytes front : List ℕ) (split : bytes ≡ front ++ last ∷ []) (in_byte : place < 8) (low : 2 ^ place ≤ last) (high : last < 2 * 2 ^ place) where
+  abbrev split_bits : List Bool
+  split_bits = whole_bits front ++ number_bits place last
+
+  split_len : length split_bits ≡ 8 * length front + place
+  split_len = omega (arith, length-append (whole_bits front) (number_bits place last), length-whole_bits front, number_bits_len place last)
+
+  split_parsed : parse_bit_list limit bytes ≡ cond (nat_lt limit (length split_bits)) None (Some split_bits)
+  split_parsed = parse_with limit bytes split_bits (ap bits_before_end split ∙ before_end_split front last place in_byte low high)
+
+  pub reads_too_long : limit < 8 * length front + place → parse_bit_list limit bytes ≡ None
+  reads_too_long l = split_parsed ∙ ap (λ b. cond b None (Some split_bits)) (lt-ltb _ _ (omega (arith, split_len)))
+
+  pub reads_bits : 8 * length front + place ≤ limit → parse_bit_list limit bytes ≡ Some split_bits
+  reads_bits l = split_parsed ∙ ap (λ b. cond b None (Some split_bits)) (le-ltb _ _ (omega (arith, split_len)))

@@ -1,0 +1,34 @@
+use Rattle.std.proofs.Common.{◌≡◌, ◌+◌, ◌*◌, ◌%◌, ◌^◌, ◌<◌, List, ◌++◌, ◌∷◌, [], ap, sym, subst, ◌∙◌, append_assoc, arith}
+use Rattle.ssz_codec.specs.BitLists.{bit_list_writing}
+use Rattle.ssz_codec.proofs.HeldBits.{EndsIn, whole_writing, part_writing, shifted_one, under_byte}
+use Rattle.ssz_codec.proofs.bit_list.BitList.write_to.Goals as goal
+
+pub returns-then-used-eq0 : goal.returns-then-used-eq0
+returns-then-used-eq0 c =
+    let b = c.self.inside in
+    let out = c.args.out.now in
+    c.in_ok-put_bytes-2.ensures.ok
+    ∙ ap (λ t. t ++ 1 ∷ []) (c.in_ok-put_bytes.ensures.ok ∙ ap (λ t. out ++ t) c.deref.ensures.value)
+    ∙ append_assoc out b.bytes.items (1 ∷ [])
+    ∙ ap (λ t. out ++ t) (sym (whole_writing b c.self.invariant c.if-used-eq0.true) ∙ ap bit_list_writing c.self.view_is)
+
+pub overflow_add-last : goal.overflow_add-last
+overflow_add-last c =
+    let b = c.self.inside in
+    let used = b.len % 8 in
+    let h = part_writing b c.in-Some.front.now c.in-Some.last.now c.self.invariant (sym c.deref-2.ensures.value ∙ c.in-Some.ensures.cases.0) (omega arith) in
+    record { fits = subst (λ m. c.in-Some.last.now + m < 2 ^ 8) (sym (shifted_one used (omega arith))) (under_byte used c.in-Some.last.now (omega arith) h.0) }
+
+pub returns : goal.returns
+returns c =
+    let b = c.self.inside in
+    let out = c.args.out.now in
+    let used = b.len % 8 in
+    let front = c.in-Some.front.now in
+    let last = c.in-Some.last.now in
+    let h = part_writing b front last c.self.invariant (sym c.deref-2.ensures.value ∙ c.in-Some.ensures.cases.0) (omega arith) in
+    c.in_ok-put_bytes-4.ensures.ok
+    ∙ ap (λ t. t ++ (last + 1 * 2 ^ used % 256) ∷ []) c.in_ok-put_bytes-3.ensures.ok
+    ∙ append_assoc out front ((last + 1 * 2 ^ used % 256) ∷ [])
+    ∙ ap (λ m. out ++ (front ++ (last + m) ∷ [])) (shifted_one used (omega arith))
+    ∙ ap (λ t. out ++ t) (sym h.1 ∙ ap bit_list_writing c.self.view_is)
