@@ -1,19 +1,18 @@
 -- how the bytes of a `BitList` hold its bits
-use Rattle.std.proofs.Common.{◌≡◌, ℕ, zero, suc, ◌+◌, ◌-◌, ◌*◌, ◌/◌, ◌%◌, ◌^◌, ◌<◌, ◌≤◌, Bool, true, false, cond, List, [], ◌∷◌, ◌++◌, length, take, drop, get_or, Option, Some, None, slice_get, nat_eq, bit_and, refl, sym, ap, subst, ◌∙◌, append_assoc, arith, inl, inr}
+use Rattle.std.proofs.Common.{◌≡◌, ℕ, zero, suc, ◌+◌, ◌-◌, ◌*◌, ◌/◌, ◌%◌, ◌^◌, ◌<◌, ◌≤◌, Bool, true, false, List, [], ◌∷◌, ◌++◌, length, take, drop, get_or, Some, slice_get, nat_eq, bit_and, refl, sym, ap, subst, ◌∙◌, append_assoc, arith}
 use Rattle.std.specs.Prelude.{◌==◌}
-use Rattle.std.specs.List.{flat_map}
 use Rattle.std.proofs.Math.Nat.{div-div-eq-div-mul}
-use Rattle.std.proofs.Math.Pow.{pow_pos, pow_mono}
+use Rattle.std.proofs.Math.Pow.{pow_mono}
 use Rattle.std.proofs.Math.Seq.{take-append-add}
 use Rattle.std.proofs.lemmas.Grind.{and_numeral, flat_map-append, one_shifted}
 use Rattle.std.proofs.lemmas.Option.{slice_get-get_or}
-use Rattle.std.proofs.lemmas.List.{take_all, take-append-drop, take-append-le, length-append, length-take, length-take-le, length-drop, get_or_append_left, get_or-append_right, get_or-take, get_or_default, append-nil}
+use Rattle.std.proofs.lemmas.List.{take_all, take-append-drop, length-append, length-take-le, length-drop, get_or_append_left, get_or-append_right, get_or-take, get_or_default, append-nil}
 use Rattle.ssz_codec.specs.Basic.{bits_number, number_bits}
 use Rattle.ssz_codec.specs.BitLists.{bits_bytes, bit_list_writing}
 use Rattle.ssz_codec.specs.HeldBits.{held_bits, IsHeld}
 use Rattle.ssz_codec.specs.declared.bit_list.BitList.TheInside.{Inside}
 use Rattle.ssz_codec.specs.Lawful.{IsBytes}
-use Rattle.ssz_codec.specs.BasicLaws.{bits_of_number, number_bits_len, bits_below, bits_again, pow-step}
+use Rattle.ssz_codec.specs.BasicLaws.{bits_of_number, number_bits_len, bits_below, pow-step}
 use Rattle.ssz_codec.specs.BitListLaws.{whole_bits, length-whole_bits, bits_bytes_len, bits_bytes_nil, bits_bytes_step, bits_bytes_one, writing_step, writing_one}
 
 -- ---- one bit
@@ -41,7 +40,7 @@ held_bit bytes len place byte l count h e =
     let at : byte ≡ get_or bytes (place / 8) 0 = e ∙ get_or_default bytes (place / 8) byte 0 h in
     let bit = bit_of_bytes bytes (place / 8) (place % 8) place false (omega arith) (omega arith) h in
     sym (slice_get-get_or (take len (whole_bits bytes)) place false (omega arith)
-        ∙ ap (λ (b : Bool). Some b) (get_or-take len (whole_bits bytes) place false l ∙ bit ∙ ap (λ m. m / 2 ^ (place % 8) % 2 == 1) (sym at) ∙ ap (λ m. m == 1) (sym (and_numeral (byte / 2 ^ (place % 8)) 0 refl))))
+    ∙ ap (λ (b : Bool). Some b) (get_or-take len (whole_bits bytes) place false l ∙ bit ∙ ap (λ m. m / 2 ^ (place % 8) % 2 == 1) (sym at) ∙ ap (λ m. m == 1) (sym (and_numeral (byte / 2 ^ (place % 8)) 0 refl))))
 
 -- ---- the bits that were read
 
@@ -90,7 +89,7 @@ pub packed_part : (front : List ℕ) (k last rest : ℕ) → IsBytes front → 0
 packed_part front k last rest fits some l h low =
     packed_split front (number_bits k last) fits
     ∙ ap (λ (t : List ℕ). front ++ t) (bits_bytes_one (number_bits k last) (omega (arith, number_bits_len k last)) (omega (arith, number_bits_len k last))
-        ∙ ap (λ m. m ∷ []) (ap (λ m. bits_number (number_bits k m)) h ∙ ap bits_number (low_bits k rest) ∙ bits_of_number k rest low))
+    ∙ ap (λ m. m ∷ []) (ap (λ m. bits_number (number_bits k m)) h ∙ ap bits_number (low_bits k rest) ∙ bits_of_number k rest low))
 
 pub length_part : (front : List ℕ) (k last len : ℕ) → len ≡ 8 * length front + k → length (whole_bits front ++ number_bits k last) ≡ len
 length_part front k last len e = omega (arith, length-append (whole_bits front) (number_bits k last), length-whole_bits front, number_bits_len k last)
@@ -128,11 +127,12 @@ EndsIn bits front last k = (last < 2 ^ k) × (bit_list_writing bits ≡ front ++
 last_byte : (k : ℕ) (bits : List Bool) (front : List ℕ) (last : ℕ) → length bits ≡ k → k < 8 → (front ≡ []) × (bits_number bits ≡ last) → EndsIn bits front last k
 last_byte k bits front last e l h =
     let low : bits_number bits < 2 ^ k = subst (λ n. bits_number bits < 2 ^ n) e (bits_below bits) in
-    let P : ℕ → Type 0 = λ m. m < 2 ^ k in
-    (subst P h.1 low,
-        writing_one bits (omega arith)
-        ∙ ap (λ m. m ∷ []) (bits_number-push bits ∙ ap (λ n. bits_number bits + 2 ^ n) e ∙ ap (λ m. m + 2 ^ k) h.1)
-        ∙ ap (λ (t : List ℕ). t ++ (last + 2 ^ k) ∷ []) (sym h.0))
+    let P : ℕ → Type 0 = λ m. m < 2 ^ k in (
+      subst P h.1 low,
+      writing_one bits (omega arith)
+          ∙ ap (λ m. m ∷ []) (bits_number-push bits ∙ ap (λ n. bits_number bits + 2 ^ n) e ∙ ap (λ m. m + 2 ^ k) h.1)
+          ∙ ap (λ (t : List ℕ). t ++ (last + 2 ^ k) ∷ []) (sym h.0),
+    )
 
 first_byte : (x last : ℕ) (bytes front : List ℕ) → 0 < length bytes → x ∷ bytes ≡ front ++ last ∷ [] → (more : List ℕ) × (front ≡ x ∷ more) × (bytes ≡ more ++ last ∷ [])
 first_byte x last bytes [] some h = absurd (omega (arith, ap length h))
@@ -148,12 +148,13 @@ writing_part_at (suc count) k bits front last e some l h =
     let split : first ++ more ≡ bits = take-append-drop 8 bits in
     let rest : length more ≡ 8 * count + k = omega (arith, length-drop 8 bits) in
     let w = first_byte (bits_number first) last (bits_bytes more) front (omega (arith, bits_bytes_len more)) (sym (bits_bytes_step first more n) ∙ ap bits_bytes split ∙ h) in
-    let ih = writing_part_at count k more w.0 last rest some l w.2 in
-    (ih.0,
-        ap bit_list_writing (sym split)
-        ∙ writing_step first more n
-        ∙ ap (λ (t : List ℕ). bits_number first ∷ t) ih.1
-        ∙ ap (λ (t : List ℕ). t ++ (last + 2 ^ k) ∷ []) (sym w.1))
+    let ih = writing_part_at count k more w.0 last rest some l w.2 in (
+      ih.0,
+      ap bit_list_writing (sym split)
+          ∙ writing_step first more n
+          ∙ ap (λ (t : List ℕ). bits_number first ∷ t) ih.1
+          ∙ ap (λ (t : List ℕ). t ++ (last + 2 ^ k) ∷ []) (sym w.1),
+    )
 
 -- the bytes end in this one, and so many of its bits are in use
 pub writing_part : (bits : List Bool) (bytes front : List ℕ) (last k : ℕ) → bits_bytes bits ≡ bytes → bytes ≡ front ++ last ∷ [] → k ≡ length bits % 8 → 0 < k → EndsIn bits front last k

@@ -1,16 +1,19 @@
 -- The codec of lists of bits keeps the law, and what the bytes of a list of bits are. Proofs, not definitions.
-use Rattle.std.proofs.Common.{◌≡◌, ℕ, zero, suc, ◌+◌, ◌-◌, ◌*◌, ◌/◌, ◌%◌, ◌^◌, ◌<◌, ◌≤◌, Bool, true, false, cond, List, [], ◌∷◌, ◌++◌, length, take, drop, get_or, Option, Some, None, refl, sym, ap, subst, ◌∙◌, append_assoc, arith, inl, inr}
+use Rattle.std.proofs.Common.{◌≡◌, ℕ, zero, suc, ◌+◌, ◌*◌, ◌/◌, ◌%◌, ◌^◌, ◌<◌, ◌≤◌, Bool, true, false, cond, List, [], ◌∷◌, ◌++◌, length, take, drop, Some, None, Result, Ok, Err, refl, sym, ap, subst, ◌∙◌, append_assoc, arith}
 use Rattle.std.specs.Prelude.{nat_lt, ◌==◌}
 use Rattle.std.specs.List.{flat_map}
-use Rattle.std.proofs.lemmas.Bool.{ltb-true, lt-ltb, ltb-false, le-ltb, eqb-true, eqb-false, eq-eqb, ne_eqb, cases_lt}
+use Rattle.std.proofs.lemmas.Bool.{lt-ltb, ltb-false, le-ltb, eqb-true, ne_eqb}
 use Rattle.std.proofs.Math.Pow.{pow_pos}
-use Rattle.std.proofs.lemmas.List.{take_at, drop_at, take_all, drop_all, take-append-drop, length-append, length-take, length-take-le, length-drop, append-nil}
+use Rattle.std.proofs.lemmas.List.{take_at, drop_at, take_all, take-append-drop, length-append, length-take-le, length-drop}
 use Rattle.ssz_codec.specs.Layout.{◌>>=◌}
 use Rattle.ssz_codec.specs.Basic.{bits_number, number_bits}
 use Rattle.ssz_codec.specs.BitLists.{packed_bits, bits_bytes, bit_list_writing, bits_below_top, bits_before_end, parse_bit_list, bit_list_codec}
+use Rattle.ssz_codec.specs.declared.fault.SszFault.{SszFault}
+use Rattle.ssz_codec.specs.declared.fault.SszFault.TheVariants.{NotAWriting, NoMemory}
+use Rattle.ssz_codec.specs.Reads.{Gives, Reads}
 use Rattle.ssz_codec.specs.Lawful.{IsBytes, IsLawful}
-use Rattle.ssz_codec.specs.LayoutLaws.{bind_some, some_is, unless_some, IsBytes-drop}
-use Rattle.ssz_codec.specs.BasicLaws.{bits_of_number, number_bits_len, bits_below, bits_again, first_bit, other_bits, halves, pow-step}
+use Rattle.ssz_codec.specs.LayoutLaws.{bind_some, some_is, unless_some}
+use Rattle.ssz_codec.specs.BasicLaws.{bits_of_number, number_bits_len, bits_again, first_bit, other_bits, halves, pow-step}
 
 -- ---- bytes of bits
 
@@ -168,6 +171,9 @@ before_end_at (suc count) bits e =
 pub before_end_complete : (bits : List Bool) → bits_before_end (bit_list_writing bits) ≡ Some bits
 before_end_complete bits = before_end_at (length bits / 8) bits refl
 
+not_none : (bits : List Bool) → Some bits ≡ None → ⊥
+not_none bits e = cc
+
 pub bit_list_sound : (limit : ℕ) (bytes : List ℕ) (bits : List Bool) → IsBytes bytes → parse_bit_list limit bytes ≡ Some bits → (length bits ≤ limit) × (bytes ≡ bit_list_writing bits)
 unfolding parse_bit_list
 bit_list_sound limit bytes bits fits e =
@@ -188,6 +194,12 @@ bit_list_lawful limit depth = record {
   complete = λ bits l. bit_list_complete limit bits l;
   size = λ bits l. tt;
 }
+
+pub reads_from_gives : (limit depth : ℕ) (bytes : List ℕ) (r : Result (List Bool) SszFault) → IsBytes bytes → Gives r (parse_bit_list limit bytes) → Reads (bit_list_codec limit depth) r bytes
+reads_from_gives limit depth bytes (Ok bits) fits e = bit_list_sound limit bytes bits fits e
+reads_from_gives limit depth bytes (Err NotAWriting) fits e = λ bits l w.
+    absurd (not_none bits (sym (bit_list_complete limit bits l) ∙ ap (parse_bit_list limit) (sym w) ∙ e))
+reads_from_gives limit depth bytes (Err NoMemory) fits e = tt
 
 -- two lists of bits never share a writing
 pub one_bit_list : (a b : List Bool) → bit_list_writing a ≡ bit_list_writing b → a ≡ b

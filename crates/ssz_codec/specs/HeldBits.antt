@@ -1,5 +1,5 @@
 -- What a `BitList` holds. Not a definition of the format.
-use Rattle.std.specs.Prelude.{◌≡◌, ℕ, List, Bool, length, take}
+use Rattle.std.specs.Prelude.{◌≡◌, List, Bool, length, take}
 use Rattle.ssz_codec.specs.declared.bit_list.BitList.TheInside.{Inside}
 use Rattle.ssz_codec.specs.BitLists.{bits_bytes}
 use Rattle.ssz_codec.specs.BitListLaws.{whole_bits}

@@ -2,7 +2,7 @@
 //!
 //! Bytes come from containers; bits go to those who look up which members attested, and roots to the containers.
 
-ghost use Rattle.std.specs.Prelude.{◌≡◌, ℕ, ◌+◌, ◌*◌, ◌/◌, ◌^◌, ◌<◌, ◌≤◌, List, Bool, length, slice_get, OnOk, IfOk, ◌++◌, ◌==◌};
+ghost use Rattle.std.specs.Prelude.{◌≡◌, ℕ, ◌+◌, ◌*◌, ◌/◌, ◌^◌, ◌<◌, ◌≤◌, List, Bool, length, slice_get, OnOk, IfOk, Some, ◌++◌, ◌==◌};
 ghost use Rattle.hash_tree.specs.Merkle.{byte_chunks};
 ghost use Rattle.ssz_codec.specs.Basic.{number_bits};
 ghost use Rattle.ssz_codec.specs.BitLists.{parse_bit_list, bit_list_writing, bit_list_root, bit_list_codec};
@@ -44,6 +44,13 @@ impl BitList {
         self.len
     }
 
+    /// Whether there is no bit.
+    pub fn is_empty(&self) -> bool
+        ensures { result ≡ (length self.now == 0) }
+    {
+        self.len == 0
+    }
+
     /// The bit at a place. None exactly where the place is not below the length.
     pub fn get(&self, place: u64) -> Option<bool>
         ensures { result ≡ slice_get self.now place }
@@ -83,9 +90,18 @@ impl BitList {
         mix_in_length(&merkle_bytes(&self.bytes, depth), self.len)
     }
 
-    /// Reads exactly the bytes that are the writing of a list of at most so many bits.
+    /// Reads exactly the bytes that are the writing of a list of at most so many bits (simple-serialize.md,
+    /// "Deserialization").
     pub fn read(alloc: Global, bytes: &[u8], limit: u64) -> Result<BitList, SszFault>
         ensures parses { Gives result (parse_bit_list limit bytes.now) }
+        ensures reads { (depth : ℕ) → Reads (bit_list_codec limit depth) result bytes.now }
+    {
+        BitList::parse(alloc, bytes, limit)
+    }
+
+    /// The bits below the highest 1 of the last byte.
+    fn parse(alloc: Global, bytes: &[u8], limit: u64) -> Result<BitList, SszFault>
+        ensures { Gives result (parse_bit_list limit bytes.now) }
     {
         let Some((last, front)) = bytes.split_last() else {
             return Err(SszFault::NotAWriting);
@@ -127,4 +143,52 @@ fn before_delimiter(
     }
     bytes.push(last - (1 << place))?;
     Ok(BitList { bytes, len })
+}
+
+/// A list of bits that was written is read again.
+#[tactic(auto, using(crate::specs::BitListLaws::bit_list_complete))]
+pub fn bits_read_back()
+    ensures { (limit : ℕ) (bits : List Bool) → length bits ≤ limit → parse_bit_list limit (bit_list_writing bits) ≡ Some bits }
+{}
+
+/// Two lists of bits never share a writing.
+#[tactic(auto, using(crate::specs::BitListLaws::one_bit_list))]
+pub fn one_writing_of_bits()
+    ensures { (a b : List Bool) → bit_list_writing a ≡ bit_list_writing b → a ≡ b }
+{}
+
+#[cfg(test)]
+mod tests {
+    use super::*;
+    use crate::Writer;
+    use std::test::Fail;
+
+    const ONE_BIT_ROOT: Root = [
+        0x9e, 0x1f, 0xf0, 0x35, 0xa3, 0x2c, 0x3d, 0x30, 0x85, 0x07, 0x4e, 0x67, 0x63, 0x56, 0x98,
+        0x4c, 0x07, 0x7f, 0x70, 0xbe, 0xd4, 0x78, 0x14, 0x95, 0x6a, 0x9e, 0xf8, 0x85, 0x2d, 0xcb,
+        0x81, 0x61,
+    ];
+
+    #[test]
+    fn bits_of_small_writings(rt: HostRuntime) -> Result<(), Fail> {
+        let refused = [b"".as_slice(), b"\x00", b"\x01\x00", b"\x00\x00\x02"];
+        for bytes in refused.iter() {
+            assert!(rt; BitList::read(rt.alloc(), bytes, 16).is_err());
+        }
+        assert!(rt; BitList::read(rt.alloc(), b"\x01", 0)?.is_empty());
+        assert!(rt; BitList::read(rt.alloc(), b"\x03", 0).is_err());
+        let one = BitList::read(rt.alloc(), b"\x03", 1)?;
+        assert_eq!(rt; one.len(), 1);
+        assert_eq!(rt; one.get(0), Some(true));
+        assert_eq!(rt; one.get(1), None);
+        assert_eq!(rt; one.root(3), ONE_BIT_ROOT);
+        let long = [b"\x00\x01".as_slice(), b"\xff\x80", b"\x02\x03\x05"];
+        for bytes in long.iter() {
+            let bits = BitList::read(rt.alloc(), bytes, 2048)?;
+            let mut out = Writer::new(rt.alloc());
+            bits.write_to(&mut out)?;
+            assert_eq!(rt; out.finish().as_slice(), *bytes);
+        }
+        Ok(())
+    }
 }

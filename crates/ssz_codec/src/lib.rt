@@ -13,7 +13,7 @@ mod lists;
 mod ssz;
 mod writer;
 
-pub use bit_list::BitList;
+pub use bit_list::{BitList, bits_read_back, one_writing_of_bits};
 pub use fault::SszFault;
 pub use items::Items;
 pub use layout::{Field, cut};

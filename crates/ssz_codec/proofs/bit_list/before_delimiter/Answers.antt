@@ -1,4 +1,4 @@
-use Rattle.std.proofs.Common.{◌≡◌, ◌+◌, ◌-◌, ◌*◌, ◌%◌, ◌^◌, ◌<◌, ◌≤◌, List, length, ap, ◌∙◌, arith, ◌++◌, ◌∷◌, []}
+use Rattle.std.proofs.Common.{◌+◌, ◌-◌, ◌*◌, ◌%◌, ◌^◌, length, ap, ◌∙◌, arith, ◌++◌, ◌∷◌, []}
 use Rattle.ssz_codec.specs.declared.bit_list.BitList.TheInside.{Inside}
 use Rattle.ssz_codec.proofs.HeldBits.{whole_view, whole_held, part_view, part_held, without_top}
 use Rattle.ssz_codec.proofs.bit_list.before_delimiter.Goals as goal

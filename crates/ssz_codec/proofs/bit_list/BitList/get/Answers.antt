@@ -1,5 +1,4 @@
 use Rattle.std.proofs.Common.{◌≡◌, ◌+◌, ◌/◌, length, ap, ◌∙◌, sym, arith, slice_get}
-use Rattle.ssz_codec.specs.BitLists.{bits_bytes}
 use Rattle.ssz_codec.specs.BitListLaws.{bits_bytes_len}
 use Rattle.ssz_codec.specs.HeldBits.{held_bits, IsHeld}
 use Rattle.ssz_codec.specs.declared.bit_list.BitList.TheInside.{Inside}

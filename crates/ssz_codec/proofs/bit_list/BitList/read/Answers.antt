@@ -1,26 +1,6 @@
-use Rattle.std.proofs.Common.{◌≡◌, ◌+◌, ◌-◌, ◌*◌, ◌^◌, Option, Some, List, Bool, length, ap, ◌∙◌, sym, refl, arith}
-use Rattle.ssz_codec.specs.BitListLaws.{reads_no_bytes, reads_no_delimiter, reads_too_long, reads_bits}
+use Rattle.ssz_codec.specs.BitListLaws.{reads_from_gives}
 use Rattle.ssz_codec.proofs.bit_list.BitList.read.Goals as goal
 
-pub returns-in_default : goal.returns-in_default
-returns-in_default c = record { parses = reads_no_bytes c.args.limit c.args.bytes.now c.in_default.ensures.cases }
-
-pub returns-then-last-eq0 : goal.returns-then-last-eq0
-returns-then-last-eq0 c = record {
-  parses = reads_no_delimiter c.args.limit c.in-Some.last.now c.args.bytes.now c.in-Some.front.now c.in-Some.ensures.cases.0 c.if-last-eq0.true;
-}
-
-pub returns-then-limit-whole : goal.returns-then-limit-whole
-returns-then-limit-whole c = record {
-  parses = reads_too_long c.args.limit c.in-Some.last.now c.ilog2-place.result c.args.bytes.now c.in-Some.front.now c.in-Some.ensures.cases.0 c.ilog2-place.ensures.bound c.ilog2-place.ensures.power_le c.ilog2-place.ensures.next_power_gt (omega arith);
-}
-
-pub returns-then-limit-whole-2 : goal.returns-then-limit-whole-2
-returns-then-limit-whole-2 c = record {
-  parses = reads_too_long c.args.limit c.in-Some.last.now c.ilog2-place.result c.args.bytes.now c.in-Some.front.now c.in-Some.ensures.cases.0 c.ilog2-place.ensures.bound c.ilog2-place.ensures.power_le c.ilog2-place.ensures.next_power_gt (omega arith);
-}
-
-pub returns : goal.returns
-returns c = record {
-  parses = reads_bits c.args.limit c.in-Some.last.now c.ilog2-place.result c.args.bytes.now c.in-Some.front.now c.in-Some.ensures.cases.0 c.ilog2-place.ensures.bound c.ilog2-place.ensures.power_le c.ilog2-place.ensures.next_power_gt (omega arith) ∙ ap (λ (b : List Bool). Some b) (sym c.in_ok-bits.ensures);
-}
+pub returns-clause-reads : goal.returns-clause-reads
+returns-clause-reads c = λ depth.
+    reads_from_gives c.args.limit depth c.args.bytes.now c.parse.result (λ i. (c.type_inv.bytes i).fits) c.parse.ensures

@@ -1,4 +1,4 @@
-use Rattle.std.proofs.Common.{◌+◌, ◌*◌, ◌/◌, ◌^◌, ◌≤◌, length, ap, sym, ◌∙◌, arith}
+use Rattle.std.proofs.Common.{length, ap, sym, ◌∙◌, arith}
 use Rattle.ssz_codec.proofs.HeldBits.{held_len}
 use Rattle.ssz_codec.proofs.bit_list.BitList.root.Goals as goal
 

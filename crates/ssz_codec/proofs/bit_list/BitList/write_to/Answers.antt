@@ -1,6 +1,6 @@
-use Rattle.std.proofs.Common.{◌≡◌, ◌+◌, ◌*◌, ◌%◌, ◌^◌, ◌<◌, List, ◌++◌, ◌∷◌, [], ap, sym, subst, ◌∙◌, append_assoc, arith}
+use Rattle.std.proofs.Common.{◌+◌, ◌*◌, ◌%◌, ◌^◌, ◌<◌, ◌++◌, ◌∷◌, [], ap, sym, subst, ◌∙◌, append_assoc, arith}
 use Rattle.ssz_codec.specs.BitLists.{bit_list_writing}
-use Rattle.ssz_codec.proofs.HeldBits.{EndsIn, whole_writing, part_writing, shifted_one, under_byte}
+use Rattle.ssz_codec.proofs.HeldBits.{whole_writing, part_writing, shifted_one, under_byte}
 use Rattle.ssz_codec.proofs.bit_list.BitList.write_to.Goals as goal
 
 pub returns-then-used-eq0 : goal.returns-then-used-eq0
