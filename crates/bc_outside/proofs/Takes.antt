@@ -5,7 +5,7 @@ use Rattle.std.specs.Prelude.{option_map, IfSome}
 use Rattle.std.proofs.Common.{subst}
 use Rattle.std.proofs.lemmas.Grind.{common_steps}
 use Rattle.bc_outside.specs.Told.{FileTold, Told, with_taken, left_in, left_of, taking}
-use Rattle.bc_outside.specs.Calls.{Takes, TakesSome, ReadUpTo}
+use Rattle.bc_outside.specs.Calls.{OnlyTakes, Takes, TakesSome, ReadUpTo}
 use Rattle.std.proofs.Common.{zero-le, append-nil, take_all}
 use Rattle.std.proofs.Math.Seq.{drop-nil}
 
@@ -78,7 +78,7 @@ dropped : (left : Option (List ℕ)) (n : ℕ) → IfSome left (λ l. l ≡ []) 
 dropped None n h = tt
 dropped (Some l) n h = rw h (drop-nil n)
 
-at_end_after : (file : ℕ) (piece : List ℕ) (t u : Option Told) → Takes file piece t u → IfSome (left_of t file) (λ left. left ≡ []) → IfSome (left_of u file) (λ left. left ≡ [])
+pub at_end_after : (file : ℕ) (piece : List ℕ) (t u : Option Told) → Takes file piece t u → IfSome (left_of t file) (λ left. left ≡ []) → IfSome (left_of u file) (λ left. left ≡ [])
 at_end_after file piece t u h ended = subst (λ o. IfSome o (λ left. left ≡ [])) (sym (ap (λ o. left_of o file) h.told_as ∙ left_of-taken t file (length piece))) (dropped (left_of t file) (length piece) ended)
 
 pub ReadUpTo-ended : (limit file : ℕ) (bytes : List ℕ) (s t : Option Told) → Takes file bytes s t → length bytes ≤ limit → IfSome (left_of t file) (λ left. left ≡ []) → ReadUpTo limit file bytes s t
@@ -98,3 +98,15 @@ ReadUpTo-last limit file bytes piece all s t u h k e le ended =
 pub TakesSome-more : (limit more file : ℕ) (bytes : List ℕ) (s t u : Option Told) → Takes file bytes s t → length bytes + more ≤ limit → TakesSome more file t u → TakesSome limit file s u
 TakesSome-more limit more file bytes s t u h le some =
     (bytes ++ some.0, omega (arith, length-append bytes some.0, some.1), Takes-more file bytes some.0 s t u h some.2)
+
+pub OnlyTakes-none : (told : Option Told) (file : ℕ) → OnlyTakes file told told
+OnlyTakes-none told file = record { count = 0; told_as = (Takes-none told file).told_as }
+
+pub OnlyTakes-more : {file : ℕ} {s t u : Option Told} → OnlyTakes file s t → OnlyTakes file t u → OnlyTakes file s u
+OnlyTakes-more {file} {s} h k = record {
+  count = h.count + k.count;
+  told_as = k.told_as ∙ ap (option_map (taking file k.count)) h.told_as ∙ taken_twice s file h.count k.count;
+}
+
+pub OnlyTakes-of : {file : ℕ} {bytes : List ℕ} {s t : Option Told} → Takes file bytes s t → OnlyTakes file s t
+OnlyTakes-of {file} {bytes} h = record { count = length bytes; told_as = h.told_as }

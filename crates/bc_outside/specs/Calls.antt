@@ -87,3 +87,8 @@ ReadsUpTo items limit file (Err _) told told_then = TakesSome limit file told to
 abbrev pub WritesAll : {V : Type 0} → List ℕ → Result V Trouble → Option (List ℕ) → Option (List ℕ) → Type 0
 WritesAll bytes (Ok _) told told_then = told_then ≡ option_map (λ old. old ++ bytes) told
 WritesAll bytes (Err _) told told_then = (n : ℕ) × (n ≤ length bytes) × (told_then ≡ option_map (λ old. old ++ take n bytes) told)
+
+-- Some bytes were taken of a file, and nothing else that the shelf tells changed.
+pub record OnlyTakes (file : ℕ) (told told_then : Option Told) : Type 0 where
+  pub count : ℕ
+  pub told_as : told_then ≡ option_map (taking file count) told

@@ -1,0 +1,4 @@
+pub mod Parts
+pub mod Unread
+pub mod Grows
+pub mod Coming

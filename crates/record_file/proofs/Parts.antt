@@ -1,0 +1,28 @@
+-- Parts of lists that were cut and joined.
+use Rattle.std.proofs.Common.{◌≡◌, ◌≤◌, ℕ, ◌+◌, ◌-◌, List, [], ◌++◌, length, take, drop, arith, append_assoc, length-take}
+use Rattle.std.proofs.Math.Seq.{drop-append_seam}
+use Rattle.std.proofs.Math.ListN.{drop_of_length-le}
+use Rattle.std.proofs.lemmas.List.{drop-take}
+use Rattle.std.proofs.lemmas.Grind.{common_steps}
+
+-- the first m of a list, and n of these
+first_of : (n m : ℕ) (into more : List ℕ) → n ≤ length into → n ≤ m → take n (take m (into ++ more)) ≡ take n into
+first_of n m into more le lt = grind (arith, common_steps)
+
+behind_front : (n m : ℕ) (front into more : List ℕ) → n ≤ length into → n ≤ m → drop (length front) (take (length front + n) (take (length front + m) (front ++ (into ++ more)))) ≡ take n into
+behind_front n m front into more le lt = rw (drop-take, drop-take, drop-append_seam) (first_of n m into more le lt)
+
+-- What is read into the part of a list behind front stands there, also after the list was cut.
+pub read_part : (start len n whole : ℕ) (front into post tail : List ℕ) → start ≡ len → length front ≡ len → n ≤ length into → len + length into ≤ whole → drop start (take (len + n) (take whole ((front ++ (into ++ post)) ++ tail))) ≡ take n into
+read_part start len n whole front into post tail e f le room =
+    let m : ℕ = whole - length front in
+    let w : length front + m ≡ whole = omega arith in
+    rw (e, append_assoc front (into ++ post) tail, append_assoc into post tail, ← w, ← f) (behind_front n m front into (post ++ tail) le (omega arith))
+
+-- Nothing stands behind the front of a list that was cut there.
+pub cut_part : (start len : ℕ) (whole : List ℕ) → start ≡ len → drop start (take len whole) ≡ []
+cut_part start len whole e = rw e (drop_of_length-le (take len whole) (omega (arith, length-take len whole)))
+
+-- A part of an equal list, behind start and up to start + n.
+pub part_of : (start n : ℕ) (xs ys : List ℕ) → xs ≡ ys → take ((start + n) - start) (drop start xs) ≡ take n (drop start ys)
+part_of start n xs ys e = let k : (start + n) - start ≡ n = omega arith in rw (k, e)

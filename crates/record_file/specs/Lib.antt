@@ -1,0 +1,4 @@
+pub mod Record
+pub mod Frames
+pub mod Stops
+pub mod Found

@@ -1,0 +1,82 @@
+//! What the buffered bytes of a record show of its next frame.
+
+ghost use Rattle.std.specs.Prelude.{◌≡◌, ◌≤◌, ◌<◌, ◌+◌, ℕ, ◌∷◌, length, true, IsTrue};
+ghost use Rattle.record_file.specs.Record.{frame_of, sized_of, is_kind, most_events, longest_payload};
+ghost use Rattle.record_file.specs.Found.{read_of, IsWhole, is_short, is_frame};
+
+use crate::RecordFault;
+
+/// How many events a record may have.
+pub const MOST_EVENTS: u32 = 4_194_304;
+
+/// How many bytes a payload may have.
+pub const LONGEST_PAYLOAD: u32 = 4_194_304;
+
+/// What some bytes show of a frame.
+#[derive(Clone, Copy, Debug, PartialEq, Eq)]
+pub enum Found {
+    /// There are no bytes.
+    Ended,
+    /// There is no whole frame.
+    Fault(RecordFault),
+    /// A whole frame, with this kind and this many bytes of payload.
+    Frame(u8, u32),
+}
+
+impl Found {
+    /// Whether more bytes may change it: there was no byte, or a frame that is cut.
+    pub fn is_short(&self) -> bool
+        ensures { result ≡ is_short self.now }
+    {
+        matches!(self, Found::Ended | Found::Fault(RecordFault::Torn))
+    }
+}
+
+/// Whether events of this kind are known: 1 is a tick.
+pub fn is_kind(kind: u8) -> bool
+    ensures { result ≡ is_kind kind }
+{
+    kind == 1
+}
+
+// Behind the kind of a frame.
+#[tactic(auto, unfolding(crate::specs::Record::sized_of, crate::specs::Record::payload_of))]
+fn sized_at(kind: u8, bytes: &[u8]) -> Found
+    requires { is_kind kind ≡ true }
+    ensures read { sized_of kind bytes.now ≡ read_of result (kind ∷ bytes.now) }
+    ensures whole { IsWhole result (kind ∷ bytes.now) }
+    ensures short { is_short result ≡ true → length bytes.now < 4 + longest_payload }
+{
+    if bytes.len() < 4 {
+        return Found::Fault(RecordFault::Torn);
+    }
+    let (length, payload) = bytes.split_at(4);
+    let size = u32::from_le_bytes([length[0], length[1], length[2], length[3]]);
+    if size > LONGEST_PAYLOAD {
+        return Found::Fault(RecordFault::TooLong(size));
+    }
+    if payload.len() < size as usize {
+        return Found::Fault(RecordFault::Torn);
+    }
+    Found::Frame(kind, size)
+}
+
+/// What stands at the front of the bytes, behind that many events, if no more bytes come.
+#[tactic(auto, unfolding(crate::specs::Record::frame_of, crate::specs::Record::sized_of, crate::specs::Record::payload_of))]
+pub fn frame_at(events: u32, bytes: &[u8]) -> Found
+    ensures read { frame_of events bytes.now ≡ read_of result bytes.now }
+    ensures whole { IsWhole result bytes.now }
+    ensures short { is_short result ≡ true → length bytes.now < 5 + longest_payload }
+    ensures room { is_frame result ≡ true → events < most_events }
+{
+    let [kind, behind @ ..] = bytes else {
+        return Found::Ended;
+    };
+    if events >= MOST_EVENTS {
+        return Found::Fault(RecordFault::TooMany);
+    }
+    if !is_kind(*kind) {
+        return Found::Fault(RecordFault::BadKind(*kind));
+    }
+    sized_at(*kind, behind)
+}

@@ -1,0 +1,157 @@
+//! The frames of a record, one after the other.
+
+ghost use Rattle.std.specs.Prelude.{◌≡◌, ◌<◌, List, take, Bool, ◌≤◌, ℕ, true, Ok, Err, IfOk, OnOk, OnErr, IfErr};
+ghost use Rattle.bc_outside.specs.Calls.{HasCause, OnlyTakes};
+ghost use Rattle.record_file.specs.Record.{fault_event, magic};
+ghost use Rattle.std.specs.Str.{bytes_eq};
+ghost use Rattle.record_file.specs.Stops.{StopsBy};
+ghost use Rattle.record_file.specs.declared.fault.FrameStop.TheVariants.{Fault};
+ghost use Rattle.record_file.specs.Frames.{unread_file, to_come, Gives, Moves, Begins, IfStopped};
+ghost use Rattle.record_file.specs.declared.status.Status.TheVariants.{AtMagic, AtFrame};
+
+use crate::buffer::Buffer;
+use crate::fill::{fill, find_frame};
+use crate::found::Found;
+use crate::{Event, FrameStop, Payload, RecordFault, Status};
+use bc_outside::Shelf;
+use std::alloc::Global;
+use std::marker::Model;
+
+/// The frames of a record, read from a file of a shelf.
+#[derive(Debug, Drop)]
+pub struct Frames {
+    alloc: Global,
+    file: u32,
+    // How many events were read.
+    events: u32,
+    status: Status,
+    buffer: Buffer,
+}
+
+impl Model for Frames {
+    ghost use Rattle.record_file.specs.Frames.{Reading, IsPlace};
+
+    ghost Value = { Reading };
+
+    ghost view = { λ frames. record { file = frames.file; events = frames.events; status = frames.status; buffered = frames.buffer } };
+
+    ghost invariant = { λ frames. IsPlace frames.status frames.events };
+}
+
+impl Frames {
+    /// The frames of the record that a file holds. Nothing of it is read yet, and no memory is taken.
+    pub fn new(alloc: Global, file: u32) -> Self
+        ensures { result ≡ unread_file file }
+    {
+        Frames {
+            alloc,
+            file,
+            events: 0,
+            status: Status::AtMagic,
+            buffer: Buffer::new(alloc),
+        }
+    }
+
+    /// How many events were read so far.
+    pub fn events(&self) -> u32
+        ensures { result ≡ self.now.events }
+    {
+        self.events
+    }
+
+    /// The number of the event that could not be read because of a fault, where events count from 1: 0 where the
+    /// record's first bytes are wrong.
+    pub fn event_of(&self, fault: RecordFault) -> u32
+        ensures { result ≡ fault_event self.now.events fault }
+    {
+        match fault {
+            RecordFault::BadMagic => 0,
+            _ => self.events + 1,
+        }
+    }
+
+    // Reads the record's first bytes, which have to be the magic.
+    fn read_magic<F: Shelf>(&mut self, shelf: &mut F) -> Result<(), FrameStop>
+        requires opened { self.old.file < F.opened shelf.old }
+        requires at { self.old.status ≡ AtMagic }
+        ensures begins { Begins result self.old self.new (to_come self.old (F.told shelf.old)) (to_come self.new (F.told shelf.new)) }
+        ensures file { self.new.file ≡ self.old.file }
+        ensures taken { OnlyTakes self.old.file (F.told shelf.old) (F.told shelf.new) }
+        ensures opened { F.opened shelf.new ≡ F.opened shelf.old }
+        ensures faults { StopsBy result (F.faults shelf.old) (F.faults shelf.new) }
+        ensures reliable { F.reliable shelf.new ≡ F.reliable shelf.old }
+        ensures steady { F.reliable shelf.old ≡ true → F.faults shelf.new ≡ F.faults shelf.old }
+    {
+        fill(&mut self.buffer, shelf, self.file, 4)?;
+        if !has_magic(self.buffer.as_slice()) {
+            self.status = Status::Stopped(RecordFault::BadMagic);
+            return Err(FrameStop::Fault(RecordFault::BadMagic));
+        }
+        self.buffer.read(4);
+        self.status = Status::AtFrame;
+        Ok(())
+    }
+
+    // Reads the next frame.
+    fn read_frame<F: Shelf>(&mut self, shelf: &mut F) -> Result<Option<Event>, FrameStop>
+        requires opened { self.old.file < F.opened shelf.old }
+        requires at { self.old.status ≡ AtFrame }
+        ensures gives { Gives result self.old.events (to_come self.old (F.told shelf.old)) (to_come self.new (F.told shelf.new)) }
+        ensures moves { Moves result self.old self.new }
+        ensures file { self.new.file ≡ self.old.file }
+        ensures taken { OnlyTakes self.old.file (F.told shelf.old) (F.told shelf.new) }
+        ensures opened { F.opened shelf.new ≡ F.opened shelf.old }
+        ensures faults { StopsBy result (F.faults shelf.old) (F.faults shelf.new) }
+        ensures reliable { F.reliable shelf.new ≡ F.reliable shelf.old }
+        ensures steady { F.reliable shelf.old ≡ true → F.faults shelf.new ≡ F.faults shelf.old }
+    {
+        match find_frame(&mut self.buffer, shelf, self.file, self.events)? {
+            Found::Ended => Ok(None),
+            Found::Fault(fault) => {
+                self.status = Status::Stopped(fault);
+                Err(FrameStop::Fault(fault))
+            }
+            Found::Frame(kind, size) => {
+                let len = 5 + size as usize;
+                let payload = Vec::from_slice(self.alloc, &self.buffer.as_slice()[5..len])?;
+                self.buffer.read(len);
+                self.events += 1;
+                Ok(Some(Event {
+                    kind,
+                    payload: Payload::new(payload),
+                }))
+            }
+        }
+    }
+
+    /// The next event, or None exactly at the record's end. After a fault each later call answers it again and reads
+    /// nothing. Where the shelf fails or memory runs out, the bytes that were taken are kept, and a later call goes on.
+    pub fn next<F: Shelf>(&mut self, shelf: &mut F) -> Result<Option<Event>, FrameStop>
+        requires { self.old.file < F.opened shelf.old }
+        ensures gives { Gives result self.old.events (to_come self.old (F.told shelf.old)) (to_come self.new (F.told shelf.new)) }
+        ensures moves { Moves result self.old self.new }
+        ensures stopped { IfStopped self.old.status (λ reason. (result ≡ Err (Fault reason)) × (self.new ≡ self.old) × (shelf.new ≡ shelf.old)) }
+        ensures file { self.new.file ≡ self.old.file }
+        ensures taken { OnlyTakes self.old.file (F.told shelf.old) (F.told shelf.new) }
+        ensures opened { F.opened shelf.new ≡ F.opened shelf.old }
+        ensures faults { StopsBy result (F.faults shelf.old) (F.faults shelf.new) }
+        ensures reliable { F.reliable shelf.new ≡ F.reliable shelf.old }
+        ensures steady { F.reliable shelf.old ≡ true → F.faults shelf.new ≡ F.faults shelf.old }
+    {
+        match self.status {
+            Status::Stopped(fault) => Err(FrameStop::Fault(fault)),
+            Status::AtMagic => {
+                self.read_magic(shelf)?;
+                self.read_frame(shelf)
+            }
+            Status::AtFrame => self.read_frame(shelf),
+        }
+    }
+}
+
+// Whether the bytes begin as a record does.
+fn has_magic(bytes: &[u8]) -> bool
+    ensures { result ≡ bytes_eq (take 4 bytes.now) magic }
+{
+    bytes.starts_with(b"BCR1")
+}
