@@ -86,6 +86,16 @@ map_row r make fields = record {
   roots = λ v. r.roots (fields v);
 }
 
+-- the same, where only some records are made so
+abbrev pub map_row_where : {A B : Type 0} → (B → Type 0) → Row A → (A → B) → (B → A) → Row B
+map_row_where Made r make fields = record {
+  fields = r.fields;
+  Within = λ v. Made v × r.Within (fields v);
+  parts = λ v. r.parts (fields v);
+  parse = λ parts. r.parse parts >>= λ a. Some (make a);
+  roots = λ v. r.roots (fields v);
+}
+
 abbrev pub and_fixed : ℕ → Field → Field
 and_fixed n (Fixed m) = Fixed (n + m)
 and_fixed n Variable = Variable

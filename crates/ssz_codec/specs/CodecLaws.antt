@@ -5,7 +5,7 @@ use Rattle.std.proofs.lemmas.List.{take_at, drop_at, take-append-drop, length-ap
 use Rattle.ssz_codec.specs.declared.layout.Field.{Field}
 use Rattle.ssz_codec.specs.declared.layout.Field.TheVariants.{Fixed, Variable}
 use Rattle.ssz_codec.specs.Layout.{◌>>=◌, heads_len, heads, bodies, joined, OffsetsFit, cut}
-use Rattle.ssz_codec.specs.Codec.{Codec, Row, ◌⊗◌, pair, only, ◌&◌, ◌&&◌, map_row, and_fixed, field_of, container, sized}
+use Rattle.ssz_codec.specs.Codec.{Codec, Row, ◌⊗◌, pair, only, ◌&◌, ◌&&◌, map_row, map_row_where, and_fixed, field_of, container, sized}
 use Rattle.ssz_codec.specs.Lawful.{IsBytes, HasSize, FitFields, IsLawful, IsLawfulRow}
 use Rattle.ssz_codec.specs.LayoutLaws.{bind_some, some_is, cut_is_joined, joined_is_cut, heads_is_long}
 
@@ -99,6 +99,20 @@ map_lawful {A = A} {B = B} r make fields there back law = record {
   complete = λ v within.
       ap (λ (o : Option A). o >>= λ x. Some (make x)) (law.complete (fields v) within) ∙ ap (λ (b : B). Some b) (there v);
   sizes = λ v within. law.sizes (fields v) within;
+}
+
+pub map_where_lawful : {A B : Type 0} (Made : B → Type 0) (r : Row A) (make : A → B) (fields : B → A) → ((b : B) → Made b → make (fields b) ≡ b) → ((a : A) → Made (make a)) → ((a : A) → fields (make a) ≡ a) → IsLawfulRow r → IsLawfulRow (map_row_where Made r make fields)
+map_where_lawful {A = A} {B = B} Made r make fields there made back law = record {
+  sound = λ parts v each e.
+      let a = bind_some (r.parse parts) (λ x. Some (make x)) v e in
+      let h = law.sound parts a.0 each a.1 in
+      let P : B → Type 0 = λ w. (Made w × r.Within (fields w)) × (parts ≡ r.parts (fields w)) in
+      let Q : A → Type 0 = λ w. r.Within w × (parts ≡ r.parts w) in
+      let k = subst Q (sym (back a.0)) h in
+      subst P (some_is _ v a.2) ((made a.0, k.0), k.1);
+  complete = λ v within.
+      ap (λ (o : Option A). o >>= λ x. Some (make x)) (law.complete (fields v) within.1) ∙ ap (λ (b : B). Some b) (there v within.0);
+  sizes = λ v within. law.sizes (fields v) within.1;
 }
 
 -- ---- containers
