@@ -1,7 +1,10 @@
 -- The small containers of a state, field by field in the order of the published specification (beacon-chain.md,
 -- "Containers"). The depth is that of the tree over the fields.
-use Rattle.ssz_codec.specs.Codec.{Codec, Row, ◌&◌, pair, only, map_row, container, sized}
+use Rattle.std.specs.Prelude.{List, Bool}
+use Rattle.ssz_codec.specs.Codec.{Codec, Row, ◌&◌, pair, only, map_row, container, sized, variable}
 use Rattle.ssz_codec.specs.Basic.{number_codec, bool_codec, bytes4_codec, bytes32_codec, bytes48_codec}
+use Rattle.ssz_codec.specs.BitLists.{bit_list_codec}
+use Rattle.beacon_types.specs.declared.pending_attestation.PendingAttestation.{PendingAttestation}
 use Rattle.beacon_types.specs.declared.fork.Fork.{Fork}
 use Rattle.beacon_types.specs.declared.checkpoint.Checkpoint.{Checkpoint}
 use Rattle.beacon_types.specs.declared.validator.Validator.{Validator}
@@ -79,3 +82,17 @@ voluntary_exit_row =
 
 unfoldable pub voluntary_exit_codec : Codec VoluntaryExit
 voluntary_exit_codec = container 1 voluntary_exit_row
+
+-- Bitlist[MAX_VALIDATORS_PER_COMMITTEE], in a tree of 8 chunks
+unfoldable pub aggregation_bits_codec : Codec (List Bool)
+aggregation_bits_codec = bit_list_codec 2048 3
+
+-- PendingAttestation; the published field data is called content
+unfoldable pub pending_attestation_row : Row PendingAttestation
+pending_attestation_row =
+    map_row (variable aggregation_bits_codec & sized 128 attestation_data_codec & number_codec & only number_codec)
+    (λ v. record { aggregation_bits = v.first; content = v.rest.first; inclusion_delay = v.rest.rest.first; proposer_index = v.rest.rest.rest })
+    (λ v. pair v.aggregation_bits (pair v.content (pair v.inclusion_delay v.proposer_index)))
+
+unfoldable pub pending_attestation_codec : Codec PendingAttestation
+pending_attestation_codec = container 2 pending_attestation_row

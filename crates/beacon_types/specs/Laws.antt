@@ -2,10 +2,11 @@
 use Rattle.std.proofs.Common.{◌≡◌, refl}
 use Rattle.ssz_codec.specs.declared.layout.Field.TheVariants.{Fixed}
 use Rattle.ssz_codec.specs.Lawful.{IsLawful, IsLawfulRow}
-use Rattle.ssz_codec.specs.CodecLaws.{only_lawful, and_lawful, map_lawful, container_lawful, sized_lawful}
+use Rattle.ssz_codec.specs.CodecLaws.{only_lawful, and_lawful, map_lawful, container_lawful, sized_lawful, variable_lawful}
 use Rattle.ssz_codec.specs.Basic.{bytes4_codec, bytes32_codec, bytes48_codec}
 use Rattle.ssz_codec.specs.BasicLaws.{number_lawful, bool_lawful, bytes_lawful}
-use Rattle.beacon_types.specs.Containers.{fork_row, fork_codec, checkpoint_row, checkpoint_codec, validator_row, validator_codec, attestation_data_row, attestation_data_codec, eth1_data_row, eth1_data_codec, block_header_row, block_header_codec, voluntary_exit_row, voluntary_exit_codec}
+use Rattle.beacon_types.specs.Containers.{fork_row, fork_codec, checkpoint_row, checkpoint_codec, validator_row, validator_codec, attestation_data_row, attestation_data_codec, eth1_data_row, eth1_data_codec, block_header_row, block_header_codec, voluntary_exit_row, voluntary_exit_codec, aggregation_bits_codec, pending_attestation_row, pending_attestation_codec}
+use Rattle.ssz_codec.specs.BitListLaws.{bit_list_lawful}
 
 fork_rows : IsLawfulRow fork_row
 unfolding fork_row
@@ -90,3 +91,16 @@ voluntary_exit_size = refl
 pub voluntary_exit_lawful : IsLawful voluntary_exit_codec
 unfolding voluntary_exit_codec
 voluntary_exit_lawful = container_lawful 1 voluntary_exit_row voluntary_exit_rows
+
+pub aggregation_bits_lawful : IsLawful aggregation_bits_codec
+unfolding aggregation_bits_codec
+aggregation_bits_lawful = bit_list_lawful 2048 3
+
+pending_attestation_rows : IsLawfulRow pending_attestation_row
+unfolding pending_attestation_row
+pending_attestation_rows = map_lawful _ _ _ (λ v. refl) (λ v. refl)
+    (and_lawful _ _ (variable_lawful aggregation_bits_codec aggregation_bits_lawful) (and_lawful _ _ (sized_lawful 128 attestation_data_codec attestation_data_size attestation_data_lawful) (and_lawful _ _ number_lawful (only_lawful _ number_lawful))))
+
+pub pending_attestation_lawful : IsLawful pending_attestation_codec
+unfolding pending_attestation_codec
+pending_attestation_lawful = container_lawful 2 pending_attestation_row pending_attestation_rows

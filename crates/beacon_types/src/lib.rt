@@ -8,6 +8,7 @@ mod block_header;
 mod checkpoint;
 mod eth1_data;
 mod fork;
+mod pending_attestation;
 mod validator;
 mod voluntary_exit;
 
@@ -16,5 +17,6 @@ pub use block_header::BeaconBlockHeader;
 pub use checkpoint::Checkpoint;
 pub use eth1_data::Eth1Data;
 pub use fork::Fork;
+pub use pending_attestation::{AggregationBits, PendingAttestation};
 pub use validator::Validator;
 pub use voluntary_exit::VoluntaryExit;

@@ -119,3 +119,7 @@ container depth r = record {
 -- a codec of fixed size, with its size written out
 abbrev pub sized : {A : Type 0} → ℕ → Codec A → Codec A
 sized n c = record { field = Fixed n; Within = c.Within; writing = c.writing; parse = c.parse; root = c.root }
+
+-- a codec of variable size, said so
+abbrev pub variable : {A : Type 0} → Codec A → Codec A
+variable c = record { field = Variable; Within = c.Within; writing = c.writing; parse = c.parse; root = c.root }

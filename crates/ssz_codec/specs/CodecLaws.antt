@@ -5,7 +5,7 @@ use Rattle.std.proofs.lemmas.List.{take_at, drop_at, take-append-drop, length-ap
 use Rattle.ssz_codec.specs.declared.layout.Field.{Field}
 use Rattle.ssz_codec.specs.declared.layout.Field.TheVariants.{Fixed, Variable}
 use Rattle.ssz_codec.specs.Layout.{◌>>=◌, heads_len, heads, bodies, joined, OffsetsFit, cut}
-use Rattle.ssz_codec.specs.Codec.{Codec, Row, ◌⊗◌, pair, only, ◌&◌, ◌&&◌, map_row, map_row_where, and_fixed, field_of, container, sized}
+use Rattle.ssz_codec.specs.Codec.{Codec, Row, ◌⊗◌, pair, only, ◌&◌, ◌&&◌, map_row, map_row_where, and_fixed, field_of, container, sized, variable}
 use Rattle.ssz_codec.specs.Lawful.{IsBytes, HasSize, FitFields, IsLawful, IsLawfulRow}
 use Rattle.ssz_codec.specs.LayoutLaws.{bind_some, some_is, cut_is_joined, joined_is_cut, heads_is_long}
 
@@ -159,3 +159,6 @@ sized_lawful n c is law = record {
   complete = law.complete;
   size = λ v within. subst (λ f. HasSize f (c.writing v)) is (law.size v within);
 }
+
+pub variable_lawful : {A : Type 0} (c : Codec A) → IsLawful c → IsLawful (variable c)
+variable_lawful c law = record { sound = law.sound; complete = law.complete; size = λ v within. tt }

@@ -1,0 +1,5 @@
+use Rattle.beacon_types.proofs.pending_attestation.AggregationBitsSsz.parse.Goals as goal
+
+-- what was read is within the limit
+pub invariant_of-result : goal.invariant_of-result
+invariant_of-result c = (c.in_ok-bits.ensures.reads 3).0

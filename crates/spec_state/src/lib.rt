@@ -1,0 +1,11 @@
+//! The plain state of the beacon chain: its fields as values and lists, for the definitions of every layer above.
+//!
+//! Reading and roots of the state are in beacon_state; here stand the record that contracts compare, and the
+//! definitions over it.
+#![tactic(auto)]
+
+mod parts;
+mod plain_state;
+
+pub use parts::{Clock, Eth1, Finality, History, Pending, Registry};
+pub use plain_state::PlainState;
