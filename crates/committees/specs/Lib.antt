@@ -1,0 +1,3 @@
+pub mod Committees
+pub mod Proposers
+pub mod Seeds

@@ -1,0 +1,38 @@
+//! What seeds and proposers need to know of a state. The state's own crate implements it.
+
+ghost use Rattle.std.specs.Prelude.{◌≡◌, ℕ, List, ◌<◌};
+ghost use Rattle.bc_preset.specs.declared.presets.Preset.{Preset};
+ghost use Rattle.bc_preset.specs.Presets.{IsPreset};
+
+use bc_preset::Preset;
+use hash_tree::Root;
+
+/// A state, as far as seeds and proposers look at it.
+pub trait Lookup {
+    ghost preset_of: { Self → Preset };
+
+    ghost mix_at: { Self → ℕ → List ℕ };
+
+    ghost effective_at: { Self → ℕ → ℕ };
+
+    ghost registry_of: { Self → ℕ };
+
+    /// The preset of the state.
+    fn preset(&self) -> &Preset
+        ensures exact { result.now ≡ preset_of self.now }
+        ensures preset { IsPreset result.now };
+
+    /// The randao mix at a place below EPOCHS_PER_HISTORICAL_VECTOR.
+    fn mix(&self, place: u64) -> Root
+        requires { place < (preset_of self.now).epochs_per_historical_vector }
+        ensures { result ≡ mix_at self.now place };
+
+    /// The number of validators in the registry.
+    fn registry(&self) -> u64
+        ensures { result ≡ registry_of self.now };
+
+    /// The effective balance of a validator of the registry, in Gwei.
+    fn effective(&self, index: u64) -> u64
+        requires { index < registry_of self.now }
+        ensures { result ≡ effective_at self.now index };
+}
