@@ -1,3 +1,4 @@
 pub mod Heights
 pub mod States
 pub mod StateLaws
+pub mod Genesis

@@ -11,7 +11,7 @@ use Rattle.ssz_codec.specs.ListLaws.{vector_lawful, list_lawful, variable_list_l
 use Rattle.bc_preset.specs.declared.presets.Preset.{Preset}
 use Rattle.beacon_types.specs.Containers.{fork_codec, checkpoint_codec, validator_codec, eth1_data_codec, block_header_codec, pending_attestation_codec}
 use Rattle.beacon_types.specs.Laws.{fork_size, fork_lawful, checkpoint_size, checkpoint_lawful, validator_size, validator_lawful, eth1_data_size, eth1_data_lawful, block_header_size, block_header_lawful, pending_attestation_lawful}
-use Rattle.spec_state.specs.declared.plain_state.PlainState.{PlainState}
+use Rattle.spec_state.specs.declared.plain.PlainState.{PlainState}
 use Rattle.spec_state.specs.Heights.{height, number_leaves}
 use Rattle.spec_state.specs.States.{votes_limit, attestations_limit, roots_codec, clock_row, history_row, eth1_row, registry_row, pending_row, finality_row, state_row, state_of, groups_of, state_codec}
 

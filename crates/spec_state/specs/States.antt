@@ -7,7 +7,7 @@ use Rattle.ssz_codec.specs.Basic.{number_codec, bytes32_codec, bit_vector_codec}
 use Rattle.ssz_codec.specs.Lists.{vector_codec, list_codec, variable_list_codec, root_leaves}
 use Rattle.bc_preset.specs.declared.presets.Preset.{Preset}
 use Rattle.beacon_types.specs.Containers.{fork_codec, checkpoint_codec, validator_codec, eth1_data_codec, block_header_codec, pending_attestation_codec}
-use Rattle.spec_state.specs.declared.plain_state.PlainState.{PlainState}
+use Rattle.spec_state.specs.declared.plain.PlainState.{PlainState}
 use Rattle.spec_state.specs.declared.parts.Clock.{Clock}
 use Rattle.spec_state.specs.declared.parts.History.{History}
 use Rattle.spec_state.specs.declared.parts.Eth1.{Eth1}

@@ -4,8 +4,10 @@
 //! definitions over it.
 #![tactic(auto)]
 
+mod fault;
 mod parts;
-mod plain_state;
+mod plain;
 
+pub use fault::{GenesisFault, ValidatorFault};
 pub use parts::{Clock, Eth1, Finality, History, Pending, Registry};
-pub use plain_state::PlainState;
+pub use plain::PlainState;
