@@ -1,0 +1,44 @@
+-- Epochs, active validators and totals of a state (beacon-chain.md, "Helper functions").
+use Rattle.std.specs.Prelude.{ℕ, zero, suc, ◌-◌, ◌/◌, ◌^◌, max, Bool, ◌&&◌, List, [], ◌∷◌, map, sum, leb, nat_lt, if◌then◌else◌}
+use Rattle.bc_words.specs.Outcome.{Outcome, done, refused}
+use Rattle.bc_words.specs.declared.refusal.Refusal.TheVariants.{Overflow}
+use Rattle.beacon_types.specs.declared.validator.Validator.{Validator}
+use Rattle.spec_state.specs.declared.plain.PlainState.{PlainState}
+
+-- get_current_epoch
+unfoldable pub current_epoch : PlainState → ℕ
+current_epoch s = s.slot / s.preset.slots_per_epoch
+
+-- get_previous_epoch: at epoch 0 it is epoch 0
+unfoldable pub previous_epoch : PlainState → ℕ
+previous_epoch s = current_epoch s - 1
+
+-- is_active_validator
+unfoldable pub is_active : ℕ → Validator → Bool
+is_active epoch v = leb v.activation_epoch epoch && nat_lt epoch v.exit_epoch
+
+-- the indices of the validators that pass a test, in order, where the first has the index
+unfoldable pub indices_from : (Validator → Bool) → ℕ → List Validator → List ℕ
+indices_from test index [] = []
+indices_from test index (v ∷ validators) =
+    if test v then index ∷ indices_from test (suc index) validators else indices_from test (suc index) validators
+
+-- get_active_validator_indices
+unfoldable pub active_indices : PlainState → ℕ → List ℕ
+active_indices s epoch = indices_from (is_active epoch) 0 s.validators
+
+-- the effective balance of the validator with an index
+unfoldable pub effective_balance : List Validator → ℕ → ℕ
+effective_balance [] index = 0
+effective_balance (v ∷ validators) zero = v.effective_balance
+effective_balance (v ∷ validators) (suc index) = effective_balance validators index
+
+-- get_total_balance: at least one increment, and refused where the sum does not fit in a uint64
+unfoldable pub total_balance : PlainState → List ℕ → Outcome ℕ
+total_balance s indices =
+    let balances = sum (map (effective_balance s.validators) indices) in
+    if nat_lt balances (2 ^ 64) then done (max s.preset.effective_balance_increment balances) else refused Overflow
+
+-- get_total_active_balance
+unfoldable pub total_active_balance : PlainState → Outcome ℕ
+total_active_balance s = total_balance s (active_indices s (current_epoch s))
