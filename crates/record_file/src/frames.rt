@@ -6,7 +6,7 @@ ghost use Rattle.record_file.specs.Record.{fault_event, magic};
 ghost use Rattle.std.specs.Str.{bytes_eq};
 ghost use Rattle.record_file.specs.Stops.{StopsBy};
 ghost use Rattle.record_file.specs.declared.fault.FrameStop.TheVariants.{Fault};
-ghost use Rattle.record_file.specs.Frames.{unread_file, to_come, Gives, Moves, Begins, IfStopped};
+ghost use Rattle.record_file.specs.Frames.{unread_file, to_come, Gives, Moves, Begins, IsPlace, IfStopped};
 ghost use Rattle.record_file.specs.declared.status.Status.TheVariants.{AtMagic, AtFrame};
 
 use crate::buffer::Buffer;
@@ -54,7 +54,8 @@ impl Frames {
 
     /// How many events were read so far.
     pub fn events(&self) -> u32
-        ensures { result ≡ self.now.events }
+        ensures count { result ≡ self.now.events }
+        ensures place { IsPlace self.now.status self.now.events }
     {
         self.events
     }
