@@ -1,2 +1,4 @@
 pub mod Takes
 pub mod Wrote
+pub mod Held
+pub mod Shelved

@@ -6,11 +6,18 @@
 //! and record stand above.
 #![tactic(auto)]
 
+mod disk;
+mod memory_shelf;
+mod memory_sink;
+mod patience;
 mod shelf;
 mod sink;
 mod trouble;
 mod whole;
 
+pub use disk::{DiskShelf, StdSink};
+pub use memory_shelf::{AskedName, MemoryFile, MemoryShelf};
+pub use memory_sink::MemorySink;
 pub use shelf::Shelf;
 pub use sink::Sink;
 pub use trouble::Trouble;

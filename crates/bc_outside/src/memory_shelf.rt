@@ -1,0 +1,321 @@
+//! A shelf whose files lie in memory. It tells everything, and fails where it is told to.
+
+ghost use Rattle.std.specs.Prelude.{◌≡◌, ◌<◌, ◌≤◌, min, ◌+◌, ◌^◌, ◌++◌, ℕ, List, [], ◌∷◌, Bool, true, false, length, take, drop, Option, Some, None, IfSome, IsSome, option_map, string_bytes, IfOk, IfErr, IsErr};
+ghost use Rattle.bc_outside.specs.Told.{FileTold, left_in, with_taken};
+ghost use Rattle.bc_outside.specs.Calls.{FailsOnlyBy, Opens, Reads};
+ghost use Rattle.bc_outside.specs.declared.trouble.Trouble.TheVariants.{Failed, NoMemory};
+ghost use Rattle.bc_outside.specs.Memory.{counted, is_failing, NamedFile, MemoryFiles, held_in, is_listed, is_reliable, told_by, unopened, OpensIn, ReadsIn};
+
+use crate::{Shelf, Trouble};
+use std::alloc::{AllocError, Global};
+use std::marker::Model;
+
+/// A file under a name.
+#[derive(Debug, Drop)]
+pub struct MemoryFile {
+    name: String,
+    bytes: Vec<u8>,
+}
+
+impl Model for MemoryFile {
+    ghost Value = { NamedFile };
+
+    ghost view = { λ file. record { name = string_bytes file.name; bytes = file.bytes.items } };
+}
+
+impl MemoryFile {
+    /// A file with these bytes under this name.
+    pub fn new(name: String, bytes: Vec<u8>) -> Self
+        ensures { result ≡ record { name = string_bytes name; bytes = bytes.items } }
+    {
+        MemoryFile { name, bytes }
+    }
+
+    fn name(&self) -> &str
+        ensures { result.now ≡ self.now.name }
+    {
+        self.name.as_str()
+    }
+
+    fn bytes(&self) -> &[u8]
+        ensures { result.now ≡ self.now.bytes }
+    {
+        &self.bytes
+    }
+}
+
+/// The name of a file that was asked for.
+#[derive(Debug, Drop)]
+pub struct AskedName {
+    bytes: Vec<u8>,
+}
+
+impl Model for AskedName {
+    ghost Value = { List ℕ };
+
+    ghost view = { λ name. name.bytes.items };
+}
+
+impl AskedName {
+    fn new(alloc: Global, name: &str) -> Result<Self, AllocError>
+        ensures { IfOk result (λ asked. asked ≡ name.now) }
+    {
+        let bytes = Vec::from_slice(alloc, name.as_bytes())?;
+        Ok(AskedName { bytes })
+    }
+
+    /// The bytes of the name.
+    pub fn as_bytes(&self) -> &[u8]
+        ensures { result.now ≡ self.now }
+    {
+        &self.bytes
+    }
+}
+
+// A file that was opened, with its place.
+#[derive(Debug, Drop)]
+struct OpenFile {
+    bytes: Vec<u8>,
+    taken: usize,
+}
+
+impl Model for OpenFile {
+    ghost Value = { FileTold };
+
+    ghost view = { λ file. record { bytes = file.bytes.items; taken = file.taken } };
+
+    ghost invariant = { λ file. file.taken ≤ length file.bytes.items };
+}
+
+impl OpenFile {
+    fn new(alloc: Global, bytes: &[u8]) -> Result<Self, AllocError>
+        ensures { IfOk result (λ file. file ≡ record { bytes = bytes.now; taken = 0 }) }
+    {
+        Ok(OpenFile {
+            bytes: Vec::from_slice(alloc, bytes)?,
+            taken: 0,
+        })
+    }
+
+    // Takes the next bytes into the front of a piece, at most `greatest`.
+    fn take_into(&mut self, into: &mut [u8], greatest: usize) -> usize
+        ensures file { self.new ≡ record self.old { taken = self.old.taken + result } }
+        ensures count { result ≡ min (min greatest (length into.old)) (length (drop self.old.taken self.old.bytes)) }
+        ensures bytes { into.new ≡ take result (drop self.old.taken self.old.bytes) ++ drop result into.old }
+    {
+        let left = &self.bytes[self.taken..];
+        let n = greatest.min(into.len()).min(left.len());
+        into[..n].copy_from_slice(&left[..n]);
+        self.taken += n;
+        n
+    }
+}
+
+// The bytes under a name.
+fn find<'a>(files: &'a [MemoryFile], name: &str) -> Option<&'a [u8]>
+    ensures { held_in files.now name.now ≡ option_map (λ bytes. bytes.now) result }
+{
+    for file in files {
+        if file.name() == name {
+            return Some(file.bytes());
+        }
+    }
+    None
+}
+
+// Whether the number is in the list.
+pub(crate) fn is_listed(numbers: &[u64], number: u64) -> bool
+    ensures { result ≡ is_listed numbers.now number }
+{
+    for n in numbers {
+        if *n == number {
+            return true;
+        }
+    }
+    false
+}
+
+/// Files in memory. Of each file that is opened it makes a copy with a place of its own.
+#[derive(Debug, Drop)]
+pub struct MemoryShelf {
+    alloc: Global,
+    files: Vec<MemoryFile>,
+    opened: Vec<OpenFile>,
+    asked: Vec<AskedName>,
+    // The numbers of the calls that are to fail, where calls count from 1.
+    failing: Vec<u64>,
+    // How many bytes a call hands out at most.
+    greatest: usize,
+    calls: u64,
+    faults: u64,
+}
+
+impl Model for MemoryShelf {
+    ghost Value = { MemoryFiles };
+
+    ghost view = { λ shelf. record { files = shelf.files.items; opened = shelf.opened.items; asked = shelf.asked.items; failing = shelf.failing.items; greatest = shelf.greatest; calls = shelf.calls; faults = shelf.faults } };
+
+    ghost invariant = { λ shelf. 1 ≤ shelf.greatest };
+}
+
+impl MemoryShelf {
+    /// A shelf with these files, of which the first one under a name counts. The calls with these numbers fail, where
+    /// `open` and `read` are counted together from 1, and a call hands out at most `greatest` bytes.
+    pub fn new(alloc: Global, files: Vec<MemoryFile>, failing: Vec<u64>, greatest: usize) -> Self
+        requires { 1 ≤ greatest }
+        ensures { result ≡ unopened files.items failing.items greatest }
+    {
+        MemoryShelf {
+            alloc,
+            files,
+            opened: Vec::new(alloc),
+            asked: Vec::new(alloc),
+            failing,
+            greatest,
+            calls: 0,
+            faults: 0,
+        }
+    }
+
+    /// How many faults it has counted.
+    pub fn faults(&self) -> u64
+        ensures { result ≡ self.now.faults }
+    {
+        self.faults
+    }
+
+    /// How often `open` and `read` were called.
+    pub fn calls(&self) -> u64
+        ensures { result ≡ self.now.calls }
+    {
+        self.calls
+    }
+
+    /// The names that were asked for, in order, those that could not be opened included.
+    pub fn asked(&self) -> &[AskedName]
+        ensures { result.now ≡ self.now.asked }
+    {
+        &self.asked
+    }
+
+    // Whether the next call is to fail.
+    fn is_failing(&self) -> bool
+        ensures { result ≡ is_failing self.now.failing self.now.calls }
+    {
+        is_listed(&self.failing, self.calls.saturating_add(1))
+    }
+
+    // Counts a call that failed.
+    fn count_fault(&mut self)
+        ensures { self.new ≡ record self.old { calls = counted self.old.calls; faults = counted self.old.faults } }
+    {
+        self.calls = self.calls.saturating_add(1);
+        self.faults = self.faults.saturating_add(1);
+    }
+
+    // Asks for a name that can't be opened.
+    fn refuse(&mut self, name: &str) -> Result<u32, Trouble>
+        ensures failed { IfErr result (λ trouble. trouble ≡ Failed → self.new ≡ record self.old { asked = self.old.asked ++ name.now ∷ []; calls = counted self.old.calls; faults = counted self.old.faults }) }
+        ensures memory { IfErr result (λ trouble. trouble ≡ NoMemory → self.new ≡ self.old) }
+        ensures err { IsErr result }
+    {
+        self.asked.push(AskedName::new(self.alloc, name)?)?;
+        self.calls = self.calls.saturating_add(1);
+        self.faults = self.faults.saturating_add(1);
+        Err(Trouble::Failed)
+    }
+
+    // Opens a file with these bytes.
+    fn admit(&mut self, name: &str, file: OpenFile) -> Result<u32, Trouble>
+        requires { length self.old.opened < 2 ^ 32 }
+        ensures ok { IfOk result (λ n. (n ≡ length self.old.opened) × (self.new ≡ record self.old { opened = self.old.opened ++ file ∷ []; asked = self.old.asked ++ name.now ∷ []; calls = counted self.old.calls })) }
+        ensures err { IfErr result (λ trouble. (trouble ≡ NoMemory) × (self.new ≡ self.old)) }
+    {
+        let asked = AskedName::new(self.alloc, name)?;
+        let number = self.opened.len() as u32;
+        self.asked.reserve(1)?;
+        self.opened.reserve(1)?;
+        self.asked.push_reserved(asked);
+        self.opened.push_reserved(file);
+        self.calls = self.calls.saturating_add(1);
+        Ok(number)
+    }
+
+    // Opens the file under a name.
+    fn open_file(&mut self, name: &str) -> Result<u32, Trouble>
+        requires { length self.old.opened < 2 ^ 32 }
+        ensures exact { OpensIn name.now result self.old self.new }
+        ensures fits { self.old.faults < 2 ^ 64 }
+    {
+        let _faults = self.faults;
+        if self.is_failing() {
+            return self.refuse(name);
+        }
+        match find(&self.files, name) {
+            Some(bytes) => {
+                let file = OpenFile::new(self.alloc, bytes)?;
+                self.admit(name, file)
+            }
+            None => self.refuse(name),
+        }
+    }
+
+    // Reads from the place of an opened file.
+    fn read_file(&mut self, file: u32, into: &mut [u8]) -> Result<usize, Trouble>
+        requires { file < length self.old.opened }
+        ensures exact { IfSome (left_in self.old.opened file) (λ left. ReadsIn file into.old into.new result left self.old self.new) }
+        ensures fits { self.old.faults < 2 ^ 64 }
+        ensures greatest { 1 ≤ self.old.greatest }
+    {
+        let _faults = self.faults;
+        if self.is_failing() {
+            self.count_fault();
+            return Err(Trouble::Failed);
+        }
+        let greatest = self.greatest;
+        self.calls = self.calls.saturating_add(1);
+        Ok(take_from(&mut self.opened, file as usize, into, greatest))
+    }
+}
+
+impl Shelf for MemoryShelf {
+    ghost opened = { λ shelf. length shelf.opened };
+
+    ghost faults = { λ shelf. shelf.faults };
+
+    ghost told = { λ shelf. Some (told_by shelf) };
+
+    ghost reliable = { λ shelf. is_reliable shelf.failing };
+
+    fn open(&mut self, name: &str) -> Result<u32, Trouble>
+        requires { length self.old.opened < 2 ^ 32 }
+        ensures exact { OpensIn name.now result self.old self.new }
+        ensures opens { Opens name.now result (length self.old.opened) (length self.new.opened) (Some (told_by self.old)) (Some (told_by self.new)) }
+        ensures faults { FailsOnlyBy result self.old.faults self.new.faults }
+        ensures reliable { is_reliable self.new.failing ≡ is_reliable self.old.failing }
+        ensures steady { is_reliable self.old.failing ≡ true → IsSome (held_in self.old.files name.now) → self.new.faults ≡ self.old.faults }
+    {
+        self.open_file(name)
+    }
+
+    fn read(&mut self, file: u32, into: &mut [u8]) -> Result<usize, Trouble>
+        requires { file < length self.old.opened }
+        ensures exact { IfSome (left_in self.old.opened file) (λ left. ReadsIn file into.old into.new result left self.old self.new) }
+        ensures reads { Reads file into.old into.new result (Some (told_by self.old)) (Some (told_by self.new)) }
+        ensures opened { length self.new.opened ≡ length self.old.opened }
+        ensures faults { FailsOnlyBy result self.old.faults self.new.faults }
+        ensures reliable { is_reliable self.new.failing ≡ is_reliable self.old.failing }
+        ensures steady { is_reliable self.old.failing ≡ true → self.new.faults ≡ self.old.faults }
+    {
+        self.read_file(file, into)
+    }
+}
+
+// Takes the next bytes of an opened file into the front of a piece, at most `greatest`.
+fn take_from(opened: &mut Vec<OpenFile>, file: usize, into: &mut [u8], greatest: usize) -> usize
+    requires { file < length opened.old.items }
+    ensures files { opened.new.items ≡ with_taken opened.old.items file result }
+    ensures taken { IfSome (left_in opened.old.items file) (λ left. (result ≡ min (min greatest (length into.old)) (length left)) × (into.new ≡ take result left ++ drop result into.old)) }
+{
+    opened[file].take_into(into, greatest)
+}
