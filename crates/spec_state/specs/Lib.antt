@@ -1,5 +1,5 @@
 pub mod Heights
 pub mod States
-pub mod StateLaws
+pub mod Limits
 pub mod Genesis
 pub mod Epochs

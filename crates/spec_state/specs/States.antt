@@ -1,7 +1,8 @@
 -- The codec of the state of a preset (beacon-chain.md, "BeaconState"): its 21 fields in their order, in six rows of
 -- neighbours.
-use Rattle.std.specs.Prelude.{◌≡◌, ℕ, ◌*◌, List}
+use Rattle.std.specs.Prelude.{◌≡◌, ℕ, ◌*◌, List, Option, Some}
 use Rattle.hash_tree.specs.Merkle.{u64_chunks}
+use Rattle.ssz_codec.specs.Layout.{◌>>=◌}
 use Rattle.ssz_codec.specs.Codec.{Codec, Row, ◌&◌, ◌&&◌, ◌⊗◌, pair, only, map_row, map_row_where, container, sized}
 use Rattle.ssz_codec.specs.Basic.{number_codec, bytes32_codec, bit_vector_codec}
 use Rattle.ssz_codec.specs.Lists.{vector_codec, list_codec, variable_list_codec, root_leaves}
@@ -133,3 +134,10 @@ state_row p =
 
 unfoldable pub state_codec : Preset → Codec PlainState
 state_codec p = container 5 (state_row p)
+
+-- reading the groups, one after another, each from its own parts
+unfoldable pub parse_groups : Preset → List (List ℕ) → List (List ℕ) → List (List ℕ) → List (List ℕ) → List (List ℕ) → List (List ℕ) → Option PlainState
+parse_groups p a b c d e f =
+    clock_row.parse a >>= λ clock. (history_row p).parse b >>= λ history. (eth1_row p).parse c >>= λ eth1.
+    (registry_row p).parse d >>= λ registry. (pending_row p).parse e >>= λ pending. finality_row.parse f >>= λ finality.
+    Some (state_of p clock history eth1 registry pending finality)
