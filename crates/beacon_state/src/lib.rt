@@ -1,0 +1,9 @@
+//! The state of the beacon chain: reading it, its root, and whether it begins a chain.
+//!
+//! Bytes come from the genesis file; contracts see a `State` as the plain record of its 21 fields and its preset.
+#![tactic(auto)]
+
+mod groups;
+mod state;
+
+pub use state::State;
