@@ -6,9 +6,7 @@ ghost use Rattle.spec_state.specs.States.{clock_row, history_row, eth1_row, regi
 ghost use Rattle.bc_preset.specs.Presets.{IsPreset};
 
 use bc_preset::Preset;
-use beacon_types::{
-    BeaconBlockHeader, Checkpoint, Eth1Data, Fork, PendingAttestation, Validator,
-};
+use beacon_types::{BeaconBlockHeader, Checkpoint, Eth1Data, Fork, PendingAttestation, Validator};
 use hash_tree::Root;
 use spec_state::{Clock, Eth1, Finality, History, Pending, PlainState, Registry};
 use ssz_codec::{Ssz, SszFault, read_items, read_list, read_variable_list};
@@ -37,11 +35,7 @@ fn read_clock(alloc: Global, parts: &[&[u8]]) -> Result<Clock, SszFault>
 }
 
 #[tactic(auto, unfolding(spec_state::specs::States::history_row))]
-fn read_history(
-    alloc: Global,
-    preset: &Preset,
-    parts: &[&[u8]],
-) -> Result<History, SszFault>
+fn read_history(alloc: Global, preset: &Preset, parts: &[&[u8]]) -> Result<History, SszFault>
     ensures { Gives result ((history_row preset.now).parse (map (λ part. part.now) parts.now)) }
 {
     let count = preset.slots_per_historical_root as usize;
@@ -77,11 +71,7 @@ fn read_eth1(alloc: Global, preset: &Preset, parts: &[&[u8]]) -> Result<Eth1, Ss
 }
 
 #[tactic(auto, unfolding(spec_state::specs::States::registry_row))]
-fn read_registry(
-    alloc: Global,
-    preset: &Preset,
-    parts: &[&[u8]],
-) -> Result<Registry, SszFault>
+fn read_registry(alloc: Global, preset: &Preset, parts: &[&[u8]]) -> Result<Registry, SszFault>
     ensures { Gives result ((registry_row preset.now).parse (map (λ part. part.now) parts.now)) }
 {
     let limit = preset.validator_registry_limit;
@@ -99,11 +89,7 @@ fn read_registry(
 }
 
 #[tactic(auto, unfolding(spec_state::specs::States::pending_row))]
-fn read_pending(
-    alloc: Global,
-    preset: &Preset,
-    parts: &[&[u8]],
-) -> Result<Pending, SszFault>
+fn read_pending(alloc: Global, preset: &Preset, parts: &[&[u8]]) -> Result<Pending, SszFault>
     requires { IsPreset preset.now }
     ensures { Gives result ((pending_row preset.now).parse (map (λ part. part.now) parts.now)) }
 {
@@ -148,4 +134,120 @@ fn attestations_limit_of(preset: &Preset) -> u64
     ensures { result ≡ attestations_limit preset.now }
 {
     preset.max_attestations * preset.slots_per_epoch
+}
+
+/// The state of these groups.
+fn plain_state(
+    preset: &Preset,
+    clock: Clock,
+    history: History,
+    eth1: Eth1,
+    registry: Registry,
+    pending: Pending,
+    finality: Finality,
+) -> PlainState
+    ensures { result ≡ state_of preset.now clock history eth1 registry pending finality }
+{
+    let preset = *preset;
+    let Clock {
+        genesis_time,
+        genesis_validators_root,
+        slot,
+        fork,
+        latest_block_header,
+    } = clock;
+    let History {
+        block_roots,
+        state_roots,
+        historical_roots,
+    } = history;
+    let Eth1 {
+        eth1_data,
+        eth1_data_votes,
+        eth1_deposit_index,
+    } = eth1;
+    let Registry {
+        validators,
+        balances,
+        randao_mixes,
+        slashings,
+    } = registry;
+    let Pending {
+        previous_epoch_attestations,
+        current_epoch_attestations,
+    } = pending;
+    let Finality {
+        justification_bits,
+        previous_justified_checkpoint,
+        current_justified_checkpoint,
+        finalized_checkpoint,
+    } = finality;
+    PlainState {
+        preset,
+        genesis_time,
+        genesis_validators_root,
+        slot,
+        fork,
+        latest_block_header,
+        block_roots,
+        state_roots,
+        historical_roots,
+        eth1_data,
+        eth1_data_votes,
+        eth1_deposit_index,
+        validators,
+        balances,
+        randao_mixes,
+        slashings,
+        previous_epoch_attestations,
+        current_epoch_attestations,
+        justification_bits,
+        previous_justified_checkpoint,
+        current_justified_checkpoint,
+        finalized_checkpoint,
+    }
+}
+
+/// Reads the groups, each from its own parts.
+#[tactic(auto, unfolding(spec_state::specs::States::parse_groups))]
+fn read_groups(
+    alloc: Global,
+    preset: &Preset,
+    clock: &[&[u8]],
+    history: &[&[u8]],
+    eth1: &[&[u8]],
+    registry: &[&[u8]],
+    pending: &[&[u8]],
+    finality: &[&[u8]],
+) -> Result<PlainState, SszFault>
+    requires { IsPreset preset.now }
+    ensures { Gives result (parse_groups preset.now (map (λ part. part.now) clock.now) (map (λ part. part.now) history.now) (map (λ part. part.now) eth1.now) (map (λ part. part.now) registry.now) (map (λ part. part.now) pending.now) (map (λ part. part.now) finality.now)) }
+{
+    let clock = read_clock(alloc, clock)?;
+    let history = read_history(alloc, preset, history)?;
+    let eth1 = read_eth1(alloc, preset, eth1)?;
+    let registry = read_registry(alloc, preset, registry)?;
+    let pending = read_pending(alloc, preset, pending)?;
+    let finality = read_finality(alloc, finality)?;
+    Ok(plain_state(preset, clock, history, eth1, registry, pending, finality))
+}
+
+/// Reads the fields of a state from its 21 parts.
+pub(crate) fn read_fields(
+    alloc: Global,
+    preset: &Preset,
+    parts: &[&[u8]],
+) -> Result<PlainState, SszFault>
+    requires preset { IsPreset preset.now }
+    requires count { length parts.now ≡ 21 }
+    ensures { Gives result ((state_row preset.now).parse (map (λ part. part.now) parts.now)) }
+{
+    let (clock, parts) = parts.split_at(5);
+    let (history, parts) = parts.split_at(3);
+    let (eth1, parts) = parts.split_at(3);
+    let (registry, parts) = parts.split_at(4);
+    let (pending, finality) = parts.split_at(2);
+    read_groups(
+        alloc, preset, clock, history, eth1, registry, pending, finality,
+    )
 }
