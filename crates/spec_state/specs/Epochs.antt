@@ -1,7 +1,8 @@
 -- Epochs, active validators and totals of a state (beacon-chain.md, "Helper functions").
-use Rattle.std.specs.Prelude.{ℕ, zero, suc, ◌-◌, ◌/◌, ◌^◌, max, Bool, ◌&&◌, List, [], ◌∷◌, map, sum, leb, nat_lt, if◌then◌else◌}
+use Rattle.std.specs.Prelude.{ℕ, zero, suc, ◌-◌, ◌/◌, ◌^◌, max, Bool, ◌&&◌, List, [], ◌∷◌, sum_by, leb, nat_lt, if◌then◌else◌}
 use Rattle.bc_words.specs.Outcome.{Outcome, done, refused}
 use Rattle.bc_words.specs.declared.refusal.Refusal.TheVariants.{Overflow}
+use Rattle.bc_preset.specs.declared.presets.Preset.{Preset}
 use Rattle.beacon_types.specs.declared.validator.Validator.{Validator}
 use Rattle.spec_state.specs.declared.plain.PlainState.{PlainState}
 
@@ -24,8 +25,8 @@ indices_from test index (v ∷ validators) =
     if test v then index ∷ indices_from test (suc index) validators else indices_from test (suc index) validators
 
 -- get_active_validator_indices
-unfoldable pub active_indices : PlainState → ℕ → List ℕ
-active_indices s epoch = indices_from (is_active epoch) 0 s.validators
+unfoldable pub active_indices : List Validator → ℕ → List ℕ
+active_indices validators epoch = indices_from (is_active epoch) 0 validators
 
 -- the effective balance of the validator with an index
 unfoldable pub effective_balance : List Validator → ℕ → ℕ
@@ -34,11 +35,11 @@ effective_balance (v ∷ validators) zero = v.effective_balance
 effective_balance (v ∷ validators) (suc index) = effective_balance validators index
 
 -- get_total_balance: at least one increment, and refused where the sum does not fit in a uint64
-unfoldable pub total_balance : PlainState → List ℕ → Outcome ℕ
-total_balance s indices =
-    let balances = sum (map (effective_balance s.validators) indices) in
-    if nat_lt balances (2 ^ 64) then done (max s.preset.effective_balance_increment balances) else refused Overflow
+unfoldable pub total_balance : Preset → List Validator → List ℕ → Outcome ℕ
+total_balance preset validators indices =
+    let balances : ℕ = sum_by (effective_balance validators) indices in
+    if nat_lt balances (2 ^ 64) then done (max preset.effective_balance_increment balances) else refused Overflow
 
--- get_total_active_balance
-unfoldable pub total_active_balance : PlainState → Outcome ℕ
-total_active_balance s = total_balance s (active_indices s (current_epoch s))
+-- get_total_active_balance, at any epoch
+unfoldable pub total_active_balance : Preset → List Validator → ℕ → Outcome ℕ
+total_active_balance preset validators epoch = total_balance preset validators (active_indices validators epoch)
