@@ -1,0 +1,114 @@
+-- The parts into which a list of members is cut.
+use Rattle.std.proofs.Common.{◌≡◌, ℕ, zero, suc, ◌+◌, ◌-◌, ◌*◌, ◌/◌, ◌<◌, ◌≤◌, List, [], ◌∷◌, length, take, drop, map, get_or, slice_index, slice_range, slice_get, Option, Some, None, refl, sym, ap, ◌∙◌, arith, inl, inr}
+use Rattle.std.specs.List.{range_with_len}
+use Rattle.std.proofs.lemmas.Bool.{cases_lt}
+use Rattle.std.proofs.lemmas.Nat.{le-div}
+use Rattle.std.proofs.lemmas.Option.{slice_get-get_or, slice_get_past}
+use Rattle.std.proofs.lemmas.List.FromFn.{length-map-range_with_len, get_or-map-range_with_len, take-map-range_with_len, fill_by_all}
+use Rattle.std.proofs.Math.Nat.{div-mul-le_self, zero-div, mul-div_cancel, mul-le-mul_left, one-le-mul}
+use Rattle.bc_preset.specs.declared.presets.Preset.{Preset}
+use Rattle.bc_preset.specs.Presets.{IsPreset}
+use Rattle.bc_preset.proofs.Bounds.{preset_bounds}
+use Rattle.shuffling.specs.Shuffling.{shuffled_place, shuffled_list}
+use Rattle.committees.specs.Committees.{Committees, committees_of, committees_per_slot, first_place, compute_committee, cut, cut_for}
+
+module _ (members count : ℕ) (some : 0 < count) where
+  pub first_monotone : (k later : ℕ) → k ≤ later → first_place members count k ≤ first_place members count later
+  unfolding first_place
+  first_monotone k later order =
+      le-div _ (members * later) count some (omega (arith, div-mul-le_self (members * k) count, mul-le-mul_left members order))
+
+  pub first_zero : first_place members count 0 ≡ 0
+  unfolding first_place
+  first_zero = let e : members * 0 ≡ 0 = omega arith in rw e (zero-div count)
+
+  pub first_all : first_place members count count ≡ members
+  unfolding first_place
+  first_all = mul-div_cancel members some
+
+  pub first_within : (k : ℕ) → k ≤ count → first_place members count k ≤ members
+  first_within k order = omega (arith, first_monotone k count order, first_all)
+
+-- what the code computes fits, and lies within the list
+pub first_fits : (members count k : ℕ) → 0 < count → k ≤ count → members * k / count ≤ members
+unfolding first_place
+first_fits members count k some order = first_within members count some k order
+
+-- the part in which a place lies
+pub part_of : (first : ℕ → ℕ) (count place : ℕ) → first 0 ≤ place → place < first count → (k : ℕ) × (k < count) × (first k ≤ place) × (place < first (suc k))
+part_of first zero place low high = absurd (omega arith)
+part_of first (suc count) place low high = elim (cases_lt place (first count)) [
+  | inl less ↦ let p = part_of first count place low less in (p.0, omega (arith, p.1), p.2, p.3)
+  | inr more ↦ (count, omega arith, more, high)
+]
+
+drop_range : {X : Type 0} (f : ℕ → X) (a n k : ℕ) → drop k (map f (range_with_len a n)) ≡ map f (range_with_len (a + k) (n - k))
+drop_range f a n zero =
+    let e : a + 0 ≡ a = omega arith in
+    let m : n - 0 ≡ n = omega arith in
+    rw (e, m) refl
+drop_range f a zero (suc k) = let m : 0 - suc k ≡ 0 = omega arith in rw m refl
+drop_range f a (suc n) (suc k) =
+    let e : a + 1 + k ≡ a + suc k = omega arith in
+    let m : n - k ≡ suc n - suc k = omega arith in
+    rw (← e, ← m) (drop_range f (a + 1) n k)
+
+pub range_of_range : {X : Type 0} (f : ℕ → X) (n low high : ℕ) → low ≤ high → high ≤ n → slice_range (map f (range_with_len 0 n)) low high ≡ map f (range_with_len low (high - low))
+range_of_range f n low high order within =
+    let e : 0 + low ≡ low = omega arith in
+    rw (drop_range f 0 n low, e) (take-map-range_with_len f low (n - low) (high - low) (omega arith))
+
+abbrev with_all : ℕ → ℕ → List (List ℕ) → Committees
+with_all per_slot slots all = record { per_slot = per_slot; slots = slots; all = all }
+
+module _ (active seed : List ℕ) (rounds : ℕ) where
+  shuffled_length : length (shuffled_list seed rounds active) ≡ length active
+  unfolding shuffled_list
+  shuffled_length = length-map-range_with_len _ 0 (length active)
+
+module _ (active seed : List ℕ) (rounds count : ℕ) (some : 0 < count) where
+  part_is : (k : ℕ) → k < count → slice_range (shuffled_list seed rounds active) (first_place (length active) count k) (first_place (length active) count (k + 1)) ≡ compute_committee active seed rounds k count
+  unfolding shuffled_list compute_committee
+  part_is k less =
+      range_of_range (λ place. slice_index active (shuffled_place seed rounds (length active) place)) (length active) _ _
+      (first_monotone (length active) count some k (k + 1) (omega arith))
+      (first_within (length active) count some (k + 1) (omega arith))
+
+  -- the shuffled list, cut, is the committees
+  pub cut_is : cut (shuffled_list seed rounds active) count ≡ map (λ k. compute_committee active seed rounds k count) (range_with_len 0 count)
+  unfolding cut
+  cut_is =
+      rw (shuffled_length active seed rounds) (fill_by_all (λ k. compute_committee active seed rounds k count) _ count []
+      (length-map-range_with_len _ 0 count)
+      (λ k less. get_or-map-range_with_len _ 0 count k k [] less (omega arith) ∙ part_is k less))
+
+-- what a list of committees is made of, where the code keeps it as one list
+pub whole_is : (preset : Preset) (seed active members : List ℕ) (per_slot : ℕ) → per_slot ≡ committees_per_slot preset (length active) → members ≡ shuffled_list seed preset.shuffle_round_count active → 1 ≤ per_slot → 1 ≤ preset.slots_per_epoch → cut_for per_slot preset.slots_per_epoch members ≡ committees_of preset seed active
+unfolding committees_of
+whole_is preset seed active members per_slot per_slot_is members_is some slots =
+    rw (members_is, ← per_slot_is)
+    (ap (with_all per_slot preset.slots_per_epoch)
+    (cut_is active seed preset.shuffle_round_count (per_slot * preset.slots_per_epoch) (one-le-mul some slots)))
+
+pub shuffled_fits : (seed active members : List ℕ) (rounds : ℕ) → members ≡ shuffled_list seed rounds active → length members ≡ length active
+shuffled_fits seed active members rounds is = ap length is ∙ shuffled_length active seed rounds
+
+module _ (members : List ℕ) (count : ℕ) where
+  cut_length : length (cut members count) ≡ count
+  unfolding cut
+  cut_length = length-map-range_with_len _ 0 count
+
+  pub at_past : (k : ℕ) → count ≤ k → slice_get (cut members count) k ≡ None
+  at_past k past = slice_get_past (cut members count) k (omega (arith, cut_length))
+
+  cut_at : (k : ℕ) → k < count → get_or (cut members count) k [] ≡ slice_range members (first_place (length members) count k) (first_place (length members) count (k + 1))
+  unfolding cut
+  cut_at k less = get_or-map-range_with_len _ 0 count k k [] less (omega arith)
+
+  pub at_part : (k : ℕ) → k < count → slice_get (cut members count) k ≡ Some (slice_range members (first_place (length members) count k) (first_place (length members) count (k + 1)))
+  at_part k less = slice_get-get_or (cut members count) k [] (omega (arith, cut_length)) ∙ ap Some (cut_at k less)
+
+-- an epoch has a committee
+pub some_committees : (preset : Preset) (active : ℕ) → IsPreset preset → 0 < committees_per_slot preset active * preset.slots_per_epoch
+unfolding committees_per_slot
+some_committees preset active is = one-le-mul (omega arith) (omega (arith, (preset_bounds preset is).least_slots_per_epoch))

@@ -1,0 +1,55 @@
+//! A state for tests: every balance is the same, and each byte of a mix is its place.
+
+ghost use Rattle.std.specs.Prelude.{◌≡◌, ◌%◌, replicate};
+ghost use Rattle.bc_preset.specs.Presets.{IsPreset};
+
+use crate::lookup::Lookup;
+use bc_preset::Preset;
+use hash_tree::Root;
+
+#[derive(Drop)]
+pub struct SmallState {
+    pub preset: Preset,
+    pub registry: u64,
+    pub balance: u64,
+    ghost is_preset: { IsPreset preset },
+}
+
+impl SmallState {
+    pub fn new(preset: Preset, registry: u64, balance: u64) -> SmallState
+        requires { IsPreset preset }
+        ensures { result.registry ≡ registry }
+    {
+        SmallState {
+            preset,
+            registry,
+            balance,
+        }
+    }
+}
+
+impl Lookup for SmallState {
+    ghost preset_of = { λ s. s.preset };
+
+    ghost mix_at = { λ _ place. replicate 32 (place % 256) };
+
+    ghost effective_at = { λ s _. s.balance };
+
+    ghost registry_of = { λ s. s.registry };
+
+    fn preset(&self) -> &Preset {
+        &self.preset
+    }
+
+    fn mix(&self, place: u64) -> Root {
+        [(place % 256) as u8; 32]
+    }
+
+    fn registry(&self) -> u64 {
+        self.registry
+    }
+
+    fn effective(&self, _index: u64) -> u64 {
+        self.balance
+    }
+}
