@@ -45,6 +45,11 @@ pub same_test : (given preset : Preset) (effective : ℕ → ℕ) (active seed :
 unfolding candidate_passes
 same_test given preset effective active seed i index balance byte p c b r = rw (r, b, c, p) refl
 
+-- what the test of candidate i says, from the same
+pub test_is : (given preset : Preset) (effective : ℕ → ℕ) (active seed : List ℕ) (i index balance byte : ℕ) (said want : Bool) → given ≡ preset → index ≡ candidate given active seed i → balance ≡ effective index → byte ≡ random_byte seed i → passes given balance byte ≡ done said → said ≡ want → candidate_passes preset effective active seed i ≡ done want
+test_is given preset effective active seed i index balance byte said want p c b r passed is =
+    rw (← same_test given preset effective active seed i index balance byte p c b r, passed, is) refl
+
 module _ (preset : Preset) (effective : ℕ → ℕ) (active seed : List ℕ) (bound i : ℕ) (some : 0 < length active) where
   abbrev test : ℕ → Outcome Bool
   test = candidate_passes preset effective active seed
@@ -52,8 +57,9 @@ module _ (preset : Preset) (effective : ℕ → ℕ) (active seed : List ℕ) (b
   abbrev named : ℕ → ℕ
   named = candidate preset active seed
 
-  pub found : first_passing test named (range_with_len 0 bound) ≡ from_here test named bound i → i < bound → test i ≡ done true → proposer preset effective active seed bound ≡ done (named i)
-  found kept less is = begins preset effective active seed bound some ∙ (kept ∙ passes_here test named bound i less is)
+  pub found : first_passing test named (range_with_len 0 bound) ≡ from_here test named bound i → i < bound → test i ≡ done true → (given : Preset) (index : ℕ) → given ≡ preset → index ≡ candidate given active seed i → proposer preset effective active seed bound ≡ done index
+  found kept less is given index p c =
+      rw (begins preset effective active seed bound some, kept, passes_here test named bound i less is, c, p) refl
 
   pub stopped : (stop : Stop) → first_passing test named (range_with_len 0 bound) ≡ from_here test named bound i → i < bound → StopsExactly stop (test i) → StopsExactly stop (proposer preset effective active seed bound)
   stopped stop kept less is = rw (begins preset effective active seed bound some, kept) (stops_here test named bound i stop less is)

@@ -6,19 +6,31 @@ ghost use Rattle.bc_preset.specs.Presets.{IsPreset};
 use crate::lookup::Lookup;
 use bc_preset::Preset;
 use hash_tree::Root;
+use std::marker::Model;
 
 #[derive(Drop)]
 pub struct SmallState {
-    pub preset: Preset,
-    pub registry: u64,
-    pub balance: u64,
-    ghost is_preset: { IsPreset preset },
+    preset: Preset,
+    registry: u64,
+    balance: u64,
+}
+
+impl Model for SmallState {
+    ghost use Rattle.std.specs.Prelude.{ℕ};
+    ghost use Rattle.bc_preset.specs.declared.presets.Preset.{Preset};
+    ghost use Rattle.bc_preset.specs.Presets.{IsPreset};
+
+    ghost Value = { Preset × ℕ × ℕ };
+
+    ghost view = { λ s. (s.preset, s.registry, s.balance) };
+
+    ghost invariant = { λ s. IsPreset s.preset };
 }
 
 impl SmallState {
     pub fn new(preset: Preset, registry: u64, balance: u64) -> SmallState
         requires { IsPreset preset }
-        ensures { result.registry ≡ registry }
+        ensures { result.1 ≡ registry }
     {
         SmallState {
             preset,
@@ -29,13 +41,13 @@ impl SmallState {
 }
 
 impl Lookup for SmallState {
-    ghost preset_of = { λ s. s.preset };
+    ghost preset_of = { λ s. s.0 };
 
     ghost mix_at = { λ _ place. replicate 32 (place % 256) };
 
-    ghost effective_at = { λ s _. s.balance };
+    ghost effective_at = { λ s _. s.2 };
 
-    ghost registry_of = { λ s. s.registry };
+    ghost registry_of = { λ s. s.1 };
 
     fn preset(&self) -> &Preset {
         &self.preset

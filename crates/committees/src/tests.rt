@@ -1,7 +1,6 @@
 //! Tests with expected values of a program that follows the published text line by line.
 
-ghost use Rattle.std.specs.Prelude.{◌≡◌, ◌≤◌, ◌^◌, IfOk};
-ghost use Rattle.std.specs.List.{range_with_len};
+ghost use Rattle.std.specs.Prelude.{◌≡◌, ℕ, ◌<◌, ◌≤◌, ◌^◌, length, slice_index, IfOk};
 
 use crate::epoch::EpochCommittees;
 use crate::proposer::pick_proposer;
@@ -13,9 +12,13 @@ use std::alloc::{AllocError, Global};
 use std::test::Fail;
 
 fn indices(alloc: Global, count: u64) -> Result<Vec<u64>, AllocError>
-    ensures { IfOk result (λ v. v.items ≡ range_with_len 0 count) }
+    ensures { IfOk result (λ v. (length v.items ≡ count) × ((k : ℕ) → k < count → slice_index v.items k ≡ k)) }
 {
-    (0..count).collect(alloc)
+    let mut indices = Vec::new(alloc);
+    for index in 0..count {
+        indices.push(index)?;
+    }
+    Ok(indices)
 }
 
 fn pick(
@@ -24,7 +27,7 @@ fn pick(
     count: u64,
     bound: u64,
 ) -> Result<Result<u64, Stop>, AllocError>
-    requires count { count ≤ state.now.registry }
+    requires count { count ≤ state.now.1 }
     requires fits { count ≤ 2 ^ 40 }
 {
     let active = indices(alloc, count)?;
@@ -98,8 +101,8 @@ fn proposers_pass_the_test(rt: HostRuntime) -> Result<(), Fail> {
 fn seeds_take_the_right_mix(rt: HostRuntime) {
     let small = SmallState::new(Preset::minimal(), 64, 32_000_000_000);
     let seed = seed_of(&small, 3, DOMAIN_BEACON_ATTESTER);
-    assert_eq!(rt; seed[..4], [139, 223, 194, 41]);
+    assert_eq!(rt; &seed[..4], [139, 223, 194, 41].as_slice());
     let large = SmallState::new(Preset::mainnet(), 64, 32_000_000_000);
     let seed = seed_of(&large, 0, DOMAIN_BEACON_PROPOSER);
-    assert_eq!(rt; seed[..4], [16, 21, 211, 44]);
+    assert_eq!(rt; &seed[..4], [16, 21, 211, 44].as_slice());
 }

@@ -1,5 +1,5 @@
-use Rattle.std.proofs.Common.{arith, length}
-use Rattle.committees.specs.Committees.{committees_of, committees_per_slot}
+use Rattle.std.proofs.Common.{length}
+use Rattle.committees.specs.Committees.{committees_of}
 use Rattle.committees.proofs.Parts.{some_committees}
 use Rattle.committees.proofs.Members.{stand_once}
 use Rattle.committees.proofs.epoch.members_stand_once.Goals as goal

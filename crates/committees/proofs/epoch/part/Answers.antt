@@ -1,4 +1,4 @@
-use Rattle.std.proofs.Common.{◌≡◌, ◌≤◌, ◌+◌, length, arith}
+use Rattle.std.proofs.Common.{◌+◌, length, arith}
 use Rattle.committees.proofs.Parts.{first_monotone}
 use Rattle.committees.proofs.epoch.part.Goals as goal
 

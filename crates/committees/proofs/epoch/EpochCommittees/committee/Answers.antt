@@ -1,4 +1,4 @@
-use Rattle.std.proofs.Common.{◌≡◌, ◌+◌, ◌*◌, ◌%◌, Some, ap, ◌∙◌, sym, arith}
+use Rattle.std.proofs.Common.{◌+◌, ◌*◌, ◌%◌, Some, ap, ◌∙◌, sym, arith}
 use Rattle.committees.specs.Committees.{committee_at}
 use Rattle.committees.proofs.Parts.{at_past, at_part}
 use Rattle.committees.proofs.epoch.EpochCommittees.committee.Goals as goal

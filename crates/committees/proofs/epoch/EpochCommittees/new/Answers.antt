@@ -1,4 +1,4 @@
-use Rattle.std.proofs.Common.{◌≡◌, length, arith, rules, ap, ◌∙◌}
+use Rattle.std.proofs.Common.{arith, rules, ap, ◌∙◌}
 use Rattle.committees.specs.Committees.{committees_per_slot}
 use Rattle.committees.proofs.Parts.{whole_is, shuffled_fits}
 use Rattle.committees.proofs.epoch.EpochCommittees.new.Goals as goal
