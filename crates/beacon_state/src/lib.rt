@@ -3,7 +3,9 @@
 //! Bytes come from the genesis file; contracts see a `State` as the plain record of its 21 fields and its preset.
 #![tactic(auto)]
 
+mod genesis;
 mod groups;
 mod state;
 
+pub use genesis::empty_body_root;
 pub use state::State;
