@@ -3,7 +3,7 @@
 use Rattle.std.specs.Prelude.{◌≡◌, ℕ, ◌*◌, List, Option, Some}
 use Rattle.hash_tree.specs.Merkle.{u64_chunks}
 use Rattle.ssz_codec.specs.Layout.{◌>>=◌}
-use Rattle.ssz_codec.specs.Codec.{Codec, Row, ◌&◌, ◌&&◌, ◌⊗◌, pair, only, map_row, map_row_where, container, sized}
+use Rattle.ssz_codec.specs.Codec.{Codec, Row, ◌&◌, ◌⊕◌, ◌⊗◌, pair, only, map_row, map_row_where, container, sized}
 use Rattle.ssz_codec.specs.Basic.{number_codec, bytes32_codec, bit_vector_codec}
 use Rattle.ssz_codec.specs.Lists.{vector_codec, list_codec, variable_list_codec, root_leaves}
 use Rattle.bc_preset.specs.declared.presets.Preset.{Preset}
@@ -128,7 +128,7 @@ state_of p clock history eth1 registry pending finality = record {
 -- the 21 fields of a state of the preset
 unfoldable pub state_row : Preset → Row PlainState
 state_row p =
-    map_row_where (λ s. s.preset ≡ p) (clock_row && history_row p && eth1_row p && registry_row p && pending_row p && finality_row)
+    map_row_where (λ s. s.preset ≡ p) (clock_row ⊕ history_row p ⊕ eth1_row p ⊕ registry_row p ⊕ pending_row p ⊕ finality_row)
     (λ v. state_of p v.first v.rest.first v.rest.rest.first v.rest.rest.rest.first v.rest.rest.rest.rest.first v.rest.rest.rest.rest.rest)
     groups_of
 

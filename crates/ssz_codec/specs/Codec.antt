@@ -66,9 +66,9 @@ c & r = record {
 }
 
 -- a row before a row
-infixr 20 ◌&&◌
-abbrev pub ◌&&◌ : {A B : Type 0} → Row A → Row B → Row (A ⊗ B)
-q && r = record {
+infixr 20 ◌⊕◌
+abbrev pub ◌⊕◌ : {A B : Type 0} → Row A → Row B → Row (A ⊗ B)
+q ⊕ r = record {
   fields = q.fields ++ r.fields;
   Within = λ v. q.Within v.first × r.Within v.rest;
   parts = λ v. q.parts v.first ++ r.parts v.rest;

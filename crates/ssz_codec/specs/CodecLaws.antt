@@ -5,7 +5,7 @@ use Rattle.std.proofs.lemmas.List.{take_at, drop_at, take-append-drop, length-ap
 use Rattle.ssz_codec.specs.declared.layout.Field.{Field}
 use Rattle.ssz_codec.specs.declared.layout.Field.TheVariants.{Fixed, Variable}
 use Rattle.ssz_codec.specs.Layout.{◌>>=◌, heads_len, heads, bodies, joined, OffsetsFit, cut}
-use Rattle.ssz_codec.specs.Codec.{Codec, Row, ◌⊗◌, pair, only, ◌&◌, ◌&&◌, map_row, map_row_where, and_fixed, field_of, container, sized, variable}
+use Rattle.ssz_codec.specs.Codec.{Codec, Row, ◌⊗◌, pair, only, ◌&◌, ◌⊕◌, map_row, map_row_where, and_fixed, field_of, container, sized, variable}
 use Rattle.ssz_codec.specs.Lawful.{IsBytes, HasSize, FitFields, IsLawful, IsLawfulRow}
 use Rattle.ssz_codec.specs.LayoutLaws.{bind_some, some_is, cut_is_joined, joined_is_cut, heads_is_long}
 
@@ -67,7 +67,7 @@ fit-append [] gs (p ∷ parts) more fit fit_more = elim fit [ ]
 fit-append (f ∷ fs) gs [] more fit fit_more = elim fit [ ]
 fit-append (f ∷ fs) gs (p ∷ parts) more fit fit_more = (fit.0, fit-append fs gs parts more fit.1 fit_more)
 
-pub rows_lawful : {A B : Type 0} (q : Row A) (r : Row B) → IsLawfulRow q → IsLawfulRow r → IsLawfulRow (q && r)
+pub rows_lawful : {A B : Type 0} (q : Row A) (r : Row B) → IsLawfulRow q → IsLawfulRow r → IsLawfulRow (q ⊕ r)
 rows_lawful {A = A} {B = B} q r law laws =
     let n = length q.fields in
     record {
@@ -76,7 +76,7 @@ rows_lawful {A = A} {B = B} q r law laws =
           let b = bind_some (r.parse (drop n parts)) (λ y. Some (pair a.0 y)) v a.2 in
           let h = law.sound (take n parts) a.0 (All-take n parts each) a.1 in
           let k = laws.sound (drop n parts) b.0 (All-drop n parts each) b.1 in
-          let P : A ⊗ B → Type 0 = λ w. (q && r).Within w × (parts ≡ (q && r).parts w) in
+          let P : A ⊗ B → Type 0 = λ w. (q ⊕ r).Within w × (parts ≡ (q ⊕ r).parts w) in
           subst P (some_is _ v b.2) ((h.0, k.0), sym (take-append-drop n parts) ∙ ap (λ (l : List (List ℕ)). l ++ drop n parts) h.1 ∙ ap (λ (l : List (List ℕ)). q.parts a.0 ++ l) k.1);
       complete = λ v within.
           let len = fit_len q.fields (q.parts v.first) (law.sizes v.first within.0) in
