@@ -120,7 +120,7 @@ fn read_finality(alloc: Global, parts: &[&[u8]]) -> Result<Finality, SszFault>
 
 /// The limit of the list of eth1 votes.
 #[tactic(auto, using(bc_preset::proofs::Bounds::preset_bounds))]
-fn votes_limit_of(preset: &Preset) -> u64
+pub(crate) fn votes_limit_of(preset: &Preset) -> u64
     requires { IsPreset preset.now }
     ensures { result ≡ votes_limit preset.now }
 {
@@ -129,7 +129,7 @@ fn votes_limit_of(preset: &Preset) -> u64
 
 /// The limit of each list of pending attestations.
 #[tactic(auto, using(bc_preset::proofs::Bounds::preset_bounds))]
-fn attestations_limit_of(preset: &Preset) -> u64
+pub(crate) fn attestations_limit_of(preset: &Preset) -> u64
     requires { IsPreset preset.now }
     ensures { result ≡ attestations_limit preset.now }
 {

@@ -5,6 +5,8 @@
 
 mod genesis;
 mod groups;
+mod heights;
+mod roots;
 mod state;
 
 pub use genesis::empty_body_root;

@@ -7,10 +7,12 @@ ghost use Rattle.bc_preset.specs.Presets.{IsPreset};
 ghost use Rattle.spec_state.specs.States.{state_row, state_codec};
 ghost use Rattle.spec_state.specs.Limits.{IsState};
 
-use crate::groups::read_fields;
+use crate::groups::{attestations_limit_of, read_fields, votes_limit_of};
+use crate::roots::{list_root, number_list_root, number_vector_root, vector_root};
 use bc_preset::Preset;
+use hash_tree::{Root, merkle};
 use spec_state::PlainState;
-use ssz_codec::{Field, SszFault, cut};
+use ssz_codec::{Field, Ssz, SszFault, cut};
 use std::alloc::Global;
 use std::marker::Model;
 
@@ -89,4 +91,38 @@ impl State {
         let plain = read_plain(alloc, preset, bytes)?;
         Ok(State { plain })
     }
+}
+
+/// The root of the state's fields.
+#[tactic(auto, unfolding(spec_state::specs::States::state_codec, spec_state::specs::States::state_row, spec_state::specs::States::clock_row, spec_state::specs::States::history_row, spec_state::specs::States::eth1_row, spec_state::specs::States::registry_row, spec_state::specs::States::pending_row, spec_state::specs::States::finality_row), using(bc_preset::proofs::Bounds::preset_bounds))]
+fn plain_root(s: &PlainState) -> Root
+    requires { IsState s.now }
+    ensures { result ≡ (state_codec s.now.preset).root s.now }
+{
+    let preset = &s.preset;
+    let attestations = attestations_limit_of(preset);
+    let fields = [
+        s.genesis_time.hash_tree_root(),
+        s.genesis_validators_root.hash_tree_root(),
+        s.slot.hash_tree_root(),
+        s.fork.hash_tree_root(),
+        s.latest_block_header.hash_tree_root(),
+        vector_root(&s.block_roots, preset.slots_per_historical_root),
+        vector_root(&s.state_roots, preset.slots_per_historical_root),
+        list_root(&s.historical_roots, preset.historical_roots_limit),
+        s.eth1_data.hash_tree_root(),
+        list_root(&s.eth1_data_votes, votes_limit_of(preset)),
+        s.eth1_deposit_index.hash_tree_root(),
+        list_root(&s.validators, preset.validator_registry_limit),
+        number_list_root(&s.balances, preset.validator_registry_limit),
+        vector_root(&s.randao_mixes, preset.epochs_per_historical_vector),
+        number_vector_root(&s.slashings, preset.epochs_per_slashings_vector),
+        list_root(&s.previous_epoch_attestations, attestations),
+        list_root(&s.current_epoch_attestations, attestations),
+        s.justification_bits.hash_tree_root(),
+        s.previous_justified_checkpoint.hash_tree_root(),
+        s.current_justified_checkpoint.hash_tree_root(),
+        s.finalized_checkpoint.hash_tree_root(),
+    ];
+    merkle(&fields, 5)
 }
