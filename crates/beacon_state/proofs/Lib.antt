@@ -1,3 +1,4 @@
 pub mod Parts
 pub mod Unread
 pub mod Depths
+pub mod FirstFault

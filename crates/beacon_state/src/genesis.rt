@@ -1,29 +1,29 @@
-//! Whether a state begins a chain.
-//!
-//! It looks at a state that was read from the genesis file; what is wrong goes to the program.
+//! Whether a state begins a chain. The state comes from the genesis file, the fault goes to the program's status.
 
-ghost use Rattle.std.specs.Prelude.{◌≡◌, ◌≤◌, ◌&&◌, ◌==◌, not, length};
+ghost use Rattle.std.specs.Prelude.{◌≡◌, ◌≤◌, ◌==◌, ◌&&◌, not, Some, None, MatchResult, length};
 ghost use Rattle.std.specs.List.{list_all};
-ghost use Rattle.spec_state.specs.Genesis.{zero_root, same_root};
-ghost use Rattle.spec_state.specs.Genesis.{empty_list_root as list_root};
-ghost use Rattle.spec_state.specs.Genesis.{empty_body_root as root_of_empty_body, is_genesis_header as header_begins, is_zero_checkpoint as checkpoint_is_zero};
+ghost use Rattle.spec_state.specs.Genesis.{empty_list_root as empty_list, empty_body_root as empty_root, is_genesis_header as is_header, is_zero_checkpoint as is_zero, validator_fault as fault_of, validators_fault as first_fault, genesis_fault};
 
-use beacon_types::{BeaconBlockHeader, Checkpoint, Eth1Data};
+use crate::state::State;
+use beacon_types::{BeaconBlockHeader, Checkpoint, Eth1Data, Validator};
 use hash_tree::{Root, merkle, merkle_bytes, mix_in_length, zero_hash};
+use spec_state::{GenesisFault, PlainState, ValidatorFault};
 use ssz_codec::Ssz;
 
-/// The root of the empty list whose tree has the depth.
+const FAR_FUTURE_EPOCH: u64 = 18_446_744_073_709_551_615;
+
+/// The root of the empty list in a tree of the depth.
 fn empty_list_root(depth: u32) -> Root
     requires { depth ≤ 40 }
-    ensures { result ≡ list_root depth }
+    ensures { result ≡ empty_list depth }
 {
     mix_in_length(&zero_hash(depth), 0)
 }
 
-/// The root of the block body whose fields are zero and whose lists are empty (beacon-chain.md, "BeaconBlockBody").
+/// The root of the block body whose fields are all zero or empty (beacon-chain.md, "BeaconBlockBody").
 #[tactic(auto, unfolding(spec_state::specs::Genesis::empty_body_root))]
 pub fn empty_body_root() -> Root
-    ensures { result ≡ root_of_empty_body }
+    ensures { result ≡ empty_root }
 {
     let eth1_data = Eth1Data {
         deposit_root: [0; 32],
@@ -47,7 +47,7 @@ pub fn empty_body_root() -> Root
 
 /// Whether the header is that of an empty block of slot 0.
 fn is_genesis_header(header: &BeaconBlockHeader) -> bool
-    ensures { result ≡ header_begins header.now }
+    ensures { result ≡ is_header header.now }
 {
     header.slot == 0
         && header.proposer_index == 0
@@ -56,24 +56,111 @@ fn is_genesis_header(header: &BeaconBlockHeader) -> bool
         && header.body_root == empty_body_root()
 }
 
-/// Whether epoch and root are zero.
+/// Whether the checkpoint is zero.
 fn is_zero_checkpoint(checkpoint: &Checkpoint) -> bool
-    ensures { result ≡ checkpoint_is_zero checkpoint.now }
+    ensures { result ≡ is_zero checkpoint.now }
 {
     checkpoint.epoch == 0 && checkpoint.root == [0; 32]
 }
 
-/// Whether no bit is set.
-fn are_clear(bits: &[bool; 4]) -> bool
-    ensures { result ≡ list_all not bits.now }
+/// What is wrong with a validator of a genesis state.
+#[tactic(auto, unfolding(spec_state::specs::Genesis::validator_fault))]
+fn validator_fault(most: u64, validator: &Validator) -> Option<ValidatorFault>
+    ensures { result ≡ fault_of most validator.now }
 {
-    let [a, b, c, d] = *bits;
-    !a && !b && !c && !d
+    if validator.slashed {
+        return Some(ValidatorFault::Slashed);
+    }
+    if validator.exit_epoch != FAR_FUTURE_EPOCH {
+        return Some(ValidatorFault::ExitEpoch);
+    }
+    if validator.withdrawable_epoch != FAR_FUTURE_EPOCH {
+        return Some(ValidatorFault::WithdrawableEpoch);
+    }
+    let activation = validator.activation_epoch;
+    if activation != 0 && activation != FAR_FUTURE_EPOCH {
+        return Some(ValidatorFault::ActivationEpoch);
+    }
+    if validator.effective_balance > most {
+        return Some(ValidatorFault::EffectiveBalance);
+    }
+    None
 }
 
-/// Whether all numbers are 0.
-fn are_zero(numbers: &[u64]) -> bool
-    ensures { result ≡ list_all (λ n. n == 0) numbers.now }
+/// The first validator that is wrong.
+fn validators_fault(most: u64, validators: &[Validator]) -> Option<GenesisFault>
+    ensures { result ≡ first_fault most 0 validators.now }
 {
-    numbers.iter().all(|n| *n == 0)
+    for i in 0..validators.len() {
+        if let Some(wrong) = validator_fault(most, &validators[i]) {
+            return Some(GenesisFault::Validator(i as u64, wrong));
+        }
+    }
+    None
+}
+
+/// Whether no attestation is pending, no vote was cast and no batch of roots is kept.
+fn lists_are_empty(s: &PlainState) -> bool
+    ensures { result ≡ ((length s.now.previous_epoch_attestations == 0) && ((length s.now.current_epoch_attestations == 0) && ((length s.now.eth1_data_votes == 0) && (length s.now.historical_roots == 0)))) }
+{
+    s.previous_epoch_attestations.is_empty()
+        && s.current_epoch_attestations.is_empty()
+        && s.eth1_data_votes.is_empty()
+        && s.historical_roots.is_empty()
+}
+
+/// Whether nothing was slashed.
+fn nothing_slashed(slashings: &[u64]) -> bool
+    ensures { result ≡ list_all (λ n. n == 0) slashings.now }
+{
+    slashings.iter().all(|amount| *amount == 0)
+}
+
+/// Whether no justification bit is set.
+fn no_bit_set(bits: &[bool; 4]) -> bool
+    ensures { result ≡ list_all not bits.now }
+{
+    bits.iter().all(|bit| !*bit)
+}
+
+/// The first part of the state that no genesis has.
+#[tactic(auto, unfolding(spec_state::specs::Genesis::genesis_fault))]
+fn fault_of_state(s: &PlainState) -> Option<GenesisFault>
+    ensures { result ≡ genesis_fault s.now }
+{
+    if s.slot != 0 {
+        return Some(GenesisFault::Slot);
+    }
+    if !is_genesis_header(&s.latest_block_header) {
+        return Some(GenesisFault::Header);
+    }
+    if !(is_zero_checkpoint(&s.previous_justified_checkpoint)
+        && is_zero_checkpoint(&s.current_justified_checkpoint)
+        && is_zero_checkpoint(&s.finalized_checkpoint))
+    {
+        return Some(GenesisFault::Checkpoints);
+    }
+    if !no_bit_set(&s.justification_bits) {
+        return Some(GenesisFault::Bits);
+    }
+    if !nothing_slashed(s.slashings.as_slice()) {
+        return Some(GenesisFault::Slashings);
+    }
+    if !lists_are_empty(s) {
+        return Some(GenesisFault::Lists);
+    }
+    if s.balances.len() != s.validators.len() {
+        return Some(GenesisFault::Balances);
+    }
+    validators_fault(s.preset.max_effective_balance, s.validators.as_slice())
+}
+
+/// Whether the state begins a chain, or the first part of it that no genesis has. It takes no memory.
+pub fn genesis_check(state: &State) -> Result<(), GenesisFault>
+    ensures { MatchResult result (λ _. genesis_fault state.now ≡ None) (λ fault. genesis_fault state.now ≡ Some fault) }
+{
+    match fault_of_state(state.plain()) {
+        None => Ok(()),
+        Some(fault) => Err(fault),
+    }
 }

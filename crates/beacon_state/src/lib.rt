@@ -4,10 +4,11 @@
 #![tactic(auto)]
 
 mod genesis;
+mod getters;
 mod groups;
 mod heights;
 mod roots;
 mod state;
 
-pub use genesis::empty_body_root;
+pub use genesis::{empty_body_root, genesis_check};
 pub use state::State;

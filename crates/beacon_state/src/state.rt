@@ -5,6 +5,7 @@ ghost use Rattle.ssz_codec.specs.Layout.{heads_len};
 ghost use Rattle.ssz_codec.specs.Reads.{Gives, Reads};
 ghost use Rattle.bc_preset.specs.Presets.{IsPreset};
 ghost use Rattle.spec_state.specs.States.{state_row, state_codec};
+ghost use Rattle.spec_state.specs.Genesis.{header_root_of};
 ghost use Rattle.spec_state.specs.Limits.{IsState};
 
 use crate::groups::{attestations_limit_of, read_fields, votes_limit_of};
@@ -90,6 +91,34 @@ impl State {
     {
         let plain = read_plain(alloc, preset, bytes)?;
         Ok(State { plain })
+    }
+
+    /// The fields. They are within the limits of the preset.
+    pub(crate) fn plain(&self) -> &PlainState
+        ensures same { result.now ≡ self.now }
+        ensures state { IsState self.now }
+    {
+        &self.plain
+    }
+
+    /// The root of the state (simple-serialize.md, "Merkleization"). It takes no memory.
+    pub fn root(&self) -> Root
+        ensures { result ≡ (state_codec self.now.preset).root self.now }
+    {
+        plain_root(self.plain())
+    }
+
+    /// The root of the latest block: that of the latest header, whose zero state root is replaced by the state's root
+    /// (beacon-chain.md, "process_slot"). It takes no memory.
+    #[tactic(auto, unfolding(spec_state::specs::Genesis::header_root_of, spec_state::specs::Genesis::block_header_of))]
+    pub fn header_root(&self) -> Root
+        ensures { result ≡ header_root_of self.now }
+    {
+        let mut header = self.plain().latest_block_header;
+        if header.state_root == [0; 32] {
+            header.state_root = self.root();
+        }
+        header.hash_tree_root()
     }
 }
 

@@ -2,7 +2,7 @@
 use Rattle.std.specs.Prelude.{ℕ, zero, suc, ◌+◌, ◌*◌, ◌/◌, ◌^◌, nat_lt, if◌then◌else◌}
 
 -- the least depth from d on whose tree has n leaves, within so many steps
-abbrev pub height_from : ℕ → ℕ → ℕ → ℕ
+unfoldable pub height_from : ℕ → ℕ → ℕ → ℕ
 height_from zero d n = d
 height_from (suc steps) d n = if nat_lt (2 ^ d) n then height_from steps (d + 1) n else d
 
