@@ -12,6 +12,8 @@ mod memory_sink;
 mod patience;
 mod shelf;
 mod sink;
+#[cfg(test)]
+mod tests;
 mod trouble;
 mod whole;
 

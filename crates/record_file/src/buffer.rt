@@ -113,6 +113,9 @@ fn drop_front(bytes: &mut Vec<u8>, n: usize)
     requires { n ≤ length bytes.old.items }
     ensures { bytes.new.items ≡ drop n bytes.old.items }
 {
+    if n == 0 {
+        return;
+    }
     let len = bytes.len();
     bytes.copy_within(n..len, 0);
     bytes.truncate(len - n);

@@ -10,6 +10,8 @@ mod fill;
 mod found;
 mod frames;
 mod status;
+#[cfg(test)]
+mod tests;
 
 pub use event::{Event, Payload};
 pub use fault::{FrameStop, RecordFault};
