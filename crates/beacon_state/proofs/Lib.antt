@@ -2,3 +2,4 @@ pub mod Parts
 pub mod Unread
 pub mod Depths
 pub mod FirstFault
+pub mod Balances

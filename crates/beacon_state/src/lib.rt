@@ -7,6 +7,7 @@ mod genesis;
 mod getters;
 mod groups;
 mod heights;
+mod lookups;
 mod roots;
 mod state;
 

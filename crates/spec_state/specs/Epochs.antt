@@ -1,5 +1,5 @@
 -- Epochs, active validators and totals of a state (beacon-chain.md, "Helper functions").
-use Rattle.std.specs.Prelude.{ℕ, zero, suc, ◌-◌, ◌/◌, ◌^◌, max, Bool, ◌&&◌, List, [], ◌∷◌, sum_by, leb, nat_lt, if◌then◌else◌}
+use Rattle.std.specs.Prelude.{ℕ, zero, suc, ◌-◌, ◌/◌, ◌^◌, max, Bool, ◌&&◌, List, [], ◌∷◌, sum_by, leb, nat_lt, slice_index_or, if◌then◌else◌}
 use Rattle.bc_words.specs.Outcome.{Outcome, done, refused}
 use Rattle.bc_words.specs.declared.refusal.Refusal.TheVariants.{Overflow}
 use Rattle.bc_preset.specs.declared.presets.Preset.{Preset}
@@ -33,6 +33,10 @@ unfoldable pub effective_balance : List Validator → ℕ → ℕ
 effective_balance [] index = 0
 effective_balance (v ∷ validators) zero = v.effective_balance
 effective_balance (v ∷ validators) (suc index) = effective_balance validators index
+
+-- get_randao_mix, by its place in the vector
+unfoldable pub randao_mix : PlainState → ℕ → List ℕ
+randao_mix s place = slice_index_or s.randao_mixes place []
 
 -- get_total_balance: at least one increment, and refused where the sum does not fit in a uint64
 unfoldable pub total_balance : Preset → List Validator → List ℕ → Outcome ℕ

@@ -1,0 +1,56 @@
+//! What seeds, proposers and totals read of a state.
+
+ghost use Rattle.std.specs.Prelude.{◌≡◌, length};
+ghost use Rattle.spec_state.specs.Epochs.{randao_mix, effective_balance};
+
+use crate::state::State;
+use balance_totals::Registry;
+use bc_preset::Preset;
+use beacon_types::Validator;
+use committees::Lookup;
+use hash_tree::Root;
+
+impl Registry for State {
+    ghost preset_of = { λ state. state.preset };
+
+    ghost validators_of = { λ state. state.validators };
+
+    fn preset(&self) -> &Preset {
+        &self.plain().preset
+    }
+
+    fn validators_len(&self) -> u64 {
+        self.plain().validators.len() as u64
+    }
+
+    fn validators_at(&self, index: u64) -> Option<&Validator> {
+        self.plain().validators.get(index as usize)
+    }
+}
+
+impl Lookup for State {
+    ghost preset_of = { λ state. state.preset };
+
+    ghost mix_at = { randao_mix };
+
+    ghost effective_at = { λ state. effective_balance state.validators };
+
+    ghost registry_of = { λ state. length state.validators };
+
+    fn preset(&self) -> &Preset {
+        &self.plain().preset
+    }
+
+    #[tactic(auto, unfolding(spec_state::specs::Epochs::randao_mix))]
+    fn mix(&self, place: u64) -> Root {
+        self.plain().randao_mixes.as_slice()[place as usize]
+    }
+
+    fn registry(&self) -> u64 {
+        self.plain().validators.len() as u64
+    }
+
+    fn effective(&self, index: u64) -> u64 {
+        self.plain().validators.as_slice()[index as usize].effective_balance
+    }
+}
