@@ -1,10 +1,12 @@
--- The bits of a word that eight bytes make, and of a word that is shifted down.
-use Rattle.std.proofs.Common.{◌≡◌, ℕ, zero, suc, ◌+◌, ◌-◌, ◌*◌, ◌/◌, ◌%◌, ◌^◌, ◌<◌, List, [], ◌∷◌, get_or, refl, sym, ap, ◌∙◌, arith, inl, inr}
-use Rattle.std.specs.Int.{bit_at, from_le_bytes, w64}
-use Rattle.std.proofs.lemmas.Bool.{cases_lt}
+-- The bits of a word that eight bytes make, of a word that is shifted down, and of one that lost its lowest 1.
+use Rattle.std.proofs.Common.{◌≡◌, ℕ, zero, suc, ◌+◌, ◌-◌, ◌*◌, ◌/◌, ◌%◌, ◌^◌, ◌<◌, ◌≤◌, List, [], ◌∷◌, get_or, refl, sym, ap, ◌∙◌, arith, inl, inr}
+use Rattle.std.specs.Int.{bit_at, from_le_bytes, trailing_zeros, w64}
+use Rattle.std.specs.Int.RustNames.{bit_and}
+use Rattle.std.proofs.lemmas.Bool.{cases_lt, cases_eq}
 use Rattle.std.proofs.lemmas.List.{get_or_past}
-use Rattle.std.proofs.lemmas.Nat.{pow-add}
-use Rattle.std.proofs.lemmas.Nat.Bits.{bit_at-zero, bit_at_cat_low, bit_at_cat_high}
+use Rattle.std.proofs.lemmas.Nat.{pow-add, pow_pos}
+use Rattle.std.proofs.lemmas.Grind.{pow_more}
+use Rattle.std.proofs.lemmas.Nat.Bits.{bit_at-zero, bit_at_cat_low, bit_at_cat_high, bit_at-pow_same, bit_at-pow_other, bit_at_and, bit_at_above, bit_at-trailing_zeros, same_from_bits}
 use Rattle.std.proofs.Math.Nat.{div-div-eq-div-mul}
 use Rattle.shuffling.specs.Shuffling.{bit_in}
 
@@ -67,3 +69,51 @@ word_bit source position offset word small is inside =
     ∙ bit_of_bytes (eight source first) q (λ k. eight_small source first k small)
     ∙ ap (λ n. bit_at n (q % 8)) (picked source first (q / 8) (omega arith) ∙ ap (λ k. get_or source k 0) byte)
     ∙ ap (λ k. bit_at (get_or source ((position + offset) % 256 / 8) 0) k) bit
+
+power_grows : (k : ℕ) → (0 < 2 ^ k) × (2 ^ k < 2 ^ (k + 1))
+power_grows k = let p = pow_more 2 k in (pow_pos k, omega (arith, p, pow_pos k))
+
+module _ (n k : ℕ) (set : bit_at n k ≡ 1) (clear : (j : ℕ) → j < k → bit_at n j ≡ 0) where
+  -- what stands above the lowest bit that is 1
+  abbrev above : ℕ
+  above = n / 2 ^ (k + 1)
+
+  low_bit : (j : ℕ) → j < k + 1 → bit_at (2 ^ k) j ≡ bit_at n j
+  low_bit j low = elim (cases_eq j k) [
+    | inl e ↦ rw (e, set) (bit_at-pow_same k)
+    | inr m ↦ bit_at-pow_other k j m ∙ sym (clear j (omega arith))
+  ]
+
+  high_bit : (rest j : ℕ) → rest < 2 ^ (k + 1) → k < j → bit_at (above * 2 ^ (k + 1) + rest) j ≡ bit_at n j
+  high_bit rest j fits high =
+      let at : k + 1 + (j - (k + 1)) ≡ j = omega arith in
+      bit_at_cat_high above (k + 1) rest j fits (omega arith) ∙ shifted n (k + 1) (j - (k + 1)) ∙ ap (bit_at n) at
+
+  parts : n ≡ above * 2 ^ (k + 1) + 2 ^ k
+  parts = same_from_bits n (above * 2 ^ (k + 1) + 2 ^ k) (λ j. elim (cases_lt j (k + 1)) [
+    | inl low ↦ sym (bit_at_cat_low above (k + 1) (2 ^ k) j low ∙ low_bit j low)
+    | inr high ↦ sym (high_bit (2 ^ k) j (power_grows k).1 (omega arith))
+  ])
+
+  one_less : n - 1 ≡ above * 2 ^ (k + 1) + (2 ^ k - 1)
+  one_less = omega (arith, parts, (power_grows k).0)
+
+  pub cleared_above : (j : ℕ) → k < j → bit_at (bit_and n (n - 1)) j ≡ bit_at n j
+  cleared_above j high =
+      let same : bit_at (n - 1) j ≡ bit_at n j = ap (λ m. bit_at m j) one_less ∙ high_bit (2 ^ k - 1) j (omega (arith, power_grows k)) high in
+      bit_at_and n (n - 1) j ∙ rw same (omega arith)
+
+  pub cleared_below : (j : ℕ) → j ≤ k → bit_at (bit_and n (n - 1)) j ≡ 0
+  cleared_below j low = elim (cases_eq j k) [
+    | inl e ↦
+        let none : bit_at (n - 1) j ≡ 0 = ap (λ m. bit_at m j) one_less ∙ bit_at_cat_low above (k + 1) (2 ^ k - 1) j (omega arith) ∙ bit_at_above (2 ^ k - 1) k j (omega (arith, power_grows k)) (omega arith) in
+        bit_at_and n (n - 1) j ∙ rw none (omega arith)
+    | inr m ↦
+        bit_at_and n (n - 1) j ∙ rw (clear j (omega arith)) (omega arith)
+  ]
+
+-- a word and one less than it have in common what stands above the word's lowest bit that is 1
+pub cleared : (n : ℕ) → 0 < n → n < 2 ^ 64 → ((offset : ℕ) → trailing_zeros w64 n < offset → bit_at (bit_and n (n - 1)) offset ≡ bit_at n offset) × ((offset : ℕ) → offset ≤ trailing_zeros w64 n → bit_at (bit_and n (n - 1)) offset ≡ 0)
+cleared n some fits =
+    let lowest = bit_at-trailing_zeros w64 n some fits in
+    (cleared_above n (trailing_zeros w64 n) lowest.1 lowest.2, cleared_below n (trailing_zeros w64 n) lowest.1 lowest.2)

@@ -1,5 +1,5 @@
 -- How a pass over pairs of mirror images goes on.
-use Rattle.std.proofs.Common.{◌≡◌, ℕ, ◌+◌, ◌-◌, ◌<◌, ◌≤◌, List, Bool, true, false, cond, ◌==◌, get_or, slice_index, refl, ap, ◌∙◌, arith, inl, inr}
+use Rattle.std.proofs.Common.{◌≡◌, ℕ, ◌+◌, ◌-◌, ◌<◌, ◌≤◌, List, Bool, true, false, cond, ◌==◌, get_or, slice_index, refl, sym, ap, ◌∙◌, arith, inl, inr}
 use Rattle.std.specs.List.{SwappedAt}
 use Rattle.std.specs.Int.{bit_at}
 use Rattle.std.proofs.lemmas.Bool.{cases_eq, cases_lt}
@@ -76,3 +76,46 @@ unfolding after_round
 same_choice seed round count sum first word place fits flip bit =
     let chosen : by_word word first sum place ≡ after_round seed round count place = rw (bit, flip) refl in
     (chosen, rw (← chosen) (later_same sum place (bit_at word (later sum place - first) == 1) fits))
+
+-- how far a pass over the bits of a word has come: up to position, and the bits that are left are those from there on
+pub record Reached (word sum first last bits : ℕ) (old list : List ℕ) (position : ℕ) : Type 0 where
+  pub from : first ≤ position
+  pub to : position ≤ last
+  pub gone : (offset : ℕ) → offset < position - first → bit_at bits offset ≡ 0
+  pub left : (offset : ℕ) → position - first ≤ offset → bit_at bits offset ≡ bit_at word offset
+  pub passed : Passed (by_word word first sum) sum first position old list
+
+module _ (word sum first last : ℕ) (old : List ℕ) where
+  pub reach : first ≤ last → Reached word sum first last word old old first
+  reach order = record {
+    from = omega arith;
+    to = order;
+    gone = λ offset less. absurd (omega arith);
+    left = λ offset more. refl;
+    passed = begin (by_word word first sum) sum first old;
+  }
+
+  -- no bit that is left is 1 below last
+  pub reach_end : (bits position : ℕ) (list : List ℕ) → Reached word sum first last bits old list position → ((offset : ℕ) → offset < last - first → bit_at bits offset ≡ 0) → Passed (by_word word first sum) sum first last old list
+  reach_end bits position list at none =
+      skip word sum first old list position last at.from at.to at.passed
+      (λ place more less. sym (at.left (place - first) (omega (arith, at.from))) ∙ none (place - first) (omega (arith, at.from)))
+
+  -- the lowest bit that is left stands at offset
+  pub reach_next : (bits next offset position : ℕ) (list new : List ℕ) → sum < first + first → last ≤ sum + 1 → offset < last - first → bit_at bits offset ≡ 1 → ((other : ℕ) → other < offset → bit_at bits other ≡ 0) → ((other : ℕ) → offset < other → bit_at next other ≡ bit_at bits other) → ((other : ℕ) → other ≤ offset → bit_at next other ≡ 0) → SwappedAt list new (sum - (first + offset)) (first + offset) → Reached word sum first last bits old list position → Reached word sum first last next old new (first + offset + 1)
+  reach_next bits next offset position list new order images inside set clear kept gone swapped at =
+      let ahead : position - first ≤ offset = elim (cases_lt offset (position - first)) [
+        | inl less ↦ absurd (omega (arith, at.gone offset less))
+        | inr more ↦ more
+      ] in
+      let here : first + offset - first ≡ offset = omega arith in
+      record {
+        from = omega arith;
+        to = omega arith;
+        gone = λ other less. gone other (omega arith);
+        left = λ other more. kept other (omega arith) ∙ at.left other (omega (arith, ahead));
+        passed = step word sum first old list (first + offset) new (omega arith) (omega arith) (omega arith)
+            (skip word sum first old list position (first + offset) at.from (omega (arith, at.from, ahead)) at.passed
+            (λ place more less. sym (at.left (place - first) (omega (arith, at.from))) ∙ clear (place - first) (omega (arith, at.from))))
+            (rw here (sym (at.left offset ahead) ∙ set)) swapped;
+      }

@@ -2,7 +2,8 @@
 //! positions.
 
 ghost use Rattle.std.specs.Prelude.{◌≡◌, ℕ, ◌+◌, ◌-◌, ◌/◌, ◌%◌, ◌<◌, ◌≤◌, ◌^◌, length, slice_index, IsOk, IfOk};
-ghost use Rattle.std.specs.Int.{bit_at};
+ghost use Rattle.std.specs.Int.{bit_at, trailing_zeros, w64};
+ghost use Rattle.std.specs.List.{SwappedAt};
 ghost use Rattle.shuffling.specs.Pass.{by_word, Passed};
 ghost use Rattle.shuffling.specs.Shuffling.{after_round, pivot_of, source_of, bit_in, shuffled_list};
 
@@ -43,6 +44,27 @@ fn word_at(source: &[u8; 32], position: u64) -> u64
     u64::from_le_bytes(bytes) >> (position % 64)
 }
 
+/// Two places change their items.
+fn swap_items(list: &mut [u64], one: usize, other: usize)
+    requires one { one < length list.old }
+    requires other { other < length list.old }
+    ensures { SwappedAt list.old list.new one other }
+{
+    let item = list[one];
+    list[one] = list[other];
+    list[other] = item;
+}
+
+/// The word without its lowest bit that is 1.
+fn without_lowest(bits: u64) -> u64
+    requires { 0 < bits }
+    ensures kept { (offset : ℕ) → trailing_zeros w64 bits < offset → bit_at result offset ≡ bit_at bits offset }
+    ensures gone { (offset : ℕ) → offset ≤ trailing_zeros w64 bits → bit_at result offset ≡ 0 }
+    ensures less { result < bits }
+{
+    bits & (bits - 1)
+}
+
 /// Swaps the positions from `first` up to but not `last` with their mirror images where their bits are 1.
 ///
 /// A position and its mirror image, the earlier one, add up to `sum`. The lowest bit is that of `first`.
@@ -54,17 +76,15 @@ fn swap_where_set(list: &mut [u64], sum: usize, first: usize, last: usize, word:
     requires images { last ≤ sum + 1 }
     ensures { Passed (by_word word first sum) sum first last list.old list.new }
 {
-    let mut position = first;
     let mut bits = word;
     while bits > 0 {
-        let offset = bits.trailing_zeros();
-        if offset as usize >= last - position {
+        let offset = bits.trailing_zeros() as usize;
+        if offset >= last - first {
             return;
         }
-        position += offset as usize;
-        list.swap(sum - position, position);
-        bits = bits >> offset >> 1;
-        position += 1;
+        let position = first + offset;
+        swap_items(list, sum - position, position);
+        bits = without_lowest(bits);
     }
 }
 
