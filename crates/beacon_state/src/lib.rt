@@ -13,3 +13,6 @@ mod state;
 
 pub use genesis::{empty_body_root, genesis_check};
 pub use state::State;
+
+#[cfg(test)]
+mod tests;

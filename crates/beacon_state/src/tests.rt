@@ -1,0 +1,98 @@
+//! A genesis state of 64 validators: its roots, and that the check takes it.
+
+use super::*;
+use bc_preset::Preset;
+use hash_tree::Root;
+use ssz_codec::SszFault;
+use std::alloc::{AllocError, Global};
+use std::test::Fail;
+
+const MIX: Root = [
+    0x37, 0x47, 0x08, 0xff, 0xf7, 0x71, 0x9d, 0xd5, 0x97, 0x9e, 0xc8, 0x75, 0xd5, 0x6c, 0xd2, 0x28,
+    0x6f, 0x6d, 0x3c, 0xf7, 0xec, 0x31, 0x7a, 0x3b, 0x25, 0x63, 0x2a, 0xab, 0x28, 0xec, 0x37, 0xbb,
+];
+
+const VALIDATORS_ROOT: Root = [
+    0x88, 0x81, 0x93, 0x77, 0x97, 0xc6, 0xcf, 0x82, 0xf9, 0xaf, 0xd5, 0x58, 0xb4, 0x26, 0x81, 0x4d,
+    0x4b, 0xf3, 0x1d, 0xfd, 0x9d, 0xb2, 0xa8, 0x7b, 0x1a, 0xd5, 0x3f, 0x66, 0xfc, 0x78, 0x43, 0xed,
+];
+
+const BODY_ROOT: Root = [
+    0xcc, 0xb6, 0x24, 0x60, 0x69, 0x2b, 0xe0, 0xec, 0x81, 0x3b, 0x56, 0xbe, 0x97, 0xf6, 0x8a, 0x82,
+    0xcf, 0x57, 0xab, 0xc1, 0x02, 0xe2, 0x7b, 0xf4, 0x9e, 0xbf, 0x41, 0x90, 0xff, 0x22, 0xee, 0xdd,
+];
+
+const BLOCK_ROOT: Root = [
+    0xb0, 0x19, 0x32, 0xa9, 0xd3, 0xf4, 0xb7, 0x4b, 0x78, 0x99, 0x68, 0xdc, 0x98, 0x21, 0xc2, 0xb5,
+    0x3a, 0x25, 0x79, 0x13, 0xca, 0xb2, 0x7f, 0x17, 0x90, 0x8d, 0x8e, 0x45, 0x23, 0x93, 0x68, 0x60,
+];
+
+const STATE_ROOT: Root = [
+    0x96, 0xa2, 0x89, 0x4b, 0x40, 0x1a, 0x84, 0x25, 0x9c, 0x13, 0xfd, 0x0b, 0x91, 0xbc, 0x9e, 0x6e,
+    0x83, 0x0e, 0xe8, 0xbb, 0xe0, 0x7f, 0x32, 0xd6, 0xbc, 0xd5, 0x86, 0xce, 0xd0, 0x84, 0x05, 0xe1,
+];
+
+fn zeros(out: &mut Vec<u8>, count: u32) -> Result<(), AllocError> {
+    for _ in 0..count {
+        out.push(0)?;
+    }
+    Ok(())
+}
+
+/// The state of the minimal preset, field by field.
+fn genesis(alloc: Global) -> Result<Vec<u8>, AllocError> {
+    let mut out = Vec::new(alloc);
+    out.extend_from_slice(&1000u64.to_le_bytes())?;
+    out.extend_from_slice(&VALIDATORS_ROOT)?;
+    zeros(&mut out, 104)?;
+    out.extend_from_slice(&BODY_ROOT)?;
+    zeros(&mut out, 4096)?;
+    out.extend_from_slice(&7057u32.to_le_bytes())?;
+    zeros(&mut out, 72)?;
+    out.extend_from_slice(&7057u32.to_le_bytes())?;
+    zeros(&mut out, 8)?;
+    out.extend_from_slice(&7057u32.to_le_bytes())?;
+    out.extend_from_slice(&14801u32.to_le_bytes())?;
+    for _ in 0..64 {
+        out.extend_from_slice(&MIX)?;
+    }
+    zeros(&mut out, 512)?;
+    out.extend_from_slice(&15313u32.to_le_bytes())?;
+    out.extend_from_slice(&15313u32.to_le_bytes())?;
+    zeros(&mut out, 121)?;
+    validators(&mut out)?;
+    Ok(out)
+}
+
+/// The validators and their balances.
+fn validators(out: &mut Vec<u8>) -> Result<(), AllocError> {
+    for i in 0..64u64 {
+        out.extend_from_slice(&i.to_le_bytes())?;
+        zeros(out, 72)?;
+        out.extend_from_slice(&32_000_000_000u64.to_le_bytes())?;
+        zeros(out, 17)?;
+        out.extend_from_slice(&[255; 16])?;
+    }
+    for _ in 0..64 {
+        out.extend_from_slice(&32_000_000_000u64.to_le_bytes())?;
+    }
+    Ok(())
+}
+
+#[test]
+fn roots_of_a_genesis(rt: HostRuntime) -> Result<(), Fail> {
+    let bytes = genesis(rt.alloc())?;
+    assert_eq!(rt; bytes.len(), 15_313);
+    let state = State::read(rt.alloc(), &Preset::minimal(), &bytes)?;
+    assert_eq!(rt; state.root(), STATE_ROOT);
+    assert_eq!(rt; state.header_root(), BLOCK_ROOT);
+    assert_eq!(rt; empty_body_root(), BODY_ROOT);
+    assert_eq!(rt; state.genesis_time(), 1000);
+    assert_eq!(rt; state.validators_len(), 64);
+    assert_eq!(rt; state.balances_at(63), Some(32_000_000_000));
+    assert_eq!(rt; state.balances_at(64), None);
+    assert_eq!(rt; genesis_check(&state), Ok(()));
+    let short = State::read(rt.alloc(), &Preset::minimal(), &bytes.as_slice()[1..]);
+    assert_eq!(rt; short.err(), Some(SszFault::NotAWriting));
+    Ok(())
+}
