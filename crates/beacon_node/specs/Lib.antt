@@ -1,3 +1,6 @@
+pub mod Answers
 pub mod Files
+pub mod GenesisAnswers
 pub mod Reading
+pub mod Statuses
 pub mod Stores

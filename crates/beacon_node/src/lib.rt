@@ -1,7 +1,13 @@
 //! The program: command words, files and a sink in, lines and a status out.
 #![tactic(auto)]
 
+mod events;
+mod genesis;
 mod lines;
 mod reading;
+mod replay;
+mod status;
 mod store;
 mod words;
+
+pub use status::Status;

@@ -13,3 +13,8 @@ unfoldable pub replay_files_of : List (List ℕ) → Option ReplayFiles
 replay_files_of (command ∷ config ∷ genesis ∷ events ∷ []) =
     if bytes_eq command (codes "replay") then Some (record { config = config; genesis = genesis; events = events }) else None
 replay_files_of _ = None
+
+-- the names, in the order in which they are asked for
+abbrev pub names_of : Option ReplayFiles → List (List ℕ)
+names_of None = []
+names_of (Some files) = files.config ∷ files.genesis ∷ files.events ∷ []

@@ -1,0 +1,84 @@
+//! The command `replay`: configuration, genesis and record are read in this order, each only where the ones before it
+//! have no fault, and each event's line is written before the next frame is read.
+
+ghost use Rattle.std.specs.Prelude.{◌≡◌, ◌≢◌, ◌<◌, ◌+◌, ◌^◌, ◌∷◌, [], Some};
+ghost use Rattle.bc_outside.specs.Told.{Told};
+ghost use Rattle.spec_replay.specs.Run.{with_files, with_genesis};
+ghost use Rattle.beacon_node.specs.Answers.{Answers, HasCauses, unread};
+
+use crate::events::replay_record;
+use crate::genesis::{GenesisStop, read_genesis};
+use crate::reading::read_named;
+use crate::status::Status;
+use crate::store::Store;
+use crate::words::ReplayFiles;
+use bc_outside::{Shelf, Sink, Trouble};
+use bc_preset::{Config, MAX_CONFIG_LEN};
+use std::alloc::Global;
+
+/// The longest genesis file, in bytes.
+pub const MAX_GENESIS_LEN: usize = 1 << 30;
+
+/// The status of a file that could not be read.
+fn unread(trouble: Trouble) -> Status
+    ensures { result ≡ unread trouble }
+{
+    match trouble {
+        Trouble::Failed => Status::ReadFault,
+        Trouble::NoMemory => Status::NoMemory,
+    }
+}
+
+/// Reads the genesis state and then the record, under this configuration.
+fn replay_genesis<F: Shelf, O: Sink>(
+    alloc: Global,
+    config: &Config,
+    genesis_name: &str,
+    record_name: &str,
+    shelf: &mut F,
+    out: &mut O,
+) -> Status
+    requires { F.opened shelf.old + 1 < 2 ^ 32 }
+    ensures answers { (told : Told) → F.told shelf.old ≡ Some told → Answers
+        (with_genesis config.now (told.contents genesis_name.now) (told.contents record_name.now))
+        (genesis_name.now ∷ record_name.now ∷ []) result told (F.told shelf.new) (O.told out.old) (O.told out.new) }
+    ensures causes { HasCauses result (F.faults shelf.old) (F.faults shelf.new) (O.faults out.old) (O.faults out.new) }
+    ensures command { result ≢ Status.Words }
+{
+    let bytes = match read_named(alloc, shelf, genesis_name, MAX_GENESIS_LEN + 1) {
+        Ok(bytes) => bytes,
+        Err(trouble) => return unread(trouble),
+    };
+    match read_genesis(alloc, config.preset(), &bytes) {
+        Ok(genesis) => {
+            let mut store = Store::at_genesis(genesis.time, genesis.root);
+            replay_record(alloc, &mut store, record_name, shelf, out)
+        }
+        Err(GenesisStop::Fault(part)) => Status::Genesis(part),
+        Err(GenesisStop::NoMemory) => Status::NoMemory,
+    }
+}
+
+/// Reads the configuration, the genesis state and the record.
+pub fn replay<F: Shelf, O: Sink>(
+    alloc: Global,
+    files: &ReplayFiles<'_>,
+    shelf: &mut F,
+    out: &mut O,
+) -> Status
+    requires { F.opened shelf.old + 2 < 2 ^ 32 }
+    ensures answers { (told : Told) → F.told shelf.old ≡ Some told → Answers
+        (with_files (told.contents files.now.config.now) (told.contents files.now.genesis.now) (told.contents files.now.events.now))
+        (files.now.config.now ∷ files.now.genesis.now ∷ files.now.events.now ∷ []) result told (F.told shelf.new) (O.told out.old) (O.told out.new) }
+    ensures causes { HasCauses result (F.faults shelf.old) (F.faults shelf.new) (O.faults out.old) (O.faults out.new) }
+    ensures command { result ≢ Status.Words }
+{
+    let bytes = match read_named(alloc, shelf, files.config, MAX_CONFIG_LEN + 1) {
+        Ok(bytes) => bytes,
+        Err(trouble) => return unread(trouble),
+    };
+    match Config::read(&bytes) {
+        Ok(config) => replay_genesis(alloc, &config, files.genesis, files.events, shelf, out),
+        Err(fault) => Status::Config(fault),
+    }
+}

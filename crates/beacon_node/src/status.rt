@@ -1,0 +1,72 @@
+//! How a run ended, as the program answers it.
+
+ghost use Rattle.std.specs.Prelude.{◌≡◌};
+ghost use Rattle.beacon_node.specs.Statuses.{number_of, name_of};
+
+use bc_preset::ConfigFault;
+use record_file::RecordFault;
+use spec_state::GenesisFault;
+
+/// How a run ended.
+#[derive(Debug, Drop)]
+pub enum Status {
+    /// The record was read to its end.
+    Done,
+    /// The words are no command.
+    Words,
+    /// The configuration has a fault, and this is the first.
+    Config(ConfigFault),
+    /// The genesis state has a fault, and this is the first.
+    Genesis(GenesisFault),
+    /// The record has a fault, and this is the first.
+    Record {
+        /// Which record: 0 is the only one.
+        which: u8,
+        /// The event that could not be read. Events count from 1, and 0 stands for the first four bytes.
+        event: u32,
+        /// What is wrong with it.
+        fault: RecordFault,
+    },
+    /// A file could not be opened or read.
+    ReadFault,
+    /// The lines could not be written.
+    WriteFault,
+    /// Memory ran out.
+    NoMemory,
+}
+
+impl Status {
+    /// The number that the program ends with.
+    #[tactic(auto, unfolding(crate::specs::Statuses::number_of))]
+    pub fn number(&self) -> u8
+        ensures { result ≡ number_of self.now }
+    {
+        match self {
+            Status::Done => 0,
+            Status::Words => 1,
+            Status::Config(_) => 2,
+            Status::Genesis(_) => 3,
+            Status::Record { .. } => 4,
+            Status::ReadFault => 6,
+            Status::WriteFault => 7,
+            Status::NoMemory => 8,
+        }
+    }
+
+    /// The status's name.
+    #[tactic(auto, unfolding(crate::specs::Statuses::name_of))]
+    pub fn name(&self) -> &'static str
+        ensures { result.now ≡ name_of self.now }
+    {
+        match self {
+            Status::Done => "Done",
+            Status::Words => "Words",
+            Status::Config(_) => "Config",
+            Status::Genesis(_) => "Genesis",
+            Status::Record { .. } => "Record",
+            Status::ReadFault => "ReadFault",
+            Status::WriteFault => "WriteFault",
+            Status::NoMemory => "NoMemory",
+        }
+    }
+}

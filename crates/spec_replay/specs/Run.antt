@@ -1,0 +1,93 @@
+-- A run: from the bytes of configuration, genesis and record to lines and an end.
+use Rattle.std.specs.Prelude.{ℕ, ◌+◌, List, [], ◌∷◌, ◌++◌, Option, Some, None, Result, Ok, Err}
+use Rattle.bc_preset.specs.Settings.{config_of}
+use Rattle.bc_preset.specs.declared.configuration.ConfigValues.{ConfigValues}
+use Rattle.bc_preset.specs.declared.faults.ConfigFault.{ConfigFault}
+use Rattle.spec_state.specs.Genesis.{genesis_of, header_root_of}
+use Rattle.spec_state.specs.declared.plain.PlainState.{PlainState}
+use Rattle.spec_state.specs.declared.fault.GenesisFault.{GenesisFault}
+use Rattle.record_file.specs.Record.{Events, events_of} 
+use Rattle.record_file.specs.Record as record_file
+use Rattle.record_file.specs.declared.event.Event.{Event}
+use Rattle.record_file.specs.declared.fault.RecordFault.{RecordFault}
+use Rattle.spec_replay.specs.Lines.{tick_line}
+use Rattle.spec_replay.specs.Ticks.{Store, store_at, store_after, handle_tick}
+use Rattle.spec_replay.specs.Words.{ReplayFiles, replay_files_of}
+
+-- How a run ends: the record was read to its end; the words are no command; or the first fault of the configuration,
+-- of the genesis state, or of the record, with its event.
+pub data End : Type 0 where
+  done : End
+  no_command : End
+  bad_config : ConfigFault → End
+  bad_genesis : GenesisFault → End
+  bad_record : ℕ → RecordFault → End
+
+-- What a run writes, how it ends, and how many of its files it asks for, in their order. A file that it asks for and
+-- that isn't there leaves it no end.
+pub record Run : Type 0 where
+  pub lines : List ℕ
+  pub end : Option End
+  pub files : ℕ
+
+-- the run is over before a further file is asked for
+abbrev pub over : End → Run
+over end = record { lines = []; end = Some end; files = 0 }
+
+-- a file is asked for that isn't there
+abbrev pub missing : Run
+missing = record { lines = []; end = None; files = 1 }
+
+-- a file is read, and then the run goes on
+abbrev pub after_file : Run → Run
+after_file run = record { lines = run.lines; end = run.end; files = run.files + 1 }
+
+-- the lines of the events, the first of which has this number: the store handles each in turn
+unfoldable pub lines_of : ℕ → Store → List Event → List ℕ
+lines_of number store [] = []
+lines_of number store (event ∷ events) =
+    tick_line number (handle_tick store event.payload) (store_after store (handle_tick store event.payload))
+    ++ lines_of (number + 1) (store_after store (handle_tick store event.payload)) events
+
+-- how the run ends where the record ends so
+abbrev pub record_end : record_file.End → End
+record_end record_file.done = done
+record_end (record_file.fault event reason) = bad_record event reason
+
+-- the events that are to come, the first of which has this number
+abbrev pub with_events : ℕ → Store → Events → Run
+with_events number store rest = record { lines = lines_of number store rest.events; end = Some (record_end rest.end); files = 0 }
+
+-- the record, if it is there, on the store at genesis
+unfoldable pub with_record : Store → Option (List ℕ) → Run
+with_record store None = missing
+with_record store (Some bytes) = after_file (with_events 1 store (events_of bytes))
+
+-- the genesis state, or its first fault
+unfoldable pub with_state : Result PlainState GenesisFault → Option (List ℕ) → Run
+with_state (Err part) events = over (bad_genesis part)
+with_state (Ok state) events = with_record (store_at state.genesis_time (header_root_of state)) events
+
+-- the genesis file, if it is there
+unfoldable pub with_genesis : ConfigValues → Option (List ℕ) → Option (List ℕ) → Run
+with_genesis config None events = missing
+with_genesis config (Some bytes) events = after_file (with_state (genesis_of config.preset bytes) events)
+
+-- the configuration, or its first fault
+unfoldable pub with_config : Result ConfigValues ConfigFault → Option (List ℕ) → Option (List ℕ) → Run
+with_config (Err reason) genesis events = over (bad_config reason)
+with_config (Ok config) genesis events = with_genesis config genesis events
+
+-- the configuration's file, if it is there
+unfoldable pub with_files : Option (List ℕ) → Option (List ℕ) → Option (List ℕ) → Run
+with_files None genesis events = missing
+with_files (Some bytes) genesis events = after_file (with_config (config_of bytes) genesis events)
+
+-- the command that the words are, where the names hold these bytes
+unfoldable pub with_command : (List ℕ → Option (List ℕ)) → Option ReplayFiles → Run
+with_command contents None = over no_command
+with_command contents (Some files) = with_files (contents files.config) (contents files.genesis) (contents files.events)
+
+-- the run of the command words, where the names hold these bytes
+unfoldable pub run_of : (List ℕ → Option (List ℕ)) → List (List ℕ) → Run
+run_of contents words = with_command contents (replay_files_of words)
