@@ -6,6 +6,8 @@ use Rattle.spec_state.specs.declared.fault.GenesisFault.{GenesisFault}
 use Rattle.beacon_node.specs.declared.genesis.Genesis.{Genesis}
 use Rattle.beacon_node.specs.declared.genesis.GenesisStop.{GenesisStop}
 use Rattle.beacon_node.specs.declared.genesis.GenesisStop.TheVariants.{Fault, NoMemory}
+use Rattle.beacon_node.specs.declared.status.Status.{Status}
+use Rattle.beacon_node.specs.declared.status.Status.TheVariants as statuses
 
 -- the time and the block's root are those of the state
 pub record IsGenesisOf (genesis : Genesis) (state : PlainState) : Type 0 where
@@ -17,3 +19,8 @@ abbrev pub GivesGenesis : Result Genesis GenesisStop → Result PlainState Genes
 GivesGenesis (Ok genesis) read = (state : PlainState) × (read ≡ Ok state) × IsGenesisOf genesis state
 GivesGenesis (Err (Fault part)) read = read ≡ Err part
 GivesGenesis (Err NoMemory) read = Unit {0}
+
+-- the status of a genesis state that has a fault
+abbrev pub no_genesis : GenesisStop → Status
+no_genesis (Fault part) = statuses.Genesis part
+no_genesis NoMemory = statuses.NoMemory

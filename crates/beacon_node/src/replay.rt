@@ -5,6 +5,7 @@ ghost use Rattle.std.specs.Prelude.{◌≡◌, ◌≢◌, ◌<◌, ◌+◌, ◌^
 ghost use Rattle.bc_outside.specs.Told.{Told};
 ghost use Rattle.spec_replay.specs.Run.{with_files, with_genesis};
 ghost use Rattle.beacon_node.specs.Answers.{Answers, HasCauses, unread};
+ghost use Rattle.beacon_node.specs.GenesisAnswers.{no_genesis};
 
 use crate::events::replay_record;
 use crate::genesis::{GenesisStop, read_genesis};
@@ -26,6 +27,16 @@ fn unread(trouble: Trouble) -> Status
     match trouble {
         Trouble::Failed => Status::ReadFault,
         Trouble::NoMemory => Status::NoMemory,
+    }
+}
+
+/// The status of a genesis state that has a fault.
+fn no_genesis(stop: GenesisStop) -> Status
+    ensures { result ≡ no_genesis stop }
+{
+    match stop {
+        GenesisStop::Fault(part) => Status::Genesis(part),
+        GenesisStop::NoMemory => Status::NoMemory,
     }
 }
 
@@ -54,8 +65,7 @@ fn replay_genesis<F: Shelf, O: Sink>(
             let mut store = Store::at_genesis(genesis.time, genesis.root);
             replay_record(alloc, &mut store, record_name, shelf, out)
         }
-        Err(GenesisStop::Fault(part)) => Status::Genesis(part),
-        Err(GenesisStop::NoMemory) => Status::NoMemory,
+        Err(stop) => no_genesis(stop),
     }
 }
 

@@ -1,0 +1,44 @@
+-- A file that is longer than allowed is seen to be so by one byte more.
+use Rattle.std.proofs.Common.{◌≡◌, ℕ, ◌+◌, ◌<◌, ◌≤◌, List, length, take, Some, None, Option, Ok, Err, refl, sym, ap, ◌∙◌, inl, inr, arith}
+use Rattle.std.proofs.lemmas.Bool.{cases_lt, le-ltb, lt-ltb}
+use Rattle.std.proofs.lemmas.List.{length-take, take_all}
+use Rattle.bc_preset.specs.Settings.{config_of}
+use Rattle.bc_preset.specs.declared.configuration.ConfigValues.{ConfigValues}
+use Rattle.bc_preset.specs.declared.faults.ConfigFault.TheVariants as configs
+use Rattle.bc_preset.specs.declared.presets.Preset.{Preset}
+use Rattle.spec_state.specs.Genesis.{genesis_of}
+use Rattle.spec_state.specs.declared.fault.GenesisFault.TheVariants as genesis
+use Rattle.spec_replay.specs.Run.{with_config, with_genesis, with_files}
+
+config_of-long : (bytes : List ℕ) → 65536 < length bytes → config_of bytes ≡ Err configs.TooLong
+unfolding config_of
+config_of-long bytes long = rw (lt-ltb 65536 (length bytes) long) refl
+
+pub config_of-front : (bytes : List ℕ) → config_of (take 65537 bytes) ≡ config_of bytes
+config_of-front bytes =
+    elim (cases_lt 65536 (length bytes)) [
+      | inl long ↦ config_of-long (take 65537 bytes) (omega (arith, length-take 65537 bytes)) ∙ sym (config_of-long bytes long)
+      | inr short ↦ ap config_of (take_all 65537 bytes (omega arith))
+    ]
+
+genesis_of-long : (preset : Preset) (bytes : List ℕ) → 1073741824 < length bytes → genesis_of preset bytes ≡ Err genesis.TooLong
+unfolding genesis_of
+genesis_of-long preset bytes long = rw (lt-ltb 1073741824 (length bytes) long) refl
+
+pub genesis_of-front : (preset : Preset) (bytes : List ℕ) → genesis_of preset (take 1073741825 bytes) ≡ genesis_of preset bytes
+genesis_of-front preset bytes =
+    elim (cases_lt 1073741824 (length bytes)) [
+      | inl long ↦ genesis_of-long preset (take 1073741825 bytes) (omega (arith, length-take 1073741825 bytes)) ∙ sym (genesis_of-long preset bytes long)
+      | inr short ↦ ap (genesis_of preset) (take_all 1073741825 bytes (omega arith))
+    ]
+
+-- a run asks for its first file
+pub files-with_genesis : (config : ConfigValues) (genesis events : Option (List ℕ)) → 1 ≤ (with_genesis config genesis events).files
+unfolding with_genesis
+files-with_genesis config None events = omega arith
+files-with_genesis config (Some bytes) events = omega arith
+
+pub files-with_files : (config genesis events : Option (List ℕ)) → 1 ≤ (with_files config genesis events).files
+unfolding with_files
+files-with_files None genesis events = omega arith
+files-with_files (Some bytes) genesis events = omega arith
