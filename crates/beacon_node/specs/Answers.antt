@@ -1,5 +1,5 @@
 -- How a status, the bytes written and the names asked for meet a run.
-use Rattle.std.specs.Prelude.{◌≡◌, ℕ, ◌≤◌, List, ◌++◌, length, take, Option, Some, option_map}
+use Rattle.std.specs.Prelude.{◌≡◌, ℕ, ◌≤◌, List, [], ◌∷◌, ◌++◌, length, take, Option, Some, option_map, IsSome}
 use Rattle.bc_outside.specs.Told.{Told}
 use Rattle.bc_outside.specs.declared.trouble.Trouble.{Trouble}
 use Rattle.bc_outside.specs.declared.trouble.Trouble.TheVariants.{Failed, NoMemory}
@@ -62,3 +62,8 @@ pub record HasCauses (status : Status) (shelf shelf_then sink sink_then : ℕ) :
 abbrev pub unread : Trouble → Status
 unread Failed = statuses.ReadFault
 unread NoMemory = statuses.NoMemory
+
+-- each name holds bytes
+abbrev pub AllThere : (List ℕ → Option (List ℕ)) → List (List ℕ) → Type 0
+AllThere contents [] = Unit {0}
+AllThere contents (name ∷ names) = IsSome (contents name) × AllThere contents names

@@ -1,9 +1,9 @@
 //! The record of a run: each event is read, handed to the store, and answered by a line.
 
-ghost use Rattle.std.specs.Prelude.{◌≡◌, ◌≢◌, ◌<◌, ◌^◌, ◌∷◌, [], Some};
+ghost use Rattle.std.specs.Prelude.{◌≡◌, ◌≢◌, ◌<◌, ◌^◌, ◌∷◌, [], Some, true};
 ghost use Rattle.bc_outside.specs.Told.{Told};
 ghost use Rattle.spec_replay.specs.Run.{with_record};
-ghost use Rattle.beacon_node.specs.Answers.{Answers, HasCauses};
+ghost use Rattle.beacon_node.specs.Answers.{Answers, HasCauses, AllThere};
 
 use crate::status::Status;
 use crate::store::Store;
@@ -24,6 +24,8 @@ pub fn replay_record<F: Shelf, O: Sink>(
         (name.now ∷ []) result told (F.told shelf.new) (O.told out.old) (O.told out.new) }
     ensures causes { HasCauses result (F.faults shelf.old) (F.faults shelf.new) (O.faults out.old) (O.faults out.new) }
     ensures command { result ≢ Status.Words }
+    ensures steady_shelf { (told : Told) → F.told shelf.old ≡ Some told → AllThere told.contents (name.now ∷ []) → F.reliable shelf.old ≡ true → F.faults shelf.new ≡ F.faults shelf.old }
+    ensures steady_sink { O.reliable out.old ≡ true → O.faults out.new ≡ O.faults out.old }
 {
     Status::NoMemory
 }

@@ -8,6 +8,8 @@ mod reading;
 mod replay;
 mod status;
 mod store;
+mod top;
 mod words;
 
 pub use status::Status;
+pub use top::beacon_main;

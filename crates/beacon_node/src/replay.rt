@@ -1,10 +1,10 @@
 //! The command `replay`: configuration, genesis and record are read in this order, each only where the ones before it
 //! have no fault, and each event's line is written before the next frame is read.
 
-ghost use Rattle.std.specs.Prelude.{◌≡◌, ◌≢◌, ◌<◌, ◌+◌, ◌^◌, ◌∷◌, [], Some};
+ghost use Rattle.std.specs.Prelude.{◌≡◌, ◌≢◌, ◌<◌, ◌+◌, ◌^◌, ◌∷◌, [], Some, true};
 ghost use Rattle.bc_outside.specs.Told.{Told};
 ghost use Rattle.spec_replay.specs.Run.{with_files, with_genesis};
-ghost use Rattle.beacon_node.specs.Answers.{Answers, HasCauses, unread};
+ghost use Rattle.beacon_node.specs.Answers.{Answers, HasCauses, AllThere, unread};
 ghost use Rattle.beacon_node.specs.GenesisAnswers.{no_genesis};
 
 use crate::events::replay_record;
@@ -55,6 +55,8 @@ fn replay_genesis<F: Shelf, O: Sink>(
         (genesis_name.now ∷ record_name.now ∷ []) result told (F.told shelf.new) (O.told out.old) (O.told out.new) }
     ensures causes { HasCauses result (F.faults shelf.old) (F.faults shelf.new) (O.faults out.old) (O.faults out.new) }
     ensures command { result ≢ Status.Words }
+    ensures steady_shelf { (told : Told) → F.told shelf.old ≡ Some told → AllThere told.contents (genesis_name.now ∷ record_name.now ∷ []) → F.reliable shelf.old ≡ true → F.faults shelf.new ≡ F.faults shelf.old }
+    ensures steady_sink { O.reliable out.old ≡ true → O.faults out.new ≡ O.faults out.old }
 {
     let bytes = match read_named(alloc, shelf, genesis_name, MAX_GENESIS_LEN + 1) {
         Ok(bytes) => bytes,
@@ -82,6 +84,8 @@ pub fn replay<F: Shelf, O: Sink>(
         (files.now.config.now ∷ files.now.genesis.now ∷ files.now.events.now ∷ []) result told (F.told shelf.new) (O.told out.old) (O.told out.new) }
     ensures causes { HasCauses result (F.faults shelf.old) (F.faults shelf.new) (O.faults out.old) (O.faults out.new) }
     ensures command { result ≢ Status.Words }
+    ensures steady_shelf { (told : Told) → F.told shelf.old ≡ Some told → AllThere told.contents (files.now.config.now ∷ files.now.genesis.now ∷ files.now.events.now ∷ []) → F.reliable shelf.old ≡ true → F.faults shelf.new ≡ F.faults shelf.old }
+    ensures steady_sink { O.reliable out.old ≡ true → O.faults out.new ≡ O.faults out.old }
 {
     let bytes = match read_named(alloc, shelf, files.config, MAX_CONFIG_LEN + 1) {
         Ok(bytes) => bytes,

@@ -1,8 +1,9 @@
 -- Each exit is one step of the run: the genesis file could not be read, has a fault, or the record comes next.
-use Rattle.std.proofs.Common.{◌≡◌, List, ℕ, Err, Ok, subst}
+use Rattle.std.proofs.Common.{◌≡◌, List, [], ◌∷◌, ℕ, Err, Ok, ◌∙◌}
 use Rattle.spec_state.specs.Genesis.{genesis_of}
 use Rattle.beacon_node.specs.GenesisAnswers.{GivesGenesis}
 use Rattle.beacon_node.proofs.Steps.{unread_after}
+use Rattle.beacon_node.proofs.Commands.{still_there}
 use Rattle.beacon_node.proofs.Fronts.{files-with_genesis}
 use Rattle.beacon_node.proofs.Readers.{genesis_stops, genesis_goes_on}
 use Rattle.beacon_node.proofs.replay.replay_genesis.Goals as goal
@@ -23,3 +24,10 @@ returns-clause-answers g c = λ told is.
     let h = c.in-Ok.ensures.reads told is in
     let gives : GivesGenesis (Err c.in-Err-read_genesis.stop) (genesis_of c.args.config.now.preset c.in-Ok.bytes.items) = rw (c.preset.ensures.exact, c.deref.ensures.value) at c.in-Err-read_genesis.ensures in
     rw c.no_genesis.ensures (genesis_stops c.args.config.now c.args.genesis_name.now c.args.record_name.now c.in-Ok.bytes.items told _ h.0 h.1 _ c.in-Err-read_genesis.stop gives)
+
+pub returns-in-Ok-read_genesis-clause-steady_shelf : goal.returns-in-Ok-read_genesis-clause-steady_shelf
+returns-in-Ok-read_genesis-clause-steady_shelf g c = λ told is there reliable.
+    let h = c.in-Ok.ensures.reads told is in
+    let first = c.in-Ok.ensures.steady reliable told is there.0 in
+    let still = c.in-Ok.ensures.reliable ∙ reliable in
+    still_there (c.args.record_name.now ∷ []) _ told _ _ h.1 there.1 (λ now tells more. c.replay_record.ensures.steady_shelf now tells more still ∙ first)
