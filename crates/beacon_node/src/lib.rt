@@ -2,6 +2,7 @@
 #![tactic(auto)]
 
 mod events;
+mod explanation;
 mod genesis;
 mod lines;
 mod reading;
@@ -11,5 +12,6 @@ mod store;
 mod top;
 mod words;
 
+pub use explanation::Explanation;
 pub use status::Status;
 pub use top::beacon_main;
