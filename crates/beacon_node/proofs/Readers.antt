@@ -1,7 +1,7 @@
 -- The genesis file and the configuration's file as steps of a run.
 use Rattle.std.proofs.Common.{◌≡◌, ℕ, ◌≤◌, List, [], ◌∷◌, take, Option, Some, None, Result, Ok, Err, refl, sym, ap, subst, ◌∙◌, arith}
 use Rattle.bc_outside.specs.Told.{Told}
-use Rattle.bc_preset.specs.Settings.{config_of}
+use Rattle.bc_preset.specs.Configs.{config_of}
 use Rattle.bc_preset.specs.declared.configuration.ConfigValues.{ConfigValues}
 use Rattle.bc_preset.specs.declared.faults.ConfigFault.{ConfigFault}
 use Rattle.spec_state.specs.Genesis.{genesis_of, header_root_of}

@@ -1,6 +1,6 @@
 -- A run: from the bytes of configuration, genesis and record to lines and an end.
 use Rattle.std.specs.Prelude.{ℕ, ◌+◌, List, [], ◌∷◌, ◌++◌, Option, Some, None, Result, Ok, Err}
-use Rattle.bc_preset.specs.Settings.{config_of}
+use Rattle.bc_preset.specs.Configs.{config_of}
 use Rattle.bc_preset.specs.declared.configuration.ConfigValues.{ConfigValues}
 use Rattle.bc_preset.specs.declared.faults.ConfigFault.{ConfigFault}
 use Rattle.spec_state.specs.Genesis.{genesis_of, header_root_of}

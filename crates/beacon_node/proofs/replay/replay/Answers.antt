@@ -1,6 +1,6 @@
 -- Each exit is one step of the run: the configuration could not be read, has a fault, or the genesis state comes next.
 use Rattle.std.proofs.Common.{◌≡◌, List, [], ◌∷◌, ℕ, Err, Ok, ◌∙◌}
-use Rattle.bc_preset.specs.Settings.{config_of}
+use Rattle.bc_preset.specs.Configs.{config_of}
 use Rattle.beacon_node.specs.Files.{files_named}
 use Rattle.beacon_node.proofs.Steps.{unread_after}
 use Rattle.beacon_node.proofs.Commands.{still_there}

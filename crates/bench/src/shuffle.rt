@@ -1,0 +1,69 @@
+//! A list of 2^20 items shuffled at 90 rounds, against its hashes: one for each 256 places of a round, and one for
+//! the round's pivot.
+
+use crate::ratio::Ratio;
+use anyhow::Result;
+use sha2::{Digest, Sha256};
+use shuffling::shuffle_all;
+use std::alloc::{AllocError, Global};
+use std::time::CpuClock;
+
+/// How many items are shuffled.
+const ITEMS: u64 = 1 << 20;
+
+/// How many rounds the mainnet preset has.
+const ROUNDS: u8 = 90;
+
+/// The numbers below the count.
+fn numbers(alloc: Global, count: u64) -> Result<Vec<u64>, AllocError> {
+    let mut list = Vec::new(alloc);
+    for i in 0..count {
+        list.push(i)?;
+    }
+    Ok(list)
+}
+
+/// The hashes of one round, joined so that none is left out. The seed has 32 bytes of 7.
+fn round_hashes(round: u8) -> u8 {
+    let mut pivot = [7; 33];
+    pivot[32] = round;
+    let mut joined = Sha256::digest(&pivot)[0];
+    let mut source = [7; 37];
+    source[32] = round;
+    source[35] = 0;
+    source[36] = 0;
+    for page in 0u16..4096 {
+        let number = page.to_le_bytes();
+        source[33] = number[0];
+        source[34] = number[1];
+        joined ^= Sha256::digest(&source)[0];
+    }
+    joined
+}
+
+/// Shuffles, hashes, and prints both times.
+pub fn measure(rt: &(impl AllocGlobal + Print + CpuClock)) -> Result<()> {
+    let seed = [7; 32];
+    let list = numbers(rt.alloc(), ITEMS)?;
+    let begin = rt.process_cpu_time()?;
+    if list.len() > 1 << 40 {
+        return Ok(());
+    }
+    let shuffled = match shuffle_all(rt.alloc(), list, &seed, u32::from(ROUNDS)) {
+        Ok(shuffled) => shuffled,
+        Err(_) => return Ok(println!(rt; "shuffle: out of memory")?),
+    };
+    let middle = rt.process_cpu_time()?;
+    let mut joined = 0;
+    for round in 0..ROUNDS {
+        joined ^= round_hashes(round);
+    }
+    let end = rt.process_cpu_time()?;
+    let ratio = Ratio {
+        whole: middle.saturating_sub(begin),
+        hashes: end.saturating_sub(middle),
+    };
+    let first = shuffled.get(0).copied().unwrap_or(0);
+    println!(rt; "shuffle of 2^20 items at {ROUNDS} rounds: {ratio} (first {first}, joined {joined})")?;
+    Ok(())
+}
