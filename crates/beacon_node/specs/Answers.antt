@@ -4,6 +4,9 @@ use Rattle.bc_outside.specs.Told.{Told}
 use Rattle.bc_outside.specs.declared.trouble.Trouble.{Trouble}
 use Rattle.bc_outside.specs.declared.trouble.Trouble.TheVariants.{Failed, NoMemory}
 use Rattle.bc_outside.specs.Calls.{Rose}
+use Rattle.record_file.specs.Record.{fault_event}
+use Rattle.record_file.specs.declared.fault.FrameStop.{FrameStop}
+use Rattle.record_file.specs.declared.fault.FrameStop.TheVariants as stops
 use Rattle.spec_replay.specs.Run.{Run, End, done, no_command, bad_config, bad_genesis, bad_record}
 use Rattle.beacon_node.specs.declared.status.Status.{Status}
 use Rattle.beacon_node.specs.declared.status.Status.TheVariants as statuses
@@ -67,3 +70,14 @@ unread NoMemory = statuses.NoMemory
 abbrev pub AllThere : (List ℕ → Option (List ℕ)) → List (List ℕ) → Type 0
 AllThere contents [] = Unit {0}
 AllThere contents (name ∷ names) = IsSome (contents name) × AllThere contents names
+
+-- the status of lines that could not be written
+abbrev pub unwritten : Trouble → Status
+unwritten Failed = statuses.WriteFault
+unwritten NoMemory = statuses.NoMemory
+
+-- the status of a frame that could not be read, where that many events were
+abbrev pub no_frame : ℕ → FrameStop → Status
+no_frame events (stops.Fault reason) = statuses.Record 0 (fault_event events reason) reason
+no_frame events stops.ReadFault = statuses.ReadFault
+no_frame events stops.NoMemory = statuses.NoMemory

@@ -1,6 +1,7 @@
 pub mod Answers
 pub mod Files
 pub mod GenesisAnswers
+pub mod Progress
 pub mod Reading
 pub mod Statuses
 pub mod Stores

@@ -3,8 +3,10 @@
 ghost use Rattle.std.specs.Prelude.{◌≡◌, ◌<◌, ◌≤◌, ◌^◌, ◌+◌, Some, IsSome, true};
 ghost use Rattle.bc_outside.specs.Told.{Told};
 ghost use Rattle.bc_outside.specs.Calls.{HasCause};
+ghost use Rattle.beacon_node.specs.Answers.{unread};
 ghost use Rattle.beacon_node.specs.Reading.{ReadsNamed};
 
+use crate::status::Status;
 use bc_outside::{Shelf, Trouble, read_at_most};
 use std::alloc::Global;
 
@@ -24,4 +26,14 @@ pub fn read_named<F: Shelf>(
 {
     let file = shelf.open(name)?;
     read_at_most(alloc, shelf, file, limit)
+}
+
+/// The status of a file that could not be read.
+pub fn unread(trouble: Trouble) -> Status
+    ensures { result ≡ unread trouble }
+{
+    match trouble {
+        Trouble::Failed => Status::ReadFault,
+        Trouble::NoMemory => Status::NoMemory,
+    }
 }

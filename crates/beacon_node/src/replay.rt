@@ -4,31 +4,21 @@
 ghost use Rattle.std.specs.Prelude.{◌≡◌, ◌≢◌, ◌<◌, ◌+◌, ◌^◌, ◌∷◌, [], Some, true};
 ghost use Rattle.bc_outside.specs.Told.{Told};
 ghost use Rattle.spec_replay.specs.Run.{with_files, with_genesis};
-ghost use Rattle.beacon_node.specs.Answers.{Answers, HasCauses, AllThere, unread};
+ghost use Rattle.beacon_node.specs.Answers.{Answers, HasCauses, AllThere};
 ghost use Rattle.beacon_node.specs.GenesisAnswers.{no_genesis};
 
 use crate::events::replay_record;
 use crate::genesis::{GenesisStop, read_genesis};
-use crate::reading::read_named;
+use crate::reading::{read_named, unread};
 use crate::status::Status;
 use crate::store::Store;
 use crate::words::ReplayFiles;
-use bc_outside::{Shelf, Sink, Trouble};
+use bc_outside::{Shelf, Sink};
 use bc_preset::{Config, MAX_CONFIG_LEN};
 use std::alloc::Global;
 
 /// The longest genesis file, in bytes.
 pub const MAX_GENESIS_LEN: usize = 1 << 30;
-
-/// The status of a file that could not be read.
-fn unread(trouble: Trouble) -> Status
-    ensures { result ≡ unread trouble }
-{
-    match trouble {
-        Trouble::Failed => Status::ReadFault,
-        Trouble::NoMemory => Status::NoMemory,
-    }
-}
 
 /// The status of a genesis state that has a fault.
 fn no_genesis(stop: GenesisStop) -> Status
