@@ -5,6 +5,7 @@ use crate::words::replay_files;
 use std::fmt;
 
 /// A status beside the words that it answers.
+#[derive(Drop)]
 pub struct Explanation<'a> {
     /// The status.
     pub status: &'a Status,

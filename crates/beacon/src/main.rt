@@ -1,0 +1,56 @@
+//! The program `beacon`: its words, the disk and standard output go to `beacon_main`, and its status to the caller.
+#![tactic(auto)]
+
+use beacon_node::{Explanation, Status, beacon_main};
+use bc_outside::{DiskShelf, StdSink};
+use std::env;
+use std::fs;
+use std::io;
+use std::process::ExitCode;
+use std::rt::{Env, Files};
+
+/// The words behind the program's name. A word that isn't text is none of a command.
+fn words_of<R: Env + AllocGlobal>(rt: &R) -> Result<Vec<String>, Status> {
+    let mut words = Vec::new(rt.alloc());
+    match env::args(rt) {
+        Ok(args) => {
+            for word in args.skip(1) {
+                if words.push(word).is_err() {
+                    return Err(Status::NoMemory);
+                }
+            }
+            Ok(words)
+        }
+        Err(error) if error.kind() == io::ErrorKind::OutOfMemory => Err(Status::NoMemory),
+        Err(_) => Err(Status::Words),
+    }
+}
+
+/// Says on standard error what a status other than Done means.
+fn explain<R: Files + Eprint>(rt: &R, status: &Status, words: &[String]) {
+    let _ = eprintln!(rt; "{}", Explanation { status, words });
+    if matches!(status, Status::ReadFault) {
+        for word in words {
+            if let Err(error) = fs::open(rt, word.as_str()) {
+                let _ = eprintln!(rt; "{word}: {error}");
+            }
+        }
+    }
+}
+
+fn main(rt: HostRuntime) -> ExitCode {
+    let words = match words_of(&rt) {
+        Ok(words) => words,
+        Err(status) => {
+            explain(&rt, &status, &[]);
+            return ExitCode::from(status.number());
+        }
+    };
+    let mut shelf = DiskShelf::new(rt.alloc(), &rt);
+    let mut out = StdSink::new(io::writer(&rt));
+    let status = beacon_main(rt.alloc(), &words, &mut shelf, &mut out);
+    if status.number() != 0 {
+        explain(&rt, &status, &words);
+    }
+    ExitCode::from(status.number())
+}

@@ -1,0 +1,130 @@
+//! One case: its words, the files that they name, and what is expected of them.
+
+use crate::expected::status_text;
+use anyhow::{Context, Result};
+use bc_outside::{MemoryFile, MemoryShelf, MemorySink};
+use beacon_node::beacon_main;
+use std::alloc::Global;
+use std::fs;
+use std::io;
+use std::rt::Files;
+
+/// A case, with its files in memory.
+#[derive(Drop)]
+pub struct Case {
+    words: Vec<String>,
+    files: Vec<(String, Vec<u8>)>,
+    lines: Vec<u8>,
+    status: String,
+}
+
+/// What the program answered.
+#[derive(Drop)]
+pub struct Answer {
+    lines: Vec<u8>,
+    status: String,
+}
+
+/// The bytes of a file, None where there is no such file.
+fn bytes_at<R: Files + AllocGlobal>(rt: &R, path: &str) -> Result<Option<Vec<u8>>> {
+    match fs::read(rt, path) {
+        Ok(bytes) => Ok(Some(bytes)),
+        Err(error) if error.kind() == io::ErrorKind::NotFound => Ok(None),
+        Err(error) => Err(error.into()),
+    }
+}
+
+/// The text of a file.
+fn text_at<R: Files + AllocGlobal>(rt: &R, path: &str) -> Result<Option<String>> {
+    match fs::read_to_string(rt, path) {
+        Ok(text) => Ok(Some(text)),
+        Err(error) if error.kind() == io::ErrorKind::NotFound => Ok(None),
+        Err(error) => Err(error.into()),
+    }
+}
+
+/// Adds the byte that a note names, as often as it says.
+fn fill(bytes: &mut Vec<u8>, note: &str) -> Result<()> {
+    let (byte, count) = note.trim().split_once(' ').context("a byte and a count")?;
+    let byte: u8 = byte.parse()?;
+    let count: u32 = count.parse()?;
+    for _ in 0..count {
+        bytes.push(byte)?;
+    }
+    Ok(())
+}
+
+/// A file of the case, or the common one of that name.
+fn load_file<R: Files + AllocGlobal>(rt: &R, case: &str, name: &str) -> Result<Vec<u8>> {
+    let alloc = rt.alloc();
+    let own = format!(in alloc; "{case}/{name}")?;
+    let common = format!(in alloc; "common/{name}")?;
+    let mut bytes = match bytes_at(rt, own.as_str())? {
+        Some(bytes) => bytes,
+        None => bytes_at(rt, common.as_str())?.unwrap_or(Vec::new(alloc)),
+    };
+    let note = format!(in alloc; "{own}.filled")?;
+    if let Some(note) = text_at(rt, note.as_str())? {
+        fill(&mut bytes, note.as_str())?;
+    }
+    Ok(bytes)
+}
+
+impl Case {
+    /// Reads the case of this name.
+    pub fn load<R: Files + AllocGlobal>(rt: &R, name: &str) -> Result<Case> {
+        let alloc = rt.alloc();
+        let words = load_file(rt, name, "words")?;
+        let words = String::from_utf8(words).ok().context("words are text")?;
+        let mut case = Case {
+            words: Vec::new(alloc),
+            files: Vec::new(alloc),
+            lines: load_file(rt, name, "stdout")?,
+            status: String::new(alloc),
+        };
+        for word in words.lines() {
+            case.words.push(word.to_string(alloc)?)?;
+            let bytes = load_file(rt, name, word)?;
+            case.files.push((word.to_string(alloc)?, bytes))?;
+        }
+        let status = load_file(rt, name, "status")?;
+        let status = String::from_utf8(status).ok().context("a status is text")?;
+        case.status.push_str(status.trim())?;
+        Ok(case)
+    }
+
+    /// The expected status.
+    pub fn status(&self) -> &str {
+        self.status.as_str()
+    }
+
+    /// Runs the program over files that are handed out in pieces of at most so many bytes.
+    pub fn run(&self, alloc: Global, piece: usize) -> Result<Answer> {
+        let mut files = Vec::new(alloc);
+        for (name, bytes) in &self.files {
+            files.push(MemoryFile::new(name.clone()?, Vec::from_slice(alloc, bytes)?))?;
+        }
+        let mut shelf = MemoryShelf::new(alloc, files, Vec::new(alloc), piece.max(1));
+        let mut sink = MemorySink::new(alloc, Vec::new(alloc), piece.max(1));
+        let status = beacon_main(alloc, &self.words, &mut shelf, &mut sink);
+        Ok(Answer {
+            lines: Vec::from_slice(alloc, sink.written())?,
+            status: status_text(alloc, &status)?,
+        })
+    }
+
+    /// What is not as expected, if anything is.
+    pub fn difference(&self, alloc: Global, answer: &Answer) -> Result<Option<String>> {
+        if answer.status.as_str() != self.status.as_str() {
+            let expected = self.status.as_str();
+            let found = answer.status.as_str();
+            return Ok(Some(format!(in alloc; "expected {expected}, found {found}")?));
+        }
+        if answer.lines.as_slice() != self.lines.as_slice() {
+            let expected = self.lines.len();
+            let found = answer.lines.len();
+            return Ok(Some(format!(in alloc; "expected other lines ({expected} bytes, found {found})")?));
+        }
+        Ok(None)
+    }
+}
