@@ -3,6 +3,9 @@ use Rattle.std.specs.Prelude.{◌≡◌, Result, Ok, Err}
 use Rattle.spec_state.specs.Genesis.{header_root_of}
 use Rattle.spec_state.specs.declared.plain.PlainState.{PlainState}
 use Rattle.spec_state.specs.declared.fault.GenesisFault.{GenesisFault}
+use Rattle.spec_state.specs.declared.fault.GenesisFault.TheVariants as parts
+use Rattle.ssz_codec.specs.declared.fault.SszFault.{SszFault}
+use Rattle.ssz_codec.specs.declared.fault.SszFault.TheVariants as faults
 use Rattle.beacon_node.specs.declared.genesis.Genesis.{Genesis}
 use Rattle.beacon_node.specs.declared.genesis.GenesisStop.{GenesisStop}
 use Rattle.beacon_node.specs.declared.genesis.GenesisStop.TheVariants.{Fault, NoMemory}
@@ -24,3 +27,8 @@ GivesGenesis (Err NoMemory) read = Unit {0}
 abbrev pub no_genesis : GenesisStop → Status
 no_genesis (Fault part) = statuses.Genesis part
 no_genesis NoMemory = statuses.NoMemory
+
+-- why bytes that are no state hold no genesis
+abbrev pub no_state : SszFault → GenesisStop
+no_state faults.NotAWriting = Fault parts.NotAWriting
+no_state faults.NoMemory = NoMemory

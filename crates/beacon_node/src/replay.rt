@@ -8,7 +8,7 @@ ghost use Rattle.beacon_node.specs.Answers.{Answers, HasCauses, AllThere};
 ghost use Rattle.beacon_node.specs.GenesisAnswers.{no_genesis};
 
 use crate::events::replay_record;
-use crate::genesis::{GenesisStop, read_genesis};
+use crate::genesis::{GenesisStop, MAX_GENESIS_LEN, read_genesis};
 use crate::reading::{read_named, unread};
 use crate::status::Status;
 use crate::store::Store;
@@ -16,9 +16,6 @@ use crate::words::ReplayFiles;
 use bc_outside::{Shelf, Sink};
 use bc_preset::{Config, MAX_CONFIG_LEN};
 use std::alloc::Global;
-
-/// The longest genesis file, in bytes.
-pub const MAX_GENESIS_LEN: usize = 1 << 30;
 
 /// The status of a genesis state that has a fault.
 fn no_genesis(stop: GenesisStop) -> Status
