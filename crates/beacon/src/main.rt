@@ -26,16 +26,23 @@ fn words_of<R: Env + AllocGlobal>(rt: &R) -> Result<Vec<String>, Status> {
     }
 }
 
-/// Says on standard error what a status other than Done means.
-fn explain<R: Files + Eprint>(rt: &R, status: &Status, words: &[String]) {
-    let _ = eprintln!(rt; "{}", Explanation { status, words });
-    if matches!(status, Status::ReadFault) {
-        for word in words {
-            if let Err(error) = fs::open(rt, word.as_str()) {
-                let _ = eprintln!(rt; "{word}: {error}");
-            }
+/// The first file of the words that can't be opened, and why.
+fn closed_file<'a, R: Files>(rt: &R, words: &'a [String]) -> Option<(&'a str, io::Error)> {
+    for word in words {
+        if let Err(error) = fs::open(rt, word.as_str()) {
+            return Some((word.as_str(), error));
         }
     }
+    None
+}
+
+/// Says on one line of standard error what a status other than Done means.
+fn explain<R: Files + Eprint>(rt: &R, status: &Status, words: &[String]) {
+    let files = if words.is_empty() { words } else { &words[1..] };
+    let _ = match (status, closed_file(rt, files)) {
+        (Status::ReadFault, Some((name, error))) => eprintln!(rt; "ReadFault: {name}: {error}"),
+        _ => eprintln!(rt; "{}", Explanation { status, words }),
+    };
 }
 
 fn main(rt: HostRuntime) -> ExitCode {

@@ -4,7 +4,7 @@ use crate::status::Status;
 use crate::words::replay_files;
 use std::fmt;
 
-/// A status beside the words that it answers.
+/// A status beside the words that it answers. It prints one line.
 #[derive(Drop)]
 pub struct Explanation<'a> {
     /// The status.

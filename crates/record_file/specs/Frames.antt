@@ -7,7 +7,7 @@ use Rattle.record_file.specs.declared.fault.FrameStop.{FrameStop}
 use Rattle.record_file.specs.declared.fault.FrameStop.TheVariants.{Fault, ReadFault, NoMemory}
 use Rattle.record_file.specs.declared.status.Status.{Status}
 use Rattle.record_file.specs.declared.status.Status.TheVariants.{AtMagic, AtFrame, Stopped}
-use Rattle.record_file.specs.Record.{Events, done, fault, fault_event, events_from, events_of, most_events, longest_payload, is_kind, with_event}
+use Rattle.record_file.specs.Record.{Events, done, fault, fault_event, events_from, events_of, most_events, longest_payload, is_run, with_event}
 
 -- The file, how many events were read of it, where the next call stands, and the bytes that were taken of the file and
 -- not read yet.
@@ -46,7 +46,7 @@ Gives (Err NoMemory) events before now = now ≡ before
 
 -- What `next` does to the place, also where the shelf tells nothing.
 abbrev pub Moves : Result (Option Event) FrameStop → Reading → Reading → Type 0
-Moves (Ok (Some event)) before now = (now.events ≡ before.events + 1) × (now.status ≡ AtFrame) × (is_kind event.kind ≡ true) × (length event.payload ≤ longest_payload)
+Moves (Ok (Some event)) before now = (now.events ≡ before.events + 1) × (now.status ≡ AtFrame) × (is_run event.kind ≡ true) × (length event.payload ≤ longest_payload)
 Moves (Ok None) before now = (now.events ≡ before.events) × (now.status ≡ AtFrame)
 Moves (Err (Fault reason)) before now = (now.events ≡ before.events) × (now.status ≡ Stopped reason)
 Moves (Err _) before now = now.events ≡ before.events

@@ -1,6 +1,6 @@
 -- The grammar of a record: the four bytes `BCR1`, then frames until the end of the file. A frame is a kind (1 byte), a
 -- length (4 bytes, little endian) and a payload of that many bytes. Each frame is an event, and events count from 1.
-use Rattle.std.specs.Prelude.{ℕ, zero, suc, ◌+◌, Bool, List, [], ◌∷◌, length, take, drop, nat_lt, nat_le, ◌==◌, if◌then◌else◌}
+use Rattle.std.specs.Prelude.{ℕ, zero, suc, ◌+◌, Bool, ◌&&◌, List, [], ◌∷◌, length, take, drop, nat_lt, nat_le, ◌==◌, if◌then◌else◌}
 use Rattle.std.specs.Int.{w32, from_le_bytes}
 use Rattle.std.specs.Str.{bytes_eq}
 use Rattle.record_file.specs.declared.event.Event.{Event}
@@ -11,9 +11,13 @@ use Rattle.record_file.specs.declared.fault.RecordFault.TheVariants.{BadMagic, T
 abbrev pub magic : List ℕ
 magic = 66 ∷ 67 ∷ 82 ∷ 49 ∷ []
 
--- the kinds of event: 1 is a tick
+-- the kinds of frames: 1 is a tick, 2 a signed block, 3 an attestation from the wire, 4 an attestation from a block
 abbrev pub is_kind : ℕ → Bool
-is_kind kind = kind == 1
+is_kind kind = nat_le 1 kind && nat_le kind 4
+
+-- the kinds whose events can be run: ticks
+abbrev pub is_run : ℕ → Bool
+is_run kind = kind == 1
 
 -- how many events a record may have
 abbrev pub most_events : ℕ
@@ -29,12 +33,13 @@ pub data FrameRead : Type 0 where
   faulted : RecordFault → FrameRead
   framed : Event → List ℕ → FrameRead
 
--- behind the length: the payload, or Torn where it is cut
+-- behind the length: the payload, or Torn where it is cut. A whole frame whose event can't be run is of a bad kind
 unfoldable pub payload_of : ℕ → ℕ → List ℕ → FrameRead
 payload_of kind size bytes =
     if nat_lt longest_payload size then faulted (TooLong size)
     else if nat_lt (length bytes) size then faulted Torn
-    else framed (record { kind = kind; payload = take size bytes }) (drop size bytes)
+    else if is_run kind then framed (record { kind = kind; payload = take size bytes }) (drop size bytes)
+    else faulted (BadKind kind)
 
 -- behind the kind: the length, or Torn where it is cut
 unfoldable pub sized_of : ℕ → List ℕ → FrameRead

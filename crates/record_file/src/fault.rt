@@ -16,8 +16,8 @@ pub enum RecordFault {
     /// A frame begins after 2^22 events.
     #[error("more than 4194304 events")]
     TooMany,
-    /// There is no such kind of event.
-    #[error("no event has kind {0}")]
+    /// There is no such kind of frame, or its events are not run.
+    #[error("a frame of kind {0}, where only ticks are run, of kind 1")]
     BadKind(u8),
     /// The file ends inside a frame.
     #[error("the record ends inside the event")]
