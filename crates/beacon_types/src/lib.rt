@@ -9,6 +9,7 @@ mod checkpoint;
 mod eth1_data;
 mod fork;
 mod pending_attestation;
+mod slashable;
 mod validator;
 mod voluntary_exit;
 
@@ -18,5 +19,9 @@ pub use checkpoint::Checkpoint;
 pub use eth1_data::Eth1Data;
 pub use fork::Fork;
 pub use pending_attestation::{AggregationBits, PendingAttestation};
+pub use slashable::is_slashable_data;
 pub use validator::Validator;
 pub use voluntary_exit::VoluntaryExit;
+
+#[cfg(test)]
+mod tests;

@@ -1,0 +1,17 @@
+//! Which votes of one validator are slashable together.
+
+ghost use Rattle.std.specs.Prelude.{IsTrue, ◌↔◌};
+ghost use Rattle.beacon_types.specs.Slashable.{IsSlashableData};
+
+use crate::attestation_data::AttestationData;
+
+/// Whether the votes are a double vote, or the first surrounds the second (beacon-chain.md,
+/// "is_slashable_attestation_data").
+#[tactic(auto, unfolding(crate::specs::Slashable::IsSlashableData))]
+pub fn is_slashable_data(a: &AttestationData, b: &AttestationData) -> bool
+    ensures { IsTrue result ↔ IsSlashableData a.now b.now }
+{
+    let double = a != b && a.target.epoch == b.target.epoch;
+    let surround = a.source.epoch < b.source.epoch && b.target.epoch < a.target.epoch;
+    double || surround
+}
