@@ -2,7 +2,7 @@
 
 ghost use Rattle.std.specs.Prelude.{◌≡◌, ℕ, ◌<◌, ◌≤◌, ◌^◌, length, slice_index, IfOk};
 
-use crate::epoch::EpochCommittees;
+use crate::epoch::{EpochCommittees, members_stand_once};
 use crate::proposer::pick_proposer;
 use crate::seed::{DOMAIN_BEACON_ATTESTER, DOMAIN_BEACON_PROPOSER, seed_of};
 use crate::small_state::SmallState;
@@ -38,6 +38,7 @@ fn committees(alloc: Global, count: u64) -> Result<EpochCommittees, Fail>
     requires { count ≤ 2 ^ 40 }
 {
     let active = indices(alloc, count)?;
+    members_stand_once(&active, &[7; 32], &Preset::minimal());
     Ok(EpochCommittees::new(alloc, active, &[7; 32], &Preset::minimal())?)
 }
 
