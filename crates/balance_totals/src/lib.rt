@@ -1,10 +1,11 @@
 //! Active validators and total balances (beacon-chain.md, "Helper functions").
 //!
-//! They read the registry of a state, through a small trait that the state's crate meets; committees, justification
+//! They read the registry of a state through a small trait, which the state meets here; committees, justification
 //! and rewards take what they give.
 #![tactic(auto)]
 
 mod registry;
+mod state;
 mod totals;
 
 pub use registry::Registry;

@@ -1,32 +1,12 @@
-//! What seeds, proposers and totals read of a state.
+//! What seeds and proposers read of a state.
 
 ghost use Rattle.std.specs.Prelude.{◌≡◌, length};
 ghost use Rattle.spec_state.specs.Epochs.{randao_mix, effective_balance};
 
 use crate::state::State;
-use balance_totals::Registry;
 use bc_preset::Preset;
-use beacon_types::Validator;
 use committees::Lookup;
 use hash_tree::Root;
-
-impl Registry for State {
-    ghost preset_of = { λ state. state.preset };
-
-    ghost validators_of = { λ state. state.validators };
-
-    fn preset(&self) -> &Preset {
-        &self.plain().preset
-    }
-
-    fn validators_len(&self) -> u64 {
-        self.plain().validators.len() as u64
-    }
-
-    fn validators_at(&self, index: u64) -> Option<&Validator> {
-        self.plain().validators.get(index as usize)
-    }
-}
 
 impl Lookup for State {
     ghost preset_of = { λ state. state.preset };
