@@ -4,6 +4,7 @@ pub mod Basic
 pub mod Lists
 pub mod Reads
 pub mod Cutting
+pub mod Offsets
 pub mod Lawful
 pub mod LayoutLaws
 pub mod CodecLaws

@@ -10,6 +10,7 @@ mod fault;
 mod items;
 mod layout;
 mod lists;
+mod pieces;
 mod ssz;
 mod writer;
 
@@ -18,5 +19,9 @@ pub use fault::SszFault;
 pub use items::Items;
 pub use layout::{Field, cut};
 pub use lists::{read_items, read_list, read_variable_list};
+pub use pieces::{Cut, Parts};
 pub use ssz::{Ssz, one_writing, reads_back};
 pub use writer::Writer;
+
+#[cfg(test)]
+mod tests;
