@@ -1,6 +1,6 @@
 //! The committees of one epoch, as slices of its one shuffled list.
 
-ghost use Rattle.std.specs.Prelude.{◌≡◌, ◌+◌, ◌<◌, ◌≤◌, ◌^◌, length, slice_range, IfOk, IsOk, MatchOption, Some, None};
+ghost use Rattle.std.specs.Prelude.{◌≡◌, ◌↔◌, IsNone, ◌*◌, ◌%◌, ◌+◌, ◌<◌, ◌≤◌, ◌^◌, length, slice_range, IfOk, IsOk, MatchOption, Some, None};
 ghost use Rattle.bc_preset.specs.Presets.{IsPreset};
 ghost use Rattle.committees.specs.Committees.{committees_of, committees_per_slot, committee_at, first_place, StandOnce, IsWithoutRepeats};
 
@@ -103,7 +103,8 @@ impl EpochCommittees {
 
     /// The committee of a slot with an index, or None exactly where the epoch has no such committee.
     pub fn committee(&self, slot: u64, index: u64) -> Option<&[u64]>
-        ensures { MatchOption result (committee_at self.now slot index ≡ None) (λ members. committee_at self.now slot index ≡ Some members.now) }
+        ensures exact { MatchOption result (committee_at self.now slot index ≡ None) (λ members. committee_at self.now slot index ≡ Some members.now) }
+        ensures none { IsNone result ↔ (self.now.per_slot * self.now.slots ≤ slot % self.now.slots * self.now.per_slot + index) }
     {
         let count = self.per_slot * self.slots;
         let first = slot % self.slots * self.per_slot;
