@@ -20,12 +20,12 @@ at_most : (events b : ℕ) (bytes : List ℕ) → events ≡ most_events → fra
 unfolding frame_of
 at_most events b bytes e = rw e
 
-nothing : (events : ℕ) → frame_of events [] ≡ ended
+pub nothing : (events : ℕ) → frame_of events [] ≡ ended
 unfolding frame_of
 nothing events = refl
 
 -- one step of a record, by what stands at its front
-from_ended : (room events : ℕ) (bytes : List ℕ) → room + events ≡ most_events → frame_of events bytes ≡ ended → events_from room events bytes ≡ record { events = []; end = done }
+pub from_ended : (room events : ℕ) (bytes : List ℕ) → room + events ≡ most_events → frame_of events bytes ≡ ended → events_from room events bytes ≡ record { events = []; end = done }
 unfolding events_from
 from_ended zero events [] r e = refl
 from_ended zero events (b ∷ bytes) r e = let k : frame_of events (b ∷ bytes) ≡ faulted TooMany = at_most events b bytes (omega arith) in cc
@@ -40,7 +40,7 @@ from_faulted zero events (b ∷ bytes) reason r e =
     rw (← same) refl
 from_faulted (suc room) events bytes reason r e = rw (e, events_from)
 
-from_framed : (room events : ℕ) (bytes : List ℕ) (event : Event) (rest : List ℕ) → frame_of events bytes ≡ framed event rest → events_from (suc room) events bytes ≡ with_event event (events_from room (events + 1) rest)
+pub from_framed : (room events : ℕ) (bytes : List ℕ) (event : Event) (rest : List ℕ) → frame_of events bytes ≡ framed event rest → events_from (suc room) events bytes ≡ with_event event (events_from room (events + 1) rest)
 unfolding events_from
 from_framed room events bytes event rest e = rw (e, events_from)
 

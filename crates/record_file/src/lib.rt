@@ -9,6 +9,7 @@ mod fault;
 mod fill;
 mod found;
 mod frames;
+mod law;
 mod status;
 #[cfg(test)]
 mod tests;
@@ -16,4 +17,5 @@ mod tests;
 pub use event::{Event, Payload};
 pub use fault::{FrameStop, RecordFault};
 pub use frames::Frames;
+pub use law::written_is_read_again;
 pub use status::Status;

@@ -77,6 +77,10 @@ fn records(rt: HostRuntime) -> Result<(), Fail> {
         0,
         Some((RecordFault::BadKind(9), 1)),
     )?;
+    let torn_block = b"BCR1\x01\0\0\0\0\x02\x10";
+    ends_however_cut(&rt, alloc, torn_block, 1, Some((RecordFault::Torn, 2)))?;
+    let block = b"BCR1\x02\0\0\0\0";
+    ends_however_cut(&rt, alloc, block, 0, Some((RecordFault::BadKind(2), 1)))?;
     ends_however_cut(&rt, alloc, b"BCR1\x01", 0, Some((RecordFault::Torn, 1)))?;
     ends_however_cut(&rt, alloc, b"BCR1\x01\x10", 0, Some((RecordFault::Torn, 1)))?;
     ends_however_cut(&rt, alloc, &ticks[..25], 1, Some((RecordFault::Torn, 2)))?;
