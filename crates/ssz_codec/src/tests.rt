@@ -3,16 +3,34 @@
 use super::*;
 use std::test::Fail;
 
+/// How many bytes are taken, or 99.
+fn taken(cut: &mut Cut, n: usize) -> usize {
+    match cut.take(n) {
+        Some(part) => part.len(),
+        None => 99,
+    }
+}
+
+/// Whether the offsets are those of parts behind two bytes.
+fn has_parts(bytes: &[u8], offsets: &[u32]) -> bool {
+    if offsets.is_empty() {
+        return false;
+    }
+    Cut::parts(bytes, 2, offsets).is_some()
+}
+
 #[test]
 fn pieces_of_bytes(rt: HostRuntime) {
     let bytes = [1, 2, 3, 4, 5];
     let mut cut = Cut::new(&bytes);
-    assert_eq!(rt; cut.take(2), Some([1, 2].as_slice()));
-    assert_eq!(rt; cut.take(4), None);
-    assert_eq!(rt; cut.take(3), Some([3, 4, 5].as_slice()));
-    assert!(rt; Cut::parts(&bytes, 2, &[2, 4]).is_some());
-    assert!(rt; Cut::parts(&bytes, 2, &[3, 4]).is_none());
-    assert!(rt; Cut::parts(&bytes, 2, &[2, 6]).is_none());
+    let lengths = (taken(&mut cut, 2), taken(&mut cut, 4), taken(&mut cut, 3));
+    assert_eq!(rt; lengths, (2, 99, 3));
+    let parts = (
+        has_parts(&bytes, &[2, 4]),
+        has_parts(&bytes, &[3, 4]),
+        has_parts(&bytes, &[2, 6]),
+    );
+    assert_eq!(rt; parts, (true, false, false));
 }
 
 #[test]
