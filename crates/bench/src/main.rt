@@ -5,18 +5,20 @@
 
 mod ratio;
 mod shuffle;
+mod state;
 
 use anyhow::Result;
 use std::env;
 
 /// What is printed where no word names a measurement.
-const USAGE: &str = "name what to measure: shuffle";
+const USAGE: &str = "name what to measure: shuffle or state";
 
 fn main(rt: HostRuntime) -> Result<()> {
     let mut words = env::args(&rt)?;
     let _program = words.next();
     match words.next() {
         Some(word) if word.as_str() == "shuffle" => shuffle::measure(&rt)?,
+        Some(word) if word.as_str() == "state" => state::measure(&rt)?,
         _ => println!(rt; "{USAGE}")?,
     }
     Ok(())
