@@ -1,13 +1,11 @@
 //! The program `beacon`: its words, the disk and standard output go to `beacon_main`, and its status to the caller.
 #![tactic(auto)]
 
-use beacon_node::{Explanation, Status, beacon_main};
 use bc_outside::{DiskShelf, StdSink};
-use std::env;
-use std::fs;
-use std::io;
+use beacon_node::{Explanation, Status, beacon_main};
 use std::process::ExitCode;
 use std::rt::{Env, Files};
+use std::{env, fs, io};
 
 /// The words behind the program's name. A word that isn't text is none of a command.
 fn words_of<R: Env + AllocGlobal>(rt: &R) -> Result<Vec<String>, Status> {

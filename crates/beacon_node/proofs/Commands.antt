@@ -1,9 +1,9 @@
 -- The command words as the first step of a run.
-use Rattle.std.proofs.Common.{◌≡◌, ℕ, List, [], ◌∷◌, ◌++◌, Option, Some, None, refl, sym, ap, subst, ◌∙◌}
-use Rattle.std.specs.Prelude.{IfSome, IsSome, Bool}
+use Rattle.std.proofs.Common.{◌≡◌, ℕ, List, [], ◌∷◌, Option, Some, None, refl, sym, subst}
+use Rattle.std.specs.Prelude.{IfSome}
 use Rattle.std.proofs.lemmas.List.{append-nil}
 use Rattle.bc_outside.specs.Told.{Told}
-use Rattle.spec_replay.specs.Run.{Run, run_of, with_command, with_files}
+use Rattle.spec_replay.specs.Run.{run_of, with_command, with_files}
 use Rattle.spec_replay.specs.Words.{ReplayFiles, replay_files_of, names_of}
 use Rattle.beacon_node.specs.declared.status.Status.{Status}
 use Rattle.beacon_node.specs.declared.status.Status.TheVariants as statuses

@@ -6,7 +6,7 @@ use Rattle.bc_outside.specs.Told.{Told, taking}
 use Rattle.bc_outside.specs.Calls.{OnlyTakes, WritesAll}
 use Rattle.bc_outside.specs.declared.trouble.Trouble.{Trouble}
 use Rattle.bc_outside.specs.declared.trouble.Trouble.TheVariants as troubles
-use Rattle.bc_words.specs.Outcome.{Outcome, done, refused}
+use Rattle.bc_words.specs.Outcome.{Outcome}
 use Rattle.bc_words.specs.declared.refusal.Refusal.{Refusal}
 use Rattle.record_file.specs.Record as record_file
 use Rattle.record_file.specs.Record.{Events, with_event}
@@ -92,7 +92,6 @@ came event rest coming (Some more) is gives = (more, refl, cc)
 module _ {U : Type 0} (event : Event) (rest : Events) (coming now_coming : Option Events) (place place_then : Reading) (old new : Store) (answer : Result U Refusal) (told : Told) (told_then : Option Told)
     (asked : HasAsked [] told told_then) (is : coming ≡ Some rest) (gives : coming ≡ option_map (with_event event) now_coming)
     (counted : place_then.events ≡ place.events + 1) (handles : Handles answer old new (handle_tick old event.payload)) where
-
   all_lines : (more : Events) → rest ≡ with_event event more → lines_of (place.events + 1) old rest.events ≡ tick_line place_then.events (told_outcome answer new) new ++ lines_of (place_then.events + 1) new more.events
   all_lines more e = rw (e, ← counted) (event_lines place_then.events old new event more.events answer handles)
 

@@ -1,6 +1,6 @@
 -- A file that is longer than allowed is seen to be so by one byte more.
-use Rattle.std.proofs.Common.{◌≡◌, ℕ, ◌+◌, ◌<◌, ◌≤◌, List, length, take, Some, None, Option, Ok, Err, refl, sym, ap, ◌∙◌, inl, inr, arith}
-use Rattle.std.proofs.lemmas.Bool.{cases_lt, le-ltb, lt-ltb}
+use Rattle.std.proofs.Common.{◌≡◌, ℕ, ◌<◌, ◌≤◌, List, length, take, Some, None, Option, Err, refl, sym, ap, ◌∙◌, inl, inr, arith}
+use Rattle.std.proofs.lemmas.Bool.{cases_lt, lt-ltb}
 use Rattle.std.proofs.lemmas.List.{length-take, take_all}
 use Rattle.bc_preset.specs.Configs.{config_of}
 use Rattle.bc_preset.specs.declared.configuration.ConfigValues.{ConfigValues}
@@ -8,7 +8,7 @@ use Rattle.bc_preset.specs.declared.faults.ConfigFault.TheVariants as configs
 use Rattle.bc_preset.specs.declared.presets.Preset.{Preset}
 use Rattle.spec_state.specs.Genesis.{genesis_of}
 use Rattle.spec_state.specs.declared.fault.GenesisFault.TheVariants as genesis
-use Rattle.spec_replay.specs.Run.{with_config, with_genesis, with_files}
+use Rattle.spec_replay.specs.Run.{with_genesis, with_files}
 
 config_of-long : (bytes : List ℕ) → 65536 < length bytes → config_of bytes ≡ Err configs.TooLong
 unfolding config_of

@@ -1,5 +1,5 @@
 -- Progress through a record, one event after the other.
-use Rattle.std.proofs.Common.{◌≡◌, ℕ, ◌+◌, ◌≤◌, List, [], ◌∷◌, ◌++◌, length, take, Option, Some, None, option_map, refl, sym, ap, subst, ◌∙◌, append_assoc, arith}
+use Rattle.std.proofs.Common.{◌≡◌, ℕ, ◌+◌, List, [], ◌++◌, length, take, Option, Some, None, option_map, refl, sym, ap, subst, ◌∙◌, append_assoc, arith}
 use Rattle.std.proofs.lemmas.List.{append-nil, length-append}
 use Rattle.std.proofs.Math.Seq.{take-append-add}
 use Rattle.bc_outside.specs.Told.{Told}
@@ -47,7 +47,6 @@ Reaches-add statuses.NoMemory k n whole h = omega arith
 
 module _ (number : ℕ) (store : Store) (rest : Events) (told : Told) (written : Option (List ℕ)) (place : Reading) (store_mid : Store) (told_mid : Option Told) (written_mid : Option (List ℕ))
     (so_far : Progress number store rest told written place store_mid told_mid written_mid) where
-
   still_coming : to_come place told_mid ≡ Some so_far.more
   still_coming = ap (to_come place) so_far.tells ∙ so_far.coming
 

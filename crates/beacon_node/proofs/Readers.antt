@@ -1,29 +1,26 @@
 -- The genesis file and the configuration's file as steps of a run.
-use Rattle.std.proofs.Common.{◌≡◌, ℕ, ◌≤◌, List, [], ◌∷◌, take, Option, Some, None, Result, Ok, Err, refl, sym, ap, subst, ◌∙◌, arith}
+use Rattle.std.proofs.Common.{◌≡◌, ℕ, List, [], ◌∷◌, Option, Some, Ok, Err, refl, sym, ap, subst, ◌∙◌, arith}
 use Rattle.bc_outside.specs.Told.{Told}
 use Rattle.bc_preset.specs.Configs.{config_of}
 use Rattle.bc_preset.specs.declared.configuration.ConfigValues.{ConfigValues}
 use Rattle.bc_preset.specs.declared.faults.ConfigFault.{ConfigFault}
 use Rattle.spec_state.specs.Genesis.{genesis_of, header_root_of}
-use Rattle.spec_state.specs.declared.plain.PlainState.{PlainState}
-use Rattle.spec_state.specs.declared.fault.GenesisFault.{GenesisFault}
 use Rattle.spec_replay.specs.Ticks.{Store, store_at}
-use Rattle.spec_replay.specs.Run.{Run, after_file, with_files, with_config, with_genesis, with_state, with_record}
+use Rattle.spec_replay.specs.Run.{after_file, with_files, with_config, with_genesis, with_state, with_record}
 use Rattle.spec_replay.specs.Words.{ReplayFiles, names_of}
 use Rattle.beacon_node.specs.declared.status.Status.{Status}
 use Rattle.beacon_node.specs.declared.status.Status.TheVariants as statuses
 use Rattle.beacon_node.specs.declared.genesis.Genesis.{Genesis}
 use Rattle.beacon_node.specs.declared.genesis.GenesisStop.{GenesisStop}
 use Rattle.beacon_node.specs.declared.genesis.GenesisStop.TheVariants as stops
-use Rattle.beacon_node.specs.Answers.{Answers, unread}
-use Rattle.beacon_node.specs.GenesisAnswers.{GivesGenesis, IsGenesisOf, no_genesis}
+use Rattle.beacon_node.specs.Answers.{Answers}
+use Rattle.beacon_node.specs.GenesisAnswers.{GivesGenesis, no_genesis}
 use Rattle.beacon_node.specs.Reading.{HasAsked, ReadOf}
 use Rattle.beacon_node.proofs.Steps.{over_after, goes_on}
 use Rattle.beacon_node.proofs.Fronts.{config_of-front, genesis_of-front}
 
 module _ (config : ConfigValues) (name record_name : List ℕ) (bytes : List ℕ) (told : Told) (told_mid : Option Told)
     (read : ReadOf name 1073741825 bytes told) (asked : HasAsked (name ∷ []) told told_mid) where
-
   -- what the bytes that were read are as a genesis state is what the whole file is
   same_genesis : genesis_of config.preset bytes ≡ genesis_of config.preset read.whole
   same_genesis = ap (genesis_of config.preset) read.front ∙ genesis_of-front config.preset read.whole
@@ -49,7 +46,6 @@ module _ (config : ConfigValues) (name record_name : List ℕ) (bytes : List ℕ
 
 module _ (files : ReplayFiles) (bytes : List ℕ) (told : Told) (told_mid : Option Told)
     (read : ReadOf files.config 65537 bytes told) (asked : HasAsked (files.config ∷ []) told told_mid) where
-
   -- what the bytes that were read are as a configuration is what the whole file is
   same_config : config_of bytes ≡ config_of read.whole
   same_config = ap config_of read.front ∙ config_of-front read.whole

@@ -1,5 +1,5 @@
 -- The record's file as the last step of a run.
-use Rattle.std.proofs.Common.{◌≡◌, ℕ, ◌+◌, ◌≤◌, List, [], ◌∷◌, ◌++◌, length, Option, Some, None, option_map, Err, refl, sym, ap, subst, ◌∙◌, inl, inr, arith}
+use Rattle.std.proofs.Common.{◌≡◌, ℕ, ◌≤◌, List, [], ◌∷◌, ◌++◌, length, Option, Some, None, option_map, Err, refl, sym, ap, subst, ◌∙◌, inl, inr, arith}
 use Rattle.std.specs.Prelude.{IfSome, IsSome}
 use Rattle.std.proofs.lemmas.List.{append-nil}
 use Rattle.bc_outside.specs.Told.{Told, opening, asking, held_by}
@@ -9,7 +9,7 @@ use Rattle.bc_outside.specs.declared.trouble.Trouble.TheVariants as troubles
 use Rattle.record_file.specs.Record.{Events, events_of}
 use Rattle.record_file.specs.Frames.{to_come, unread_file, events_at}
 use Rattle.spec_replay.specs.Ticks.{Store}
-use Rattle.spec_replay.specs.Run.{with_record, with_events, after_file}
+use Rattle.spec_replay.specs.Run.{with_record, with_events}
 use Rattle.beacon_node.specs.declared.status.Status.{Status}
 use Rattle.beacon_node.specs.Answers.{Answers}
 use Rattle.beacon_node.specs.Reading.{HasAsked, MayHaveAsked}

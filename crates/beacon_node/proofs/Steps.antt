@@ -1,5 +1,5 @@
 -- One file of a run after the other: what became of the run so far, and what becomes of the rest.
-use Rattle.std.proofs.Common.{◌≡◌, ℕ, suc, ◌+◌, ◌≤◌, List, [], ◌∷◌, ◌++◌, length, take, Option, Some, None, option_map, refl, sym, ap, subst, ◌∙◌, append_assoc, add-one, inl, inr, ⊎_elim, arith, rules}
+use Rattle.std.proofs.Common.{◌≡◌, ℕ, ◌+◌, ◌≤◌, List, [], ◌∷◌, ◌++◌, length, take, Option, Some, None, option_map, refl, sym, ap, subst, ◌∙◌, append_assoc, add-one, inl, inr, arith}
 use Rattle.std.proofs.lemmas.List.{append-nil}
 use Rattle.bc_outside.specs.Told.{Told}
 use Rattle.bc_outside.specs.declared.trouble.Trouble.{Trouble}
@@ -7,7 +7,7 @@ use Rattle.bc_outside.specs.declared.trouble.Trouble.TheVariants.{Failed, NoMemo
 use Rattle.spec_replay.specs.Run.{Run, after_file}
 use Rattle.beacon_node.specs.declared.status.Status.{Status}
 use Rattle.beacon_node.specs.declared.status.Status.TheVariants as statuses
-use Rattle.beacon_node.specs.Answers.{Answers, Ends, Reaches, WritesLines, AsksFor, unread}
+use Rattle.beacon_node.specs.Answers.{Answers, Ends, Reaches, WritesLines, unread}
 use Rattle.beacon_node.specs.Reading.{HasAsked, MayHaveAsked}
 
 nothing_more : (written : Option (List ℕ)) → written ≡ option_map (λ bytes. bytes ++ []) written

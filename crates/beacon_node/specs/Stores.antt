@@ -1,5 +1,5 @@
 -- How an answer of the store meets the outcome of a handler.
-use Rattle.std.specs.Prelude.{◌≡◌, ℕ, Result, Ok, Err}
+use Rattle.std.specs.Prelude.{◌≡◌, Result, Ok, Err}
 use Rattle.bc_words.specs.Outcome.{Outcome, done, refused}
 use Rattle.bc_words.specs.declared.refusal.Refusal.{Refusal}
 use Rattle.spec_replay.specs.Ticks.{Store}

@@ -59,11 +59,7 @@ fn check(state: &State) -> Result<Genesis, GenesisStop>
 
 /// Reads a genesis state of the preset, and checks it.
 #[tactic(auto, unfolding(spec_state::specs::Genesis::genesis_of))]
-pub fn read_genesis(
-    alloc: Global,
-    preset: &Preset,
-    bytes: &[u8],
-) -> Result<Genesis, GenesisStop>
+pub fn read_genesis(alloc: Global, preset: &Preset, bytes: &[u8]) -> Result<Genesis, GenesisStop>
     requires { IsPreset preset.now }
     ensures { GivesGenesis result (genesis_of preset.now bytes.now) }
 {

@@ -64,6 +64,8 @@ pub fn measure(rt: &(impl AllocGlobal + Print + CpuClock)) -> Result<()> {
         hashes: end.saturating_sub(middle),
     };
     let first = shuffled.get(0).copied().unwrap_or(0);
-    println!(rt; "shuffle of 2^20 items at {ROUNDS} rounds: {ratio} (first {first}, joined {joined})")?;
+    println!(rt;
+        "shuffle of 2^20 items at {ROUNDS} rounds: {ratio} (first {first}, joined {joined})"
+    )?;
     Ok(())
 }

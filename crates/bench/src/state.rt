@@ -20,6 +20,7 @@ const PAIRS: u32 = 8_191 + 8_191 + 8 * 16_384 + 16_410 + 4_122 + 65_535 + 2_047;
 
 /// Where the validators end, and where the balances do.
 const BALANCES: u32 = FIXED + 121 * VALIDATORS;
+
 const END: u32 = BALANCES + 8 * VALIDATORS;
 
 /// Puts a piece at a place, where there is room for it.
@@ -88,8 +89,14 @@ pub fn measure(rt: &(impl AllocGlobal + Print + CpuClock)) -> Result<()> {
         hashes: end.saturating_sub(middle),
     };
     let reading = read.saturating_sub(begin).as_micros();
-    let verdict = if checked.is_ok() { "a genesis" } else { "no genesis" };
+    let verdict = if checked.is_ok() {
+        "a genesis"
+    } else {
+        "no genesis"
+    };
     let first = root[0];
-    println!(rt; "state of {VALIDATORS} validators, {verdict}, read in {reading} us, in all: {ratio} (root {first:02x}.., joined {joined})")?;
+    println!(rt;
+        "state of {VALIDATORS} validators, {verdict}, read in {reading} us, in all: {ratio} (root {first:02x}.., joined {joined})"
+    )?;
     Ok(())
 }

@@ -6,7 +6,7 @@ use Rattle.bc_preset.specs.declared.faults.ConfigFault.{ConfigFault}
 use Rattle.spec_state.specs.Genesis.{genesis_of, header_root_of}
 use Rattle.spec_state.specs.declared.plain.PlainState.{PlainState}
 use Rattle.spec_state.specs.declared.fault.GenesisFault.{GenesisFault}
-use Rattle.record_file.specs.Record.{Events, events_of} 
+use Rattle.record_file.specs.Record.{Events, events_of}
 use Rattle.record_file.specs.Record as record_file
 use Rattle.record_file.specs.declared.event.Event.{Event}
 use Rattle.record_file.specs.declared.fault.RecordFault.{RecordFault}

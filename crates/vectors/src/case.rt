@@ -5,9 +5,8 @@ use anyhow::{Context, Result};
 use bc_outside::{MemoryFile, MemoryShelf, MemorySink};
 use beacon_node::beacon_main;
 use std::alloc::Global;
-use std::fs;
-use std::io;
 use std::rt::Files;
+use std::{fs, io};
 
 /// A case, with its files in memory.
 #[derive(Drop)]
@@ -123,7 +122,9 @@ impl Case {
         if answer.lines.as_slice() != self.lines.as_slice() {
             let expected = self.lines.len();
             let found = answer.lines.len();
-            return Ok(Some(format!(in alloc; "expected other lines ({expected} bytes, found {found})")?));
+            return Ok(Some(format!(in alloc;
+                "expected other lines ({expected} bytes, found {found})"
+            )?));
         }
         Ok(None)
     }

@@ -1,7 +1,7 @@
 //! A status in the words of the cases: its number, its name, and its detail.
 
-use beacon_node::Status;
 use bc_preset::ConfigFault;
+use beacon_node::Status;
 use record_file::RecordFault;
 use spec_state::GenesisFault;
 use std::alloc::{AllocError, Global};

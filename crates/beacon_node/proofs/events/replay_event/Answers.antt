@@ -1,5 +1,5 @@
 -- The record is at its end, a frame could not be read, a line was written, or it could not be.
-use Rattle.std.proofs.Common.{◌≡◌, ℕ, ◌+◌, Some, None, Ok, Err, refl, ap, sym, ◌∙◌, rules}
+use Rattle.std.proofs.Common.{◌≡◌, refl, rules}
 use Rattle.beacon_node.proofs.Frames.{only_took, done_answers, stop_answers, line_goes_on, line_answers}
 use Rattle.beacon_node.proofs.events.replay_event.Goals as goal
 
@@ -21,7 +21,7 @@ returns-in-Ok-clause-goes_on g c = λ told rest is coming.
     let handles = rw c.as_slice.ensures at c.on_tick_payload-answer.ensures in
     let wrote = rw c.events.ensures.count at c.in-Ok.ensures.writes in
     line_goes_on c.in-Ok-Some.event rest _ _ c.args.frames.now c.next.new.self c.args.store.now _ c.on_tick_payload-answer.result told _
-        (only_took _ _ _ told is came.taken) coming gives moves.0 handles _ _ refl wrote
+    (only_took _ _ _ told is came.taken) coming gives moves.0 handles _ _ refl wrote
 
 pub returns-clause-answers : goal.returns-clause-answers
 returns-clause-answers g c = λ told rest is coming.
@@ -31,4 +31,4 @@ returns-clause-answers g c = λ told rest is coming.
     let handles = rw c.as_slice.ensures at c.on_tick_payload-answer.ensures in
     let wrote = rw c.events.ensures.count at c.in-Err-write_line.ensures.writes in
     rw c.unwritten.ensures (line_answers c.in-Ok-Some.event rest _ _ c.args.frames.now c.next.new.self c.args.store.now _ c.on_tick_payload-answer.result told _
-        (only_took _ _ _ told is came.taken) coming gives moves.0 handles c.in-Err-write_line.trouble _ _ wrote)
+    (only_took _ _ _ told is came.taken) coming gives moves.0 handles c.in-Err-write_line.trouble _ _ wrote)

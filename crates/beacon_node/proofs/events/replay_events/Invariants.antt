@@ -1,5 +1,5 @@
 -- So far the lines of some events were written, and the others are still to come.
-use Rattle.std.proofs.Common.{◌≡◌, ℕ, ◌+◌, ◌-◌, ◌≤◌, true, Some}
+use Rattle.std.proofs.Common.{◌≡◌, ◌+◌, ◌-◌, ◌≤◌, true, Some}
 use Rattle.bc_outside.specs.Told.{Told}
 use Rattle.record_file.specs.Record.{Events, most_events}
 use Rattle.record_file.specs.Frames.{to_come}

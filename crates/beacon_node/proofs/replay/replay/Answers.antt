@@ -1,5 +1,5 @@
 -- Each exit is one step of the run: the configuration could not be read, has a fault, or the genesis state comes next.
-use Rattle.std.proofs.Common.{◌≡◌, List, [], ◌∷◌, ℕ, Err, Ok, ◌∙◌}
+use Rattle.std.proofs.Common.{◌≡◌, [], ◌∷◌, Err, Ok, ◌∙◌}
 use Rattle.bc_preset.specs.Configs.{config_of}
 use Rattle.beacon_node.specs.Files.{files_named}
 use Rattle.beacon_node.proofs.Steps.{unread_after}

@@ -1,5 +1,5 @@
 -- Each exit is one step of the run: the genesis file could not be read, has a fault, or the record comes next.
-use Rattle.std.proofs.Common.{◌≡◌, List, [], ◌∷◌, ℕ, Err, Ok, ◌∙◌}
+use Rattle.std.proofs.Common.{[], ◌∷◌, Err, Ok, ◌∙◌}
 use Rattle.spec_state.specs.Genesis.{genesis_of}
 use Rattle.beacon_node.specs.GenesisAnswers.{GivesGenesis}
 use Rattle.beacon_node.proofs.Steps.{unread_after}
