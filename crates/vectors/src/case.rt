@@ -13,6 +13,8 @@ use std::{fs, io};
 pub struct Case {
     words: Vec<String>,
     files: Vec<(String, Vec<u8>)>,
+    failing_calls: Vec<u64>,
+    failing_writes: Vec<u64>,
     lines: Vec<u8>,
     status: String,
 }
@@ -53,42 +55,62 @@ fn fill(bytes: &mut Vec<u8>, note: &str) -> Result<()> {
     Ok(())
 }
 
-/// A file of the case, or the common one of that name.
-fn load_file<R: Files + AllocGlobal>(rt: &R, case: &str, name: &str) -> Result<Vec<u8>> {
+/// A file of the case, or the common one of that name, if there is either.
+fn load_file<R: Files + AllocGlobal>(rt: &R, case: &str, name: &str) -> Result<Option<Vec<u8>>> {
     let alloc = rt.alloc();
     let own = format!(in alloc; "{case}/{name}")?;
     let common = format!(in alloc; "common/{name}")?;
     let mut bytes = match bytes_at(rt, own.as_str())? {
         Some(bytes) => bytes,
-        None => bytes_at(rt, common.as_str())?.unwrap_or(Vec::new(alloc)),
+        None => return bytes_at(rt, common.as_str()),
     };
     let note = format!(in alloc; "{own}.filled")?;
     if let Some(note) = text_at(rt, note.as_str())? {
         fill(&mut bytes, note.as_str())?;
     }
-    Ok(bytes)
+    Ok(Some(bytes))
+}
+
+/// A text of the case, or the common one of that name; empty where there is neither.
+fn load_text<R: Files + AllocGlobal>(rt: &R, case: &str, name: &str) -> Result<String> {
+    match load_file(rt, case, name)? {
+        Some(bytes) => Ok(String::from_utf8(bytes).ok().context("a text")?),
+        None => Ok(String::new(rt.alloc())),
+    }
+}
+
+/// The numbers of a text, one a line.
+fn load_numbers<R: Files + AllocGlobal>(rt: &R, case: &str, name: &str) -> Result<Vec<u64>> {
+    let text = load_text(rt, case, name)?;
+    let mut numbers = Vec::new(rt.alloc());
+    for line in text.lines() {
+        let number: u64 = line.parse()?;
+        numbers.push(number)?;
+    }
+    Ok(numbers)
 }
 
 impl Case {
     /// Reads the case of this name.
     pub fn load<R: Files + AllocGlobal>(rt: &R, name: &str) -> Result<Case> {
         let alloc = rt.alloc();
-        let words = load_file(rt, name, "words")?;
-        let words = String::from_utf8(words).ok().context("words are text")?;
+        let words = load_text(rt, name, "words")?;
+        let lines = load_file(rt, name, "stdout")?.unwrap_or(Vec::new(alloc));
+        let status = load_text(rt, name, "status")?;
         let mut case = Case {
             words: Vec::new(alloc),
             files: Vec::new(alloc),
-            lines: load_file(rt, name, "stdout")?,
-            status: String::new(alloc),
+            failing_calls: load_numbers(rt, name, "failing_calls")?,
+            failing_writes: load_numbers(rt, name, "failing_writes")?,
+            lines,
+            status: status.trim().to_string(alloc)?,
         };
         for word in words.lines() {
             case.words.push(word.to_string(alloc)?)?;
-            let bytes = load_file(rt, name, word)?;
-            case.files.push((word.to_string(alloc)?, bytes))?;
+            if let Some(bytes) = load_file(rt, name, word)? {
+                case.files.push((word.to_string(alloc)?, bytes))?;
+            }
         }
-        let status = load_file(rt, name, "status")?;
-        let status = String::from_utf8(status).ok().context("a status is text")?;
-        case.status.push_str(status.trim())?;
         Ok(case)
     }
 
@@ -103,8 +125,10 @@ impl Case {
         for (name, bytes) in &self.files {
             files.push(MemoryFile::new(name.clone()?, Vec::from_slice(alloc, bytes)?))?;
         }
-        let mut shelf = MemoryShelf::new(alloc, files, Vec::new(alloc), piece.max(1));
-        let mut sink = MemorySink::new(alloc, Vec::new(alloc), piece.max(1));
+        let calls = self.failing_calls.clone()?;
+        let writes = self.failing_writes.clone()?;
+        let mut shelf = MemoryShelf::new(alloc, files, calls, piece.max(1));
+        let mut sink = MemorySink::new(alloc, writes, piece.max(1));
         let status = beacon_main(alloc, &self.words, &mut shelf, &mut sink);
         Ok(Answer {
             lines: Vec::from_slice(alloc, sink.written())?,

@@ -2,8 +2,9 @@
 //! gives. Each case is also run over files that are handed out at most 1, 3 and 7 bytes at a time.
 //!
 //! `data/cases` lists the cases. Each is a folder of `data/` with the files that its words name, the expected lines
-//! `stdout` and the expected `status`; a file that isn't there is that of the folder `common`, or else empty. A file
-//! `NAME.filled` says how NAME goes on: a byte, and how often it comes again.
+//! `stdout` and the expected `status`; a file that isn't there is that of the folder `common`. A file `NAME.filled` says
+//! how NAME goes on: a byte, and how often it comes again. The calls of the shelf and of the sink that are to fail stand
+//! in `failing_calls` and `failing_writes`, by their numbers.
 #![tactic(auto)]
 
 mod case;
