@@ -3,3 +3,5 @@ pub mod Unread
 pub mod Depths
 pub mod FirstFault
 pub mod Balances
+pub mod Joining
+pub mod Writings

@@ -10,9 +10,12 @@ mod heights;
 mod lookups;
 mod roots;
 mod state;
+mod writing;
+mod written;
 
 pub use genesis::{empty_body_root, genesis_check};
 pub use state::State;
+pub use writing::{one_writing_of_states, state_reads_back};
 
 #[cfg(test)]
 mod tests;

@@ -7,6 +7,7 @@ ghost use Rattle.bc_preset.specs.Presets.{IsPreset};
 ghost use Rattle.spec_state.specs.States.{state_row, state_codec};
 ghost use Rattle.spec_state.specs.Genesis.{header_root_of};
 ghost use Rattle.spec_state.specs.Limits.{IsState};
+ghost use Rattle.beacon_state.specs.Writing.{HasWriting};
 
 use crate::groups::{attestations_limit_of, read_fields, votes_limit_of};
 use crate::roots::{list_root, number_list_root, number_vector_root, vector_root};
@@ -36,7 +37,7 @@ impl Model for State {
 
 /// How the 21 fields stand in the fixed part.
 #[tactic(auto, unfolding(spec_state::specs::States::state_row, spec_state::specs::States::clock_row, spec_state::specs::States::history_row, spec_state::specs::States::eth1_row, spec_state::specs::States::registry_row, spec_state::specs::States::pending_row, spec_state::specs::States::finality_row), using(bc_preset::proofs::Bounds::preset_bounds))]
-fn state_fields(preset: &Preset) -> [Field; 21]
+pub(crate) fn state_fields(preset: &Preset) -> [Field; 21]
     requires { IsPreset preset.now }
     ensures fields { result ≡ (state_row preset.now).fields }
     ensures room { heads_len result < 2 ^ 32 }
@@ -88,6 +89,7 @@ impl State {
         ensures reads { Reads (state_codec preset.now) result bytes.now }
         ensures parses { Gives result ((state_codec preset.now).parse bytes.now) }
         ensures state { IfOk result IsState }
+        ensures written { IfOk result HasWriting }
     {
         let plain = read_plain(alloc, preset, bytes)?;
         Ok(State { plain })

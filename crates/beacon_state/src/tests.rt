@@ -84,6 +84,8 @@ fn roots_of_a_genesis(rt: HostRuntime) -> Result<(), Fail> {
     let bytes = genesis(rt.alloc())?;
     assert_eq!(rt; bytes.len(), 15_313);
     let state = State::read(rt.alloc(), &Preset::minimal(), &bytes)?;
+    let written = state.write(rt.alloc())?;
+    assert_eq!(rt; written.as_slice(), bytes.as_slice());
     assert_eq!(rt; state.root(), STATE_ROOT);
     assert_eq!(rt; state.header_root(), BLOCK_ROOT);
     assert_eq!(rt; empty_body_root(), BODY_ROOT);

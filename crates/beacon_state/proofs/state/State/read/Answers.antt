@@ -3,6 +3,7 @@ use Rattle.std.proofs.lemmas.Result.{err_from_is_err_and}
 use Rattle.spec_state.specs.States.{state_codec}
 use Rattle.spec_state.proofs.StateLaws.{state_lawful}
 use Rattle.spec_state.proofs.Limits.{read_is_state}
+use Rattle.beacon_state.proofs.Writings.{read_has_writing}
 use Rattle.beacon_state.proofs.Unread.{is_unread}
 use Rattle.beacon_state.proofs.state.State.read.Goals as goal
 
@@ -19,3 +20,6 @@ returns-clause-reads c = (state_lawful c.args.preset.now).sound c.args.bytes.now
 
 pub returns-clause-state : goal.returns-clause-state
 returns-clause-state c = read_is_state c.args.preset.now c.args.bytes.now c.in_ok-plain.plain c.requires (λ i. omega (arith, c.type_inv.bytes i)) c.in_ok-plain.ensures
+
+pub returns-clause-written : goal.returns-clause-written
+returns-clause-written c = read_has_writing c.args.preset.now c.args.bytes.now c.in_ok-plain.plain (λ i. omega (arith, c.type_inv.bytes i)) c.in_ok-plain.ensures

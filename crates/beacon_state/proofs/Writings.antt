@@ -1,0 +1,32 @@
+-- A state within the limits has a writing.
+use Rattle.std.proofs.Common.{◌≡◌, ℕ, List, Some, sym, subst}
+use Rattle.ssz_codec.specs.Layout.{OffsetsFit, heads_len}
+use Rattle.ssz_codec.specs.Lawful.{IsBytes}
+use Rattle.bc_preset.specs.declared.presets.Preset.{Preset}
+use Rattle.spec_state.specs.declared.plain.PlainState.{PlainState}
+use Rattle.spec_state.specs.States.{clock_row, history_row, eth1_row, registry_row, pending_row, finality_row, state_row, state_codec}
+use Rattle.spec_state.proofs.StateLaws.{state_lawful}
+use Rattle.beacon_state.specs.Writing.{ListFits, HasWriting}
+
+same_preset : (p : Preset) (s : PlainState) → (state_row p).Within s → s.preset ≡ p
+unfolding state_row
+same_preset p s within = within.0
+
+previous_fits : (p : Preset) (s : PlainState) → (state_row p).Within s → ListFits s.previous_epoch_attestations
+unfolding state_row clock_row history_row eth1_row registry_row pending_row finality_row ListFits
+previous_fits p s within = within.1.1.1.1.1.0.0.2
+
+current_fits : (p : Preset) (s : PlainState) → (state_row p).Within s → ListFits s.current_epoch_attestations
+unfolding state_row clock_row history_row eth1_row registry_row pending_row finality_row ListFits
+current_fits p s within = within.1.1.1.1.1.0.1.2
+
+within_fits : (p : Preset) (s : PlainState) → (state_codec p).Within s → HasWriting s
+unfolding state_codec
+within_fits p s within = record {
+  previous = previous_fits p s within.0;
+  current = current_fits p s within.0;
+  whole = subst (λ q. OffsetsFit (state_row q).fields ((state_row q).parts s) (heads_len (state_row q).fields)) (sym (same_preset p s within.0)) within.1;
+}
+
+pub read_has_writing : (p : Preset) (bytes : List ℕ) (s : PlainState) → IsBytes bytes → (state_codec p).parse bytes ≡ Some s → HasWriting s
+read_has_writing p bytes s fits e = within_fits p s ((state_lawful p).sound bytes s fits e).0

@@ -1,1 +1,0 @@
--- What a state is seen as.
