@@ -32,51 +32,61 @@ const STATE_ROOT: Root = [
     0x83, 0x0e, 0xe8, 0xbb, 0xe0, 0x7f, 0x32, 0xd6, 0xbc, 0xd5, 0x86, 0xce, 0xd0, 0x84, 0x05, 0xe1,
 ];
 
-fn zeros(out: &mut Vec<u8>, count: u32) -> Result<(), AllocError> {
-    for _ in 0..count {
-        out.push(0)?;
+/// Puts bytes at a place.
+fn place(bytes: &mut Vec<u8>, at: usize, part: &[u8]) {
+    let mut next = at;
+    for byte in part {
+        if let Some(here) = bytes.get_mut(next) {
+            *here = *byte;
+        }
+        next = next.wrapping_add(1);
     }
-    Ok(())
 }
 
-/// The state of the minimal preset, field by field.
-fn genesis(alloc: Global) -> Result<Vec<u8>, AllocError> {
-    let mut out = Vec::new(alloc);
-    out.extend_from_slice(&1000u64.to_le_bytes())?;
-    out.extend_from_slice(&VALIDATORS_ROOT)?;
-    zeros(&mut out, 104)?;
-    out.extend_from_slice(&BODY_ROOT)?;
-    zeros(&mut out, 4096)?;
-    out.extend_from_slice(&7057u32.to_le_bytes())?;
-    zeros(&mut out, 72)?;
-    out.extend_from_slice(&7057u32.to_le_bytes())?;
-    zeros(&mut out, 8)?;
-    out.extend_from_slice(&7057u32.to_le_bytes())?;
-    out.extend_from_slice(&14801u32.to_le_bytes())?;
-    for _ in 0..64 {
-        out.extend_from_slice(&MIX)?;
+/// What is not zero in the fixed part of a state of the minimal preset.
+fn place_fields(bytes: &mut Vec<u8>) {
+    place(bytes, 0, &1000u64.to_le_bytes());
+    place(bytes, 8, &VALIDATORS_ROOT);
+    place(bytes, 144, &BODY_ROOT);
+    for i in 0..64 {
+        place(bytes, 4368 + 32 * i, &MIX);
     }
-    zeros(&mut out, 512)?;
-    out.extend_from_slice(&15313u32.to_le_bytes())?;
-    out.extend_from_slice(&15313u32.to_le_bytes())?;
-    zeros(&mut out, 121)?;
-    validators(&mut out)?;
-    Ok(out)
+}
+
+/// The offsets of the six lists.
+fn place_offsets(bytes: &mut Vec<u8>) {
+    let starts = [
+        (4272, 7057u32),
+        (4348, 7057),
+        (4360, 7057),
+        (4364, 14_801),
+        (6928, 15_313),
+        (6932, 15_313),
+    ];
+    for (at, start) in starts {
+        place(bytes, at, &start.to_le_bytes());
+    }
 }
 
 /// The validators and their balances.
-fn validators(out: &mut Vec<u8>) -> Result<(), AllocError> {
-    for i in 0..64u64 {
-        out.extend_from_slice(&i.to_le_bytes())?;
-        zeros(out, 72)?;
-        out.extend_from_slice(&32_000_000_000u64.to_le_bytes())?;
-        zeros(out, 17)?;
-        out.extend_from_slice(&[255; 16])?;
+fn place_validators(bytes: &mut Vec<u8>) {
+    let balance = 32_000_000_000u64.to_le_bytes();
+    for i in 0..64 {
+        let at = 7057 + 121 * i;
+        place(bytes, at, &[i as u8]);
+        place(bytes, at + 80, &balance);
+        place(bytes, at + 105, &[255; 16]);
+        place(bytes, 14_801 + 8 * i, &balance);
     }
-    for _ in 0..64 {
-        out.extend_from_slice(&32_000_000_000u64.to_le_bytes())?;
-    }
-    Ok(())
+}
+
+/// A genesis of 64 validators.
+fn genesis(alloc: Global) -> Result<Vec<u8>, AllocError> {
+    let mut bytes = vec![in alloc; 0; 15_313]?;
+    place_fields(&mut bytes);
+    place_offsets(&mut bytes);
+    place_validators(&mut bytes);
+    Ok(bytes)
 }
 
 #[test]
