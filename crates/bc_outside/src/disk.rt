@@ -6,7 +6,7 @@ ghost use Rattle.bc_outside.specs.Disk.{DiskFiles, no_disk_files};
 
 use crate::{Shelf, Sink, Trouble, patience};
 use std::alloc::Global;
-use std::io::Write;
+use std::io::{Error, Write};
 use std::marker::Model;
 use std::rt::Files;
 
@@ -16,6 +16,8 @@ pub struct DiskShelf<'a, R: Files> {
     files: &'a R,
     opened: Vec<R::File>,
     faults: u64,
+    last: u32,
+    cause: Option<Error>,
 }
 
 impl<'a, R: Files> Model for DiskShelf<'a, R> {
@@ -33,6 +35,16 @@ impl<'a, R: Files> DiskShelf<'a, R> {
             files,
             opened: Vec::new(alloc),
             faults: 0,
+            last: 0,
+            cause: None,
+        }
+    }
+
+    /// The last fault: the number of the file that it fell on, counted from 0 in the order of asking, and its cause.
+    pub fn last_fault(&self) -> Option<(u32, &Error)> {
+        match &self.cause {
+            Some(error) => Some((self.last, error)),
+            None => None,
         }
     }
 }
@@ -49,13 +61,16 @@ impl<'a, R: Files> Shelf for DiskShelf<'a, R> {
     fn open(&mut self, name: &str) -> Result<u32, Trouble> {
         self.opened.reserve(1)?;
         let number = self.opened.len() as u32;
-        let file = patience::open(self.files, name, &mut self.faults)?;
+        self.last = number;
+        let file = patience::open(self.files, name, &mut self.faults, &mut self.cause)?;
         self.opened.push_reserved(file);
         Ok(number)
     }
 
     fn read(&mut self, file: u32, into: &mut [u8]) -> Result<usize, Trouble> {
-        patience::read(&mut self.opened[file as usize], into, &mut self.faults)
+        self.last = file;
+        let reader = &mut self.opened[file as usize];
+        patience::read(reader, into, &mut self.faults, &mut self.cause)
     }
 }
 

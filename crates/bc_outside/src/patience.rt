@@ -20,15 +20,22 @@ fn is_interrupted(error: &Error, faults: &mut u64) -> bool
     error.kind() == ErrorKind::Interrupted
 }
 
-/// Opens a file to be read.
-pub fn open<R: Files>(files: &R, name: &str, faults: &mut u64) -> Result<R::File, Trouble>
+/// Opens a file to be read, and keeps the last cause why it didn't.
+pub fn open<R: Files>(
+    files: &R,
+    name: &str,
+    faults: &mut u64,
+    cause: &mut Option<Error>,
+) -> Result<R::File, Trouble>
     ensures { FailsOnlyBy result faults.old faults.new }
 {
     for _ in 0..PATIENCE {
         match fs::open(files, name) {
             Ok(file) => return Ok(file),
             Err(error) => {
-                if !is_interrupted(&error, faults) {
+                let again = is_interrupted(&error, faults);
+                *cause = Some(error);
+                if !again {
                     return Err(Trouble::Failed);
                 }
             }
@@ -37,8 +44,13 @@ pub fn open<R: Files>(files: &R, name: &str, faults: &mut u64) -> Result<R::File
     Err(Trouble::Failed)
 }
 
-/// Reads once, into the front of a piece.
-pub fn read<R: Read>(reader: &mut R, into: &mut [u8], faults: &mut u64) -> Result<usize, Trouble>
+/// Reads once, into the front of a piece, and keeps the last cause why it didn't.
+pub fn read<R: Read>(
+    reader: &mut R,
+    into: &mut [u8],
+    faults: &mut u64,
+    cause: &mut Option<Error>,
+) -> Result<usize, Trouble>
     ensures within { IfOk result (λ n. n ≤ length into.old) }
     ensures faults { FailsOnlyBy result faults.old faults.new }
 {
@@ -46,7 +58,9 @@ pub fn read<R: Read>(reader: &mut R, into: &mut [u8], faults: &mut u64) -> Resul
         match reader.read(into) {
             Ok(n) => return Ok(n),
             Err(error) => {
-                if !is_interrupted(&error, faults) {
+                let again = is_interrupted(&error, faults);
+                *cause = Some(error);
+                if !again {
                     return Err(Trouble::Failed);
                 }
             }

@@ -4,8 +4,8 @@
 use bc_outside::{DiskShelf, StdSink};
 use beacon_node::{Explanation, Status, beacon_main};
 use std::process::ExitCode;
-use std::rt::{Env, Files};
-use std::{env, fs, io};
+use std::rt::Env;
+use std::{env, io};
 
 /// The words behind the program's name. A word that isn't text is none of a command.
 fn words_of<R: Env + AllocGlobal>(rt: &R) -> Result<Vec<String>, Status> {
@@ -24,23 +24,20 @@ fn words_of<R: Env + AllocGlobal>(rt: &R) -> Result<Vec<String>, Status> {
     }
 }
 
-/// The first file of the words that can't be opened, and why.
-fn closed_file<'a, R: Files>(rt: &R, words: &'a [String]) -> Option<(&'a str, io::Error)> {
-    for word in words {
-        if let Err(error) = fs::open(rt, word.as_str()) {
-            return Some((word.as_str(), error));
-        }
-    }
-    None
+/// Says on one line of standard error what a status means.
+fn explain<R: Eprint>(rt: &R, status: &Status, words: &[String]) {
+    let _ = eprintln!(rt; "{}", Explanation { status, words });
 }
 
-/// Says on one line of standard error what a status other than Done means.
-fn explain<R: Files + Eprint>(rt: &R, status: &Status, words: &[String]) {
-    let files = if words.is_empty() { words } else { &words[1..] };
-    let _ = match (status, closed_file(rt, files)) {
-        (Status::ReadFault, Some((name, error))) => eprintln!(rt; "ReadFault: {name}: {error}"),
-        _ => eprintln!(rt; "{}", Explanation { status, words }),
-    };
+/// Says on one line of standard error which file could not be opened or read, and why.
+fn explain_read<R: Eprint>(rt: &R, words: &[String], file: u32, error: &io::Error) {
+    let place = file as usize + 1;
+    if place < words.len() {
+        let name = words[place].as_str();
+        let _ = eprintln!(rt; "ReadFault: {name:?}: {error}");
+    } else {
+        explain(rt, &Status::ReadFault, words);
+    }
 }
 
 fn main(rt: HostRuntime) -> ExitCode {
@@ -54,8 +51,10 @@ fn main(rt: HostRuntime) -> ExitCode {
     let mut shelf = DiskShelf::new(rt.alloc(), &rt);
     let mut out = StdSink::new(io::writer(&rt));
     let status = beacon_main(rt.alloc(), &words, &mut shelf, &mut out);
-    if status.number() != 0 {
-        explain(&rt, &status, &words);
+    match (&status, shelf.last_fault()) {
+        (Status::Done, _) => {}
+        (Status::ReadFault, Some((file, error))) => explain_read(&rt, &words, file, error),
+        _ => explain(&rt, &status, &words),
     }
     ExitCode::from(status.number())
 }

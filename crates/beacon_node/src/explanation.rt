@@ -25,19 +25,19 @@ impl fmt::Display for Explanation<'_> {
     fn fmt<W: fmt::Write>(&self, f: &mut fmt::Formatter<W>) -> fmt::Result {
         let (config, genesis, record) = names_in(self.words);
         match self.status {
-            Status::Done => write!(f, "Done: {record} was read to its end"),
+            Status::Done => write!(f, "Done: {record:?} was read to its end"),
             Status::Words => write!(
                 f,
                 "Words: expected the words `replay CONFIG GENESIS RECORD`"
             ),
-            Status::Config(fault) => write!(f, "Config: {config}: {fault}"),
-            Status::Genesis(part) => write!(f, "Genesis: {genesis}: {part}"),
+            Status::Config(fault) => write!(f, "Config: {config:?}: {fault}"),
+            Status::Genesis(part) => write!(f, "Genesis: {genesis:?}: {part}"),
             Status::Record { event, fault, .. } => {
-                write!(f, "Record: {record}: event {event}: {fault}")
+                write!(f, "Record: {record:?}: event {event}: {fault}")
             }
             Status::ReadFault => write!(
                 f,
-                "ReadFault: {config}, {genesis} or {record} could not be opened or read"
+                "ReadFault: {config:?}, {genesis:?} or {record:?} could not be opened or read"
             ),
             Status::WriteFault => write!(f, "WriteFault: the lines could not be written"),
             Status::NoMemory => write!(f, "NoMemory: memory ran out"),
