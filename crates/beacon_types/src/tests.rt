@@ -38,6 +38,14 @@ fn zero_roots(rt: HostRuntime) {
         block_hash: [0; 32],
     };
     assert_eq!(rt; eth1_data.root(), FOUR_ZERO_LEAVES);
+    let fork = Fork {
+        previous_version: [0; 4],
+        current_version: [0; 4],
+        epoch: 0,
+    };
+    assert_eq!(rt; fork.root(), FOUR_ZERO_LEAVES);
+    assert_eq!(rt; [0; 48].hash_tree_root(), TWO_ZERO_LEAVES);
+    assert_eq!(rt; [0; 96].hash_tree_root(), FOUR_ZERO_LEAVES);
     let header = BeaconBlockHeader {
         slot: 0,
         proposer_index: 0,
