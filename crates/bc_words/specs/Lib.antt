@@ -1,3 +1,5 @@
+pub mod Events
 pub mod Outcome
 pub mod Refusals
+pub mod Searches
 pub mod SquareRoot

@@ -1,7 +1,8 @@
-//! The words that the other crates share: refusals, limits, stops and counted steps.
+//! The words that the other crates share: refusals, limits, clashes, stops and counted steps.
 //!
 //! A step of the state transition answers its value, or a `Stop`: the first check that failed, a limit, or want of
-//! memory. Definitions in `specs/` say the same of plain functions, and how an answer of code meets them.
+//! memory. A handler of the store answers a `StoreStop`, which may be a clash too. Definitions in `specs/` say the
+//! same of plain functions, and how an answer of code meets them.
 #![tactic(auto)]
 
 ghost use Rattle.std.specs.Prelude.{◌≡◌, ◌<◌};
@@ -11,16 +12,22 @@ mod refusal;
 mod square_root;
 mod steps;
 mod stop;
+mod store_stop;
 
 pub use arithmetic::{checked_add, checked_mul, checked_sub};
 pub use refusal::Refusal;
 pub use square_root::isqrt;
 pub use steps::Steps;
 pub use stop::{Limit, NoMemory, PushStop, Stop};
+pub use store_stop::{ClashKind, StoreStop};
+
+#[cfg(test)]
+mod examples;
 
 #[cfg(test)]
 mod tests {
     use super::*;
+    use crate::examples::{add_indices, add_to_store, first_equal, first_less, sum_of};
     use std::marker::Brand;
     use std::sync::ledger::{Blank, Ledger};
 
@@ -61,5 +68,42 @@ mod tests {
         assert_eq!(rt; checked_sub(63, 64), Err(Stop::Refused(Refusal::Overflow)));
         assert_eq!(rt; checked_mul(255, 32_000_000_000), Ok(8_160_000_000_000));
         take_two_steps::<Brand>(Blank::new(1));
+    }
+
+    #[test]
+    fn loops_give_what_their_definitions_say(rt: HostRuntime) {
+        let overflow = Err(Stop::Refused(Refusal::Overflow));
+        let mut total = 10;
+        assert_eq!(rt; add_indices(&mut total, 5), Ok(()));
+        assert_eq!(rt; total, 20);
+        total = u64::MAX;
+        assert!(rt; add_indices(&mut total, 2).is_err());
+        assert_eq!(rt; first_equal(&[4, 7, 7], 7), Some(1));
+        assert_eq!(rt; first_equal(&[4, 7, 7], 5), None);
+        assert_eq!(rt; first_less(3, 1, 9), Ok(Some(2)));
+        assert_eq!(rt; first_less(3, 9, 3), Ok(None));
+        assert!(rt; first_less(3, 9, 5).is_err());
+        assert_eq!(rt; sum_of(&[4, 7, 7]), Ok(18));
+        assert_eq!(rt; sum_of(&[u64::MAX, 1]), overflow);
+    }
+
+    #[test]
+    fn stops_of_a_step_are_those_of_the_store(rt: HostRuntime) {
+        let overflow = StoreStop::Refused(Refusal::Overflow);
+        let mut total = u64::MAX;
+        assert_eq!(rt; add_to_store(&mut total, 1), Err(overflow));
+        assert_eq!(rt;
+            StoreStop::from(Stop::Limit(Limit::Slots(65_537))),
+            StoreStop::Limit(Limit::Slots(65_537))
+        );
+        assert_eq!(rt; StoreStop::from(Stop::NoMemory), StoreStop::NoMemory);
+        assert_eq!(rt;
+            StoreStop::from(ClashKind::Kept(3)),
+            StoreStop::Clash(ClashKind::Kept(3))
+        );
+        assert_eq!(rt;
+            Stop::from(PushStop::Full),
+            Stop::Refused(Refusal::ListFull)
+        );
     }
 }

@@ -139,3 +139,17 @@ impl From<Refusal> for Stop {
         Stop::Refused(refusal)
     }
 }
+
+impl From<PushStop> for Stop {
+    ghost use Rattle.bc_words.specs.Outcome.{push_stop};
+    ghost use Rattle.std.specs.Prelude.{◌≡◌};
+
+    ghost from_gives = { λ stop e. e ≡ push_stop stop };
+
+    fn from(stop: PushStop) -> Stop {
+        match stop {
+            PushStop::Full => Stop::Refused(Refusal::ListFull),
+            PushStop::NoMemory => Stop::NoMemory,
+        }
+    }
+}
