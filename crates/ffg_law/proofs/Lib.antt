@@ -1,0 +1,4 @@
+pub mod Weights
+pub mod Ends
+pub mod Finals
+pub mod Histories
