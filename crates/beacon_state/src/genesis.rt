@@ -7,7 +7,7 @@ ghost use Rattle.spec_state.specs.Genesis.{empty_list_root as empty_list, empty_
 use crate::state::State;
 use beacon_types::{BeaconBlockHeader, Checkpoint, Eth1Data, Validator};
 use hash_tree::{Root, merkle, merkle_bytes, mix_in_length, zero_hash};
-use spec_state::{GenesisFault, PlainState, ValidatorFault};
+use spec_state::{GenesisFault, ValidatorFault};
 use ssz_codec::Ssz;
 
 const FAR_FUTURE_EPOCH: u64 = 18_446_744_073_709_551_615;
@@ -100,13 +100,13 @@ fn validators_fault(most: u64, validators: &[Validator]) -> Option<GenesisFault>
 }
 
 /// Whether no attestation is pending, no vote was cast and no batch of roots is kept.
-fn lists_are_empty(s: &PlainState) -> bool
+fn lists_are_empty(s: &State) -> bool
     ensures { result ≡ ((length s.now.previous_epoch_attestations == 0) && ((length s.now.current_epoch_attestations == 0) && ((length s.now.eth1_data_votes == 0) && (length s.now.historical_roots == 0)))) }
 {
-    s.previous_epoch_attestations.is_empty()
-        && s.current_epoch_attestations.is_empty()
-        && s.eth1_data_votes.is_empty()
-        && s.historical_roots.is_empty()
+    s.previous_epoch_attestations().is_empty()
+        && s.current_epoch_attestations().is_empty()
+        && s.eth1_data_votes().is_empty()
+        && s.historical_roots().is_empty()
 }
 
 /// Whether nothing was slashed.
@@ -125,41 +125,41 @@ fn no_bit_set(bits: &[bool; 4]) -> bool
 
 /// The first part of the state that no genesis has.
 #[tactic(auto, unfolding(spec_state::specs::Genesis::genesis_fault))]
-fn fault_of_state(s: &PlainState) -> Option<GenesisFault>
+fn fault_of_state(s: &State) -> Option<GenesisFault>
     ensures { result ≡ genesis_fault s.now }
 {
-    if s.slot != 0 {
+    if s.slot() != 0 {
         return Some(GenesisFault::Slot);
     }
-    if !is_genesis_header(&s.latest_block_header) {
+    if !is_genesis_header(&s.latest_block_header()) {
         return Some(GenesisFault::Header);
     }
-    if !(is_zero_checkpoint(&s.previous_justified_checkpoint)
-        && is_zero_checkpoint(&s.current_justified_checkpoint)
-        && is_zero_checkpoint(&s.finalized_checkpoint))
+    if !(is_zero_checkpoint(&s.previous_justified_checkpoint())
+        && is_zero_checkpoint(&s.current_justified_checkpoint())
+        && is_zero_checkpoint(&s.finalized_checkpoint()))
     {
         return Some(GenesisFault::Checkpoints);
     }
-    if !no_bit_set(&s.justification_bits) {
+    if !no_bit_set(&s.justification_bits()) {
         return Some(GenesisFault::Bits);
     }
-    if !nothing_slashed(s.slashings.as_slice()) {
+    if !nothing_slashed(s.slashings()) {
         return Some(GenesisFault::Slashings);
     }
     if !lists_are_empty(s) {
         return Some(GenesisFault::Lists);
     }
-    if s.balances.len() != s.validators.len() {
+    if s.balances_len() != s.validators_len() {
         return Some(GenesisFault::Balances);
     }
-    validators_fault(s.preset.max_effective_balance, s.validators.as_slice())
+    validators_fault(s.preset().max_effective_balance, s.validators())
 }
 
 /// Whether the state begins a chain, or the first part of it that no genesis has. It takes no memory.
 pub fn genesis_check(state: &State) -> Result<(), GenesisFault>
     ensures { MatchResult result (λ _. genesis_fault state.now ≡ None) (λ fault. genesis_fault state.now ≡ Some fault) }
 {
-    match fault_of_state(state.plain()) {
+    match fault_of_state(state) {
         None => Ok(()),
         Some(fault) => Err(fault),
     }

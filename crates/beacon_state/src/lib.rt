@@ -4,18 +4,17 @@
 #![tactic(auto)]
 
 mod genesis;
-mod getters;
 mod groups;
 mod heights;
+mod in_range;
 mod lookups;
+mod reading;
 mod roots;
 mod state;
+mod values;
 mod writing;
 mod written;
 
 pub use genesis::{empty_body_root, genesis_check};
 pub use state::State;
 pub use writing::{one_writing_of_states, state_reads_back};
-
-#[cfg(test)]
-mod tests;

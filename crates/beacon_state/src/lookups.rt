@@ -18,19 +18,19 @@ impl Lookup for State {
     ghost registry_of = { λ state. length state.validators };
 
     fn preset(&self) -> &Preset {
-        &self.plain().preset
+        State::preset(self)
     }
 
     #[tactic(auto, unfolding(spec_state::specs::Epochs::randao_mix))]
     fn mix(&self, place: u64) -> Root {
-        self.plain().randao_mixes.as_slice()[place as usize]
+        self.randao_mixes()[place as usize]
     }
 
     fn registry(&self) -> u64 {
-        self.plain().validators.len() as u64
+        self.validators_len()
     }
 
     fn effective(&self, index: u64) -> u64 {
-        self.plain().validators.as_slice()[index as usize].effective_balance
+        self.validators()[index as usize].effective_balance
     }
 }

@@ -1,27 +1,48 @@
-//! The state and its reading.
+//! The state: its fields, and the plain record that they stand for.
+//!
+//! What is kept here is named by the getters, the setters and the slices of lists alone, so that how a list is kept can
+//! change under the same contracts.
 
-ghost use Rattle.std.specs.Prelude.{◌≡◌, ◌<◌, ◌^◌, length, IfOk};
-ghost use Rattle.ssz_codec.specs.Layout.{heads_len};
-ghost use Rattle.ssz_codec.specs.Reads.{Gives, Reads};
-ghost use Rattle.bc_preset.specs.Presets.{IsPreset};
-ghost use Rattle.spec_state.specs.States.{state_row, state_codec};
-ghost use Rattle.spec_state.specs.Genesis.{header_root_of};
-ghost use Rattle.spec_state.specs.Limits.{IsState};
-ghost use Rattle.beacon_state.specs.Writing.{HasWriting};
+ghost use Rattle.std.specs.Prelude.{◌≡◌, IfOk};
+ghost use Rattle.spec_state.specs.Limits.{IsState, IsInRange};
 
-use crate::groups::{attestations_limit_of, read_fields, votes_limit_of};
-use crate::roots::{list_root, number_list_root, number_vector_root, vector_root};
+mod getters;
+mod setters;
+mod slices;
+
+use crate::values::Values;
 use bc_preset::Preset;
-use hash_tree::{Root, merkle};
+use bc_words::NoMemory;
+use beacon_types::{BeaconBlockHeader, Checkpoint, Eth1Data, Fork, PendingAttestation, Validator};
+use hash_tree::Root;
 use spec_state::PlainState;
-use ssz_codec::{Field, Ssz, SszFault, cut};
-use std::alloc::Global;
 use std::marker::Model;
 
 /// A state of the beacon chain (beacon-chain.md, "BeaconState"), whose lists are within the limits of its preset.
 #[derive(Drop)]
 pub struct State {
-    plain: PlainState,
+    preset: Preset,
+    genesis_time: u64,
+    genesis_validators_root: Root,
+    slot: u64,
+    fork: Fork,
+    latest_block_header: BeaconBlockHeader,
+    block_roots: Values<Root>,
+    state_roots: Values<Root>,
+    historical_roots: Values<Root>,
+    eth1_data: Eth1Data,
+    eth1_data_votes: Values<Eth1Data>,
+    eth1_deposit_index: u64,
+    validators: Values<Validator>,
+    balances: Values<u64>,
+    randao_mixes: Values<Root>,
+    slashings: Values<u64>,
+    previous_epoch_attestations: Values<PendingAttestation>,
+    current_epoch_attestations: Values<PendingAttestation>,
+    justification_bits: [bool; 4],
+    previous_justified_checkpoint: Checkpoint,
+    current_justified_checkpoint: Checkpoint,
+    finalized_checkpoint: Checkpoint,
 }
 
 impl Model for State {
@@ -30,130 +51,153 @@ impl Model for State {
 
     ghost Value = { PlainState };
 
-    ghost view = { λ state. state.plain };
+    ghost use Rattle.beacon_state.specs.inside.Plain.{plain_of};
 
-    ghost invariant = { λ state. IsState state.plain };
-}
+    ghost view = { plain_of };
 
-/// How the 21 fields stand in the fixed part.
-#[tactic(auto, unfolding(spec_state::specs::States::state_row, spec_state::specs::States::clock_row, spec_state::specs::States::history_row, spec_state::specs::States::eth1_row, spec_state::specs::States::registry_row, spec_state::specs::States::pending_row, spec_state::specs::States::finality_row), using(bc_preset::proofs::Bounds::preset_bounds))]
-pub(crate) fn state_fields(preset: &Preset) -> [Field; 21]
-    requires { IsPreset preset.now }
-    ensures fields { result ≡ (state_row preset.now).fields }
-    ensures room { heads_len result < 2 ^ 32 }
-{
-    let roots = Field::Fixed(preset.slots_per_historical_root as usize * 32);
-    let mixes = Field::Fixed(preset.epochs_per_historical_vector as usize * 32);
-    let slashings = Field::Fixed(preset.epochs_per_slashings_vector as usize * 8);
-    [
-        Field::Fixed(8),
-        Field::Fixed(32),
-        Field::Fixed(8),
-        Field::Fixed(16),
-        Field::Fixed(112),
-        roots,
-        roots,
-        Field::Variable,
-        Field::Fixed(72),
-        Field::Variable,
-        Field::Fixed(8),
-        Field::Variable,
-        Field::Variable,
-        mixes,
-        slashings,
-        Field::Variable,
-        Field::Variable,
-        Field::Fixed(1),
-        Field::Fixed(40),
-        Field::Fixed(40),
-        Field::Fixed(40),
-    ]
-}
-
-/// Reads the plain state.
-#[tactic(auto, unfolding(spec_state::specs::States::state_codec))]
-fn read_plain(alloc: Global, preset: &Preset, bytes: &[u8]) -> Result<PlainState, SszFault>
-    requires { IsPreset preset.now }
-    ensures { Gives result ((state_codec preset.now).parse bytes.now) }
-{
-    let fields = state_fields(preset);
-    let mut parts = [bytes; 21];
-    cut(bytes, &fields, &mut parts)?;
-    read_fields(alloc, preset, &parts)
+    ghost invariant = { λ state. IsState (plain_of state) };
 }
 
 impl State {
-    /// Reads exactly the bytes that are the writing of a state of the preset.
-    pub fn read(alloc: Global, preset: &Preset, bytes: &[u8]) -> Result<State, SszFault>
-        requires { IsPreset preset.now }
-        ensures reads { Reads (state_codec preset.now) result bytes.now }
-        ensures parses { Gives result ((state_codec preset.now).parse bytes.now) }
-        ensures state { IfOk result IsState }
-        ensures written { IfOk result HasWriting }
+    /// The state of these fields, which were read.
+    pub(crate) fn from_plain(plain: PlainState) -> State
+        requires state { IsState plain }
+        requires range { IsInRange plain }
+        ensures { result ≡ plain }
     {
-        let plain = read_plain(alloc, preset, bytes)?;
-        Ok(State { plain })
-    }
-
-    /// The fields. They are within the limits of the preset.
-    pub(crate) fn plain(&self) -> &PlainState
-        ensures same { result.now ≡ self.now }
-        ensures state { IsState self.now }
-    {
-        &self.plain
-    }
-
-    /// The root of the state (simple-serialize.md, "Merkleization"). It takes no memory.
-    pub fn root(&self) -> Root
-        ensures { result ≡ (state_codec self.now.preset).root self.now }
-    {
-        plain_root(self.plain())
-    }
-
-    /// The root of the latest block: that of the latest header, whose zero state root is replaced by the state's root
-    /// (beacon-chain.md, "process_slot"). It takes no memory.
-    #[tactic(auto, unfolding(spec_state::specs::Genesis::header_root_of, spec_state::specs::Genesis::block_header_of))]
-    pub fn header_root(&self) -> Root
-        ensures { result ≡ header_root_of self.now }
-    {
-        let mut header = self.plain().latest_block_header;
-        if header.state_root == [0; 32] {
-            header.state_root = self.root();
+        let PlainState {
+            preset,
+            genesis_time,
+            genesis_validators_root,
+            slot,
+            fork,
+            latest_block_header,
+            block_roots,
+            state_roots,
+            historical_roots,
+            eth1_data,
+            eth1_data_votes,
+            eth1_deposit_index,
+            validators,
+            balances,
+            randao_mixes,
+            slashings,
+            previous_epoch_attestations,
+            current_epoch_attestations,
+            justification_bits,
+            previous_justified_checkpoint,
+            current_justified_checkpoint,
+            finalized_checkpoint,
+        } = plain;
+        State {
+            preset,
+            genesis_time,
+            genesis_validators_root,
+            slot,
+            fork,
+            latest_block_header,
+            block_roots: Values::from_items(block_roots),
+            state_roots: Values::from_items(state_roots),
+            historical_roots: Values::from_items(historical_roots),
+            eth1_data,
+            eth1_data_votes: Values::from_items(eth1_data_votes),
+            eth1_deposit_index,
+            validators: Values::from_items(validators),
+            balances: Values::from_items(balances),
+            randao_mixes: Values::from_items(randao_mixes),
+            slashings: Values::from_items(slashings),
+            previous_epoch_attestations: Values::from_items(previous_epoch_attestations),
+            current_epoch_attestations: Values::from_items(current_epoch_attestations),
+            justification_bits,
+            previous_justified_checkpoint,
+            current_justified_checkpoint,
+            finalized_checkpoint,
         }
-        header.hash_tree_root()
     }
-}
 
-/// The root of the state's fields.
-#[tactic(auto, unfolding(spec_state::specs::States::state_codec, spec_state::specs::States::state_row, spec_state::specs::States::clock_row, spec_state::specs::States::history_row, spec_state::specs::States::eth1_row, spec_state::specs::States::registry_row, spec_state::specs::States::pending_row, spec_state::specs::States::finality_row), using(bc_preset::proofs::Bounds::preset_bounds))]
-fn plain_root(s: &PlainState) -> Root
-    requires { IsState s.now }
-    ensures { result ≡ (state_codec s.now.preset).root s.now }
-{
-    let preset = &s.preset;
-    let attestations = attestations_limit_of(preset);
-    let fields = [
-        s.genesis_time.hash_tree_root(),
-        s.genesis_validators_root.hash_tree_root(),
-        s.slot.hash_tree_root(),
-        s.fork.hash_tree_root(),
-        s.latest_block_header.hash_tree_root(),
-        vector_root(&s.block_roots, preset.slots_per_historical_root),
-        vector_root(&s.state_roots, preset.slots_per_historical_root),
-        list_root(&s.historical_roots, preset.historical_roots_limit),
-        s.eth1_data.hash_tree_root(),
-        list_root(&s.eth1_data_votes, votes_limit_of(preset)),
-        s.eth1_deposit_index.hash_tree_root(),
-        list_root(&s.validators, preset.validator_registry_limit),
-        number_list_root(&s.balances, preset.validator_registry_limit),
-        vector_root(&s.randao_mixes, preset.epochs_per_historical_vector),
-        number_vector_root(&s.slashings, preset.epochs_per_slashings_vector),
-        list_root(&s.previous_epoch_attestations, attestations),
-        list_root(&s.current_epoch_attestations, attestations),
-        s.justification_bits.hash_tree_root(),
-        s.previous_justified_checkpoint.hash_tree_root(),
-        s.current_justified_checkpoint.hash_tree_root(),
-        s.finalized_checkpoint.hash_tree_root(),
-    ];
-    merkle(&fields, 5)
+    /// An equal state. Its lists are copies; they will come to share what they have in common.
+    pub fn share(&self) -> Result<State, NoMemory>
+        ensures { IfOk result (λ state. state ≡ self.now) }
+    {
+        let roots = self.share_roots()?;
+        let (validators, balances, eth1_data_votes) = self.share_registry()?;
+        let (slashings, previous_epoch_attestations, current_epoch_attestations) =
+            self.share_pending()?;
+        let (block_roots, state_roots, historical_roots, randao_mixes) = roots;
+        let genesis_validators_root = self.genesis_validators_root;
+        let justification_bits = self.justification_bits;
+        Ok(State {
+            preset: self.preset,
+            genesis_time: self.genesis_time,
+            genesis_validators_root,
+            slot: self.slot,
+            fork: self.fork,
+            latest_block_header: self.latest_block_header,
+            block_roots,
+            state_roots,
+            historical_roots,
+            eth1_data: self.eth1_data,
+            eth1_data_votes,
+            eth1_deposit_index: self.eth1_deposit_index,
+            validators,
+            balances,
+            randao_mixes,
+            slashings,
+            previous_epoch_attestations,
+            current_epoch_attestations,
+            justification_bits,
+            previous_justified_checkpoint: self.previous_justified_checkpoint,
+            current_justified_checkpoint: self.current_justified_checkpoint,
+            finalized_checkpoint: self.finalized_checkpoint,
+        })
+    }
+
+    /// The lists of roots once more.
+    fn share_roots(
+        &self,
+    ) -> Result<(Values<Root>, Values<Root>, Values<Root>, Values<Root>), NoMemory>
+        ensures { IfOk result (λ lists. (lists.0 ≡ self.now.block_roots) × (lists.1 ≡ self.now.state_roots) × (lists.2 ≡ self.now.historical_roots) × (lists.3 ≡ self.now.randao_mixes)) }
+    {
+        let block_roots = self.block_roots.share()?;
+        let state_roots = self.state_roots.share()?;
+        let historical_roots = self.historical_roots.share()?;
+        let randao_mixes = self.randao_mixes.share()?;
+        Ok((block_roots, state_roots, historical_roots, randao_mixes))
+    }
+
+    /// The registry, the balances and the votes once more.
+    fn share_registry(&self) -> Result<(Values<Validator>, Values<u64>, Values<Eth1Data>), NoMemory>
+        ensures { IfOk result (λ lists. (lists.0 ≡ self.now.validators) × (lists.1 ≡ self.now.balances) × (lists.2 ≡ self.now.eth1_data_votes)) }
+    {
+        let validators = self.validators.share()?;
+        let balances = self.balances.share()?;
+        let votes = self.eth1_data_votes.share()?;
+        Ok((validators, balances, votes))
+    }
+
+    /// The slashed balances and the pending attestations once more.
+    fn share_pending(
+        &self,
+    ) -> Result<
+        (
+            Values<u64>,
+            Values<PendingAttestation>,
+            Values<PendingAttestation>,
+        ),
+        NoMemory,
+    >
+        ensures { IfOk result (λ lists. (lists.0 ≡ self.now.slashings) × (lists.1 ≡ self.now.previous_epoch_attestations) × (lists.2 ≡ self.now.current_epoch_attestations)) }
+    {
+        let slashings = self.slashings.share()?;
+        let previous = self.previous_epoch_attestations.share()?;
+        let current = self.current_epoch_attestations.share()?;
+        Ok((slashings, previous, current))
+    }
+
+    /// The state is within the limits of its preset. It does nothing when it runs.
+    pub(crate) fn limits(&self)
+        ensures { IsState self.now }
+    {
+        let _preset = &self.preset;
+    }
 }

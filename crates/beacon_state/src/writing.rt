@@ -1,4 +1,4 @@
-//! Writing a state: its fields come from the plain record, and the bytes go to files.
+//! Writing a state: its fields come from the state, and the bytes go to files.
 
 ghost use Rattle.std.specs.Prelude.{◌≡◌, ◌++◌, Some, OnOk, IfOk};
 ghost use Rattle.ssz_codec.specs.Layout.{heads_len};
@@ -9,84 +9,83 @@ ghost use Rattle.bc_preset.specs.declared.presets.Preset.{Preset};
 ghost use Rattle.spec_state.specs.declared.plain.PlainState.{PlainState};
 ghost use Rattle.beacon_state.specs.Writing.{ListFits, HasWriting};
 
-use crate::state::{State, state_fields};
+use crate::reading::state_fields;
+use crate::state::State;
 use crate::written::{Written, join};
 use bc_preset::Preset;
 use bc_words::NoMemory;
-use spec_state::PlainState;
 use std::alloc::Global;
 
 #[tactic(auto, unfolding(spec_state::specs::States::clock_row))]
-fn add_clock(alloc: Global, s: &PlainState, out: &mut Written) -> Result<(), NoMemory>
+fn add_clock(alloc: Global, s: &State, out: &mut Written) -> Result<(), NoMemory>
     ensures { OnOk result (out.new ≡ out.old ++ clock_row.parts (clock_of s.now)) }
 {
-    out.add(alloc, &s.genesis_time)?;
-    out.add(alloc, &s.genesis_validators_root)?;
-    out.add(alloc, &s.slot)?;
-    out.add(alloc, &s.fork)?;
-    out.add(alloc, &s.latest_block_header)?;
+    out.add(alloc, &s.genesis_time())?;
+    out.add(alloc, &s.genesis_validators_root())?;
+    out.add(alloc, &s.slot())?;
+    out.add(alloc, &s.fork())?;
+    out.add(alloc, &s.latest_block_header())?;
     Ok(())
 }
 
 #[tactic(auto, unfolding(spec_state::specs::States::history_row))]
-fn add_history(alloc: Global, s: &PlainState, out: &mut Written) -> Result<(), NoMemory>
+fn add_history(alloc: Global, s: &State, out: &mut Written) -> Result<(), NoMemory>
     ensures { OnOk result (out.new ≡ out.old ++ (history_row s.now.preset).parts (history_of s.now)) }
 {
-    out.add_items(alloc, &s.block_roots)?;
-    out.add_items(alloc, &s.state_roots)?;
-    out.add_items(alloc, &s.historical_roots)?;
+    out.add_items(alloc, s.block_roots())?;
+    out.add_items(alloc, s.state_roots())?;
+    out.add_items(alloc, s.historical_roots())?;
     Ok(())
 }
 
 #[tactic(auto, unfolding(spec_state::specs::States::eth1_row))]
-fn add_eth1(alloc: Global, s: &PlainState, out: &mut Written) -> Result<(), NoMemory>
+fn add_eth1(alloc: Global, s: &State, out: &mut Written) -> Result<(), NoMemory>
     ensures { OnOk result (out.new ≡ out.old ++ (eth1_row s.now.preset).parts (eth1_of s.now)) }
 {
-    out.add(alloc, &s.eth1_data)?;
-    out.add_items(alloc, &s.eth1_data_votes)?;
-    out.add(alloc, &s.eth1_deposit_index)?;
+    out.add(alloc, &s.eth1_data())?;
+    out.add_items(alloc, s.eth1_data_votes())?;
+    out.add(alloc, &s.eth1_deposit_index())?;
     Ok(())
 }
 
 #[tactic(auto, unfolding(spec_state::specs::States::registry_row))]
-fn add_registry(alloc: Global, s: &PlainState, out: &mut Written) -> Result<(), NoMemory>
+fn add_registry(alloc: Global, s: &State, out: &mut Written) -> Result<(), NoMemory>
     ensures { OnOk result (out.new ≡ out.old ++ (registry_row s.now.preset).parts (registry_of s.now)) }
 {
-    out.add_items(alloc, &s.validators)?;
-    out.add_items(alloc, &s.balances)?;
-    out.add_items(alloc, &s.randao_mixes)?;
-    out.add_items(alloc, &s.slashings)?;
+    out.add_items(alloc, s.validators())?;
+    out.add_items(alloc, s.balances())?;
+    out.add_items(alloc, s.randao_mixes())?;
+    out.add_items(alloc, s.slashings())?;
     Ok(())
 }
 
 #[tactic(auto, unfolding(spec_state::specs::States::pending_row, crate::specs::Writing::ListFits), using(bc_preset::proofs::Bounds::preset_bounds))]
-fn add_pending(alloc: Global, s: &PlainState, out: &mut Written) -> Result<(), NoMemory>
-    requires state { IsState s.now }
+fn add_pending(alloc: Global, s: &State, out: &mut Written) -> Result<(), NoMemory>
     requires previous { ListFits s.now.previous_epoch_attestations }
     requires current { ListFits s.now.current_epoch_attestations }
     ensures { OnOk result (out.new ≡ out.old ++ (pending_row s.now.preset).parts (pending_of s.now)) }
 {
-    out.add_list(alloc, &s.previous_epoch_attestations)?;
-    out.add_list(alloc, &s.current_epoch_attestations)?;
+    let _preset = s.preset();
+    out.add_list(alloc, s.previous_epoch_attestations())?;
+    out.add_list(alloc, s.current_epoch_attestations())?;
     Ok(())
 }
 
 #[tactic(auto, unfolding(spec_state::specs::States::finality_row))]
-fn add_finality(alloc: Global, s: &PlainState, out: &mut Written) -> Result<(), NoMemory>
+fn add_finality(alloc: Global, s: &State, out: &mut Written) -> Result<(), NoMemory>
     ensures { OnOk result (out.new ≡ out.old ++ finality_row.parts (finality_of s.now)) }
 {
-    out.add(alloc, &s.justification_bits)?;
-    out.add(alloc, &s.previous_justified_checkpoint)?;
-    out.add(alloc, &s.current_justified_checkpoint)?;
-    out.add(alloc, &s.finalized_checkpoint)?;
+    out.add(alloc, &s.justification_bits())?;
+    out.add(alloc, &s.previous_justified_checkpoint())?;
+    out.add(alloc, &s.current_justified_checkpoint())?;
+    out.add(alloc, &s.finalized_checkpoint())?;
     Ok(())
 }
 
 /// Writes each of the 21 fields.
 #[tactic(auto, unfolding(spec_state::specs::States::state_row))]
-fn write_fields(alloc: Global, s: &PlainState) -> Result<Written, NoMemory>
-    requires state { IsState s.now }
-    requires fit { HasWriting s.now }
+fn write_fields(alloc: Global, s: &State) -> Result<Written, NoMemory>
+    requires { HasWriting s.now }
     ensures { IfOk result (λ out. out ≡ (state_row s.now.preset).parts s.now) }
 {
     let mut out = Written::new(alloc);
@@ -113,14 +112,13 @@ fn head_of(preset: &Preset) -> u64
 
 /// The writing of the fields.
 #[tactic(auto, unfolding(spec_state::specs::States::state_codec))]
-fn write_plain(alloc: Global, s: &PlainState) -> Result<Vec<u8>, NoMemory>
-    requires state { IsState s.now }
-    requires fit { HasWriting s.now }
+fn write_plain(alloc: Global, s: &State) -> Result<Vec<u8>, NoMemory>
+    requires { HasWriting s.now }
     ensures { IfOk result (λ bytes. bytes.items ≡ (state_codec s.now.preset).writing s.now) }
 {
     let parts = write_fields(alloc, s)?;
-    let fields = state_fields(&s.preset);
-    join(alloc, &fields, &parts, head_of(&s.preset))
+    let fields = state_fields(s.preset());
+    join(alloc, &fields, &parts, head_of(s.preset()))
 }
 
 impl State {
@@ -129,7 +127,7 @@ impl State {
         requires { HasWriting self.now }
         ensures { IfOk result (λ bytes. bytes.items ≡ (state_codec self.now.preset).writing self.now) }
     {
-        write_plain(alloc, self.plain())
+        write_plain(alloc, self)
     }
 }
 

@@ -7,7 +7,7 @@ ghost use Rattle.ssz_codec.specs.declared.layout.Field.TheVariants.{Variable};
 ghost use Rattle.ssz_codec.specs.Layout.{heads, bodies, heads_len, joined, OffsetsFit};
 
 use bc_words::NoMemory;
-use ssz_codec::{Field, Items, Ssz, Writer};
+use ssz_codec::{Field, Ssz, Writer};
 use std::alloc::Global;
 use std::marker::Model;
 
@@ -67,30 +67,22 @@ impl Written {
     }
 
     /// Adds a vector or a list of values of fixed size.
-    pub(crate) fn add_items<T: Ssz>(
-        &mut self,
-        alloc: Global,
-        items: &Items<T>,
-    ) -> Result<(), NoMemory>
+    pub(crate) fn add_items<T: Ssz>(&mut self, alloc: Global, items: &[T]) -> Result<(), NoMemory>
         ensures { OnOk result (self.new ≡ self.old ++ flat_map T.codec.writing items.now ∷ []) }
     {
         let mut out = Writer::new(alloc);
-        write_items(items.as_slice(), &mut out)?;
+        write_items(items, &mut out)?;
         self.add_part(out.finish())
     }
 
     /// Adds a list of values of variable size.
     #[tactic(auto, using(ssz_codec::specs::ListLaws::variable_heads))]
-    pub(crate) fn add_list<T: Ssz>(
-        &mut self,
-        alloc: Global,
-        items: &Items<T>,
-    ) -> Result<(), NoMemory>
+    pub(crate) fn add_list<T: Ssz>(&mut self, alloc: Global, items: &[T]) -> Result<(), NoMemory>
         requires few { length items.now < 2 ^ 32 }
         requires fit { OffsetsFit (replicate (length items.now) Variable) (map T.codec.writing items.now) (4 * length items.now) }
         ensures { OnOk result (self.new ≡ self.old ++ joined (replicate (length items.now) Variable) (map T.codec.writing items.now) ∷ []) }
     {
-        let parts = write_each(alloc, items.as_slice())?;
+        let parts = write_each(alloc, items)?;
         let count = items.len();
         let fields = vec![in alloc; Field::Variable; count]?;
         let part = join(alloc, &fields, &parts, 4 * count as u64)?;

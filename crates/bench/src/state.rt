@@ -1,12 +1,12 @@
 //! A mainnet state of 16,384 validators that is read, checked and rooted, against the hashes of its tree.
 
 use crate::ratio::Ratio;
-use anyhow::{Context, Result};
+use anyhow::Result;
 use bc_preset::Preset;
 use beacon_state::{State, empty_body_root, genesis_check};
 use sha2::{Digest, Sha256};
 use std::alloc::{AllocError, Global};
-use std::time::CpuClock;
+use std::time::{CpuClock, Duration};
 
 /// How many validators the state has.
 const VALIDATORS: u32 = 16_384;
@@ -70,16 +70,14 @@ fn pair_hashes() -> u8 {
     joined
 }
 
-/// Reads, checks, roots, hashes, and prints both times.
-pub fn measure(rt: &(impl AllocGlobal + Print + CpuClock)) -> Result<()> {
-    let bytes = state_bytes(rt.alloc())?;
-    let preset = Preset::mainnet();
-    let begin = rt.process_cpu_time()?;
-    let state = State::read(rt.alloc(), &preset, &bytes)
-        .ok()
-        .context("the bytes are a state")?;
+/// Checks, roots and hashes a state that was read, and prints both times.
+fn time_root(
+    rt: &(impl AllocGlobal + Print + CpuClock),
+    state: &State,
+    begin: Duration,
+) -> Result<()> {
     let read = rt.process_cpu_time()?;
-    let checked = genesis_check(&state);
+    let checked = genesis_check(state);
     let root = state.root();
     let middle = rt.process_cpu_time()?;
     let joined = pair_hashes();
@@ -99,4 +97,14 @@ pub fn measure(rt: &(impl AllocGlobal + Print + CpuClock)) -> Result<()> {
         "state of {VALIDATORS} validators, {verdict}, read in {reading} us, in all: {ratio} (root {first:02x}.., joined {joined})"
     )?;
     Ok(())
+}
+
+/// Reads, checks, roots, hashes, and prints both times.
+pub fn measure(rt: &(impl AllocGlobal + Print + CpuClock)) -> Result<()> {
+    let bytes = state_bytes(rt.alloc())?;
+    let begin = rt.process_cpu_time()?;
+    match State::read(rt.alloc(), &Preset::mainnet(), &bytes) {
+        Ok(state) => time_root(rt, &state, begin),
+        Err(fault) => Err(fault.into()),
+    }
 }

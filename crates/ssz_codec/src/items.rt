@@ -38,6 +38,13 @@ impl<T> Items<T> {
         Items { values }
     }
 
+    /// The values of this list.
+    pub fn into_vec(self) -> Vec<T>
+        ensures { result.items ≡ self }
+    {
+        self.values
+    }
+
     /// How many there are.
     pub fn len(&self) -> usize
         ensures { result ≡ length self.now }

@@ -11,4 +11,5 @@ parts_count p s = refl
 
 pub join-requires-clause-same : goal.join-requires-clause-same
 join-requires-clause-same c =
-    ap length c.in_ok-parts.ensures ∙ parts_count c.args.s.now.preset c.args.s.now ∙ ap length (sym c.state_fields-fields.ensures.fields)
+    ap length c.in_ok-parts.ensures ∙ parts_count c.args.s.now.preset c.args.s.now ∙ ap (λ p. length (state_row p).fields) (sym c.preset.ensures.same)
+    ∙ ap length (sym c.state_fields-fields.ensures.fields)

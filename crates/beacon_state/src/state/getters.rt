@@ -2,9 +2,10 @@
 
 ghost use Rattle.std.specs.Prelude.{◌≡◌, ◌≤◌, length, slice_get};
 ghost use Rattle.std.specs.Option.{option_map};
+ghost use Rattle.bc_preset.specs.Presets.{IsPreset};
 ghost use Rattle.spec_state.specs.States.{votes_limit, attestations_limit};
 
-use crate::state::State;
+use super::State;
 use bc_preset::Preset;
 use beacon_types::{BeaconBlockHeader, Checkpoint, Eth1Data, Fork, PendingAttestation, Validator};
 use hash_tree::Root;
@@ -12,116 +13,117 @@ use hash_tree::Root;
 impl State {
     /// The preset that the state was read with.
     pub fn preset(&self) -> &Preset
-        ensures { result.now ≡ self.now.preset }
+        ensures same { result.now ≡ self.now.preset }
+        ensures preset { IsPreset self.now.preset }
     {
-        &self.plain().preset
+        &self.preset
     }
 
     /// When the chain began, in seconds since 1970.
     pub fn genesis_time(&self) -> u64
         ensures { result ≡ self.now.genesis_time }
     {
-        self.plain().genesis_time
+        self.genesis_time
     }
 
     /// The root of the validators at the beginning.
     pub fn genesis_validators_root(&self) -> Root
         ensures { result ≡ self.now.genesis_validators_root }
     {
-        self.plain().genesis_validators_root
+        self.genesis_validators_root
     }
 
     /// The slot.
     pub fn slot(&self) -> u64
         ensures { result ≡ self.now.slot }
     {
-        self.plain().slot
+        self.slot
     }
 
     /// The fork.
     pub fn fork(&self) -> Fork
         ensures { result ≡ self.now.fork }
     {
-        self.plain().fork
+        self.fork
     }
 
     /// The header of the latest block.
     pub fn latest_block_header(&self) -> BeaconBlockHeader
         ensures { result ≡ self.now.latest_block_header }
     {
-        self.plain().latest_block_header
+        self.latest_block_header
     }
 
     /// What is known of the deposit contract.
     pub fn eth1_data(&self) -> Eth1Data
         ensures { result ≡ self.now.eth1_data }
     {
-        self.plain().eth1_data
+        self.eth1_data
     }
 
     /// How many deposits were processed.
     pub fn eth1_deposit_index(&self) -> u64
         ensures { result ≡ self.now.eth1_deposit_index }
     {
-        self.plain().eth1_deposit_index
+        self.eth1_deposit_index
     }
 
     /// Which of the latest four epochs are justified, the current one first.
     pub fn justification_bits(&self) -> [bool; 4]
         ensures { result ≡ self.now.justification_bits }
     {
-        self.plain().justification_bits
+        self.justification_bits
     }
 
     /// The justified checkpoint of the previous epoch.
     pub fn previous_justified_checkpoint(&self) -> Checkpoint
         ensures { result ≡ self.now.previous_justified_checkpoint }
     {
-        self.plain().previous_justified_checkpoint
+        self.previous_justified_checkpoint
     }
 
     /// The justified checkpoint of the current epoch.
     pub fn current_justified_checkpoint(&self) -> Checkpoint
         ensures { result ≡ self.now.current_justified_checkpoint }
     {
-        self.plain().current_justified_checkpoint
+        self.current_justified_checkpoint
     }
 
     /// The finalised checkpoint.
     pub fn finalized_checkpoint(&self) -> Checkpoint
         ensures { result ≡ self.now.finalized_checkpoint }
     {
-        self.plain().finalized_checkpoint
+        self.finalized_checkpoint
     }
 
-    /// How many the latest block roots there are.
+    /// How many roots of the latest blocks there are: as many as the preset says.
     pub fn block_roots_len(&self) -> u64
         ensures len { result ≡ length self.now.block_roots }
         ensures limit { result ≡ self.now.preset.slots_per_historical_root }
     {
-        self.plain().block_roots.len() as u64
+        self.block_roots.len()
     }
 
-    /// The root of the block at a place of the latest ones. None exactly where there is none at this place.
+    /// The root of the latest block whose slot has this place. None exactly where the place is not below the length.
     pub fn block_roots_at(&self, i: u64) -> Option<&Root>
         ensures { option_map (λ x. x.now) result ≡ slice_get self.now.block_roots i }
     {
-        self.plain().block_roots.get(i as usize)
+        self.block_roots.get(i)
     }
 
-    /// How many the latest state roots there are.
+    /// How many roots of the latest states there are: as many as the preset says.
     pub fn state_roots_len(&self) -> u64
         ensures len { result ≡ length self.now.state_roots }
         ensures limit { result ≡ self.now.preset.slots_per_historical_root }
     {
-        self.plain().state_roots.len() as u64
+        self.state_roots.len()
     }
 
-    /// The root of the state at a place of the latest ones. None exactly where there is none at this place.
+    /// The root of the latest state whose slot has this place. None exactly where the place is not below the length.
     pub fn state_roots_at(&self, i: u64) -> Option<&Root>
         ensures { option_map (λ x. x.now) result ≡ slice_get self.now.state_roots i }
     {
-        self.plain().state_roots.get(i as usize)
+        self.state_roots.get(i)
     }
 
     /// How many older batches there are.
@@ -129,14 +131,14 @@ impl State {
         ensures len { result ≡ length self.now.historical_roots }
         ensures limit { result ≤ self.now.preset.historical_roots_limit }
     {
-        self.plain().historical_roots.len() as u64
+        self.historical_roots.len()
     }
 
-    /// The root of an older batch. None exactly where there is none at this place.
+    /// The root of an older batch. None exactly where the place is not below the length.
     pub fn historical_roots_at(&self, i: u64) -> Option<&Root>
         ensures { option_map (λ x. x.now) result ≡ slice_get self.now.historical_roots i }
     {
-        self.plain().historical_roots.get(i as usize)
+        self.historical_roots.get(i)
     }
 
     /// How many votes for the deposit contract there are.
@@ -144,14 +146,14 @@ impl State {
         ensures len { result ≡ length self.now.eth1_data_votes }
         ensures limit { result ≤ votes_limit self.now.preset }
     {
-        self.plain().eth1_data_votes.len() as u64
+        self.eth1_data_votes.len()
     }
 
-    /// A vote for the deposit contract. None exactly where there is none at this place.
+    /// A vote for the deposit contract. None exactly where the place is not below the length.
     pub fn eth1_data_votes_at(&self, i: u64) -> Option<&Eth1Data>
         ensures { option_map (λ x. x.now) result ≡ slice_get self.now.eth1_data_votes i }
     {
-        self.plain().eth1_data_votes.get(i as usize)
+        self.eth1_data_votes.get(i)
     }
 
     /// How many validators there are.
@@ -159,14 +161,14 @@ impl State {
         ensures len { result ≡ length self.now.validators }
         ensures limit { result ≤ self.now.preset.validator_registry_limit }
     {
-        self.plain().validators.len() as u64
+        self.validators.len()
     }
 
-    /// A validator by its index. None exactly where there is none at this place.
+    /// A validator by its index. None exactly where the place is not below the length.
     pub fn validators_at(&self, i: u64) -> Option<&Validator>
         ensures { option_map (λ x. x.now) result ≡ slice_get self.now.validators i }
     {
-        self.plain().validators.get(i as usize)
+        self.validators.get(i)
     }
 
     /// How many balances there are.
@@ -174,44 +176,44 @@ impl State {
         ensures len { result ≡ length self.now.balances }
         ensures limit { result ≤ self.now.preset.validator_registry_limit }
     {
-        self.plain().balances.len() as u64
+        self.balances.len()
     }
 
-    /// The balance of a validator, in Gwei. None exactly where there is none at this place.
+    /// The balance of a validator, in Gwei. None exactly where the place is not below the length.
     pub fn balances_at(&self, i: u64) -> Option<u64>
         ensures { result ≡ slice_get self.now.balances i }
     {
-        self.plain().balances.get(i as usize).copied()
+        self.balances.get(i).copied()
     }
 
-    /// How many mixes there are.
+    /// How many mixes there are: as many as the preset says.
     pub fn randao_mixes_len(&self) -> u64
         ensures len { result ≡ length self.now.randao_mixes }
         ensures limit { result ≡ self.now.preset.epochs_per_historical_vector }
     {
-        self.plain().randao_mixes.len() as u64
+        self.randao_mixes.len()
     }
 
-    /// The mix at a place. None exactly where there is none at this place.
+    /// The mix of the latest epoch that has this place. None exactly where the place is not below the length.
     pub fn randao_mixes_at(&self, i: u64) -> Option<&Root>
         ensures { option_map (λ x. x.now) result ≡ slice_get self.now.randao_mixes i }
     {
-        self.plain().randao_mixes.get(i as usize)
+        self.randao_mixes.get(i)
     }
 
-    /// How many slashed balances there are.
+    /// How many slashed balances there are: as many as the preset says.
     pub fn slashings_len(&self) -> u64
         ensures len { result ≡ length self.now.slashings }
         ensures limit { result ≡ self.now.preset.epochs_per_slashings_vector }
     {
-        self.plain().slashings.len() as u64
+        self.slashings.len()
     }
 
-    /// The balance that was slashed in an epoch, in Gwei. None exactly where there is none at this place.
+    /// The balance that was slashed in the latest epoch that has this place, in Gwei. None exactly where the place is not below the length.
     pub fn slashings_at(&self, i: u64) -> Option<u64>
         ensures { result ≡ slice_get self.now.slashings i }
     {
-        self.plain().slashings.get(i as usize).copied()
+        self.slashings.get(i).copied()
     }
 
     /// How many attestations of the previous epoch there are.
@@ -219,14 +221,14 @@ impl State {
         ensures len { result ≡ length self.now.previous_epoch_attestations }
         ensures limit { result ≤ attestations_limit self.now.preset }
     {
-        self.plain().previous_epoch_attestations.len() as u64
+        self.previous_epoch_attestations.len()
     }
 
-    /// An attestation of the previous epoch. None exactly where there is none at this place.
+    /// An attestation of the previous epoch. None exactly where the place is not below the length.
     pub fn previous_epoch_attestations_at(&self, i: u64) -> Option<&PendingAttestation>
         ensures { option_map (λ x. x.now) result ≡ slice_get self.now.previous_epoch_attestations i }
     {
-        self.plain().previous_epoch_attestations.get(i as usize)
+        self.previous_epoch_attestations.get(i)
     }
 
     /// How many attestations of the current epoch there are.
@@ -234,13 +236,13 @@ impl State {
         ensures len { result ≡ length self.now.current_epoch_attestations }
         ensures limit { result ≤ attestations_limit self.now.preset }
     {
-        self.plain().current_epoch_attestations.len() as u64
+        self.current_epoch_attestations.len()
     }
 
-    /// An attestation of the current epoch. None exactly where there is none at this place.
+    /// An attestation of the current epoch. None exactly where the place is not below the length.
     pub fn current_epoch_attestations_at(&self, i: u64) -> Option<&PendingAttestation>
         ensures { option_map (λ x. x.now) result ≡ slice_get self.now.current_epoch_attestations i }
     {
-        self.plain().current_epoch_attestations.get(i as usize)
+        self.current_epoch_attestations.get(i)
     }
 }

@@ -1,0 +1,146 @@
+//! What a list of the state holds: values that are within the limits of their codec by their type, and can be copied.
+
+ghost use Rattle.std.specs.Prelude.{◌≡◌, IfOk};
+ghost use Rattle.beacon_types.specs.Containers.{eth1_data_codec, validator_codec, attestation_data_codec, checkpoint_codec, pending_attestation_codec};
+
+use bc_words::NoMemory;
+use beacon_types::{AttestationData, Checkpoint, Eth1Data, PendingAttestation, Validator};
+use hash_tree::Root;
+use ssz_codec::{Ssz, reads_back};
+use std::alloc::Global;
+
+/// A value of a list of the state.
+pub(crate) trait InRange: Ssz {
+    /// The value is within the limits of its codec. It does nothing when it runs.
+    fn in_range(&self)
+        ensures { Self.codec.Within self.now };
+
+    /// The same values once more.
+    fn copies(alloc: Global, values: &[Self]) -> Result<Vec<Self>, NoMemory>
+        ensures { IfOk result (λ copies. copies.items ≡ values.now) };
+}
+
+impl InRange for u64 {
+    fn in_range(&self) {
+        let _number = *self;
+    }
+
+    fn copies(alloc: Global, values: &[u64]) -> Result<Vec<u64>, NoMemory> {
+        let copies = Vec::from_slice(alloc, values)?;
+        Ok(copies)
+    }
+}
+
+impl InRange for Root {
+    fn in_range(&self) {
+        let _root = *self;
+    }
+
+    fn copies(alloc: Global, values: &[Root]) -> Result<Vec<Root>, NoMemory> {
+        let copies = Vec::from_slice(alloc, values)?;
+        Ok(copies)
+    }
+}
+
+impl InRange for Eth1Data {
+    fn in_range(&self) {
+        eth1_data_in_range(self);
+    }
+
+    fn copies(alloc: Global, values: &[Eth1Data]) -> Result<Vec<Eth1Data>, NoMemory> {
+        let copies = Vec::from_slice(alloc, values)?;
+        Ok(copies)
+    }
+}
+
+impl InRange for Validator {
+    fn in_range(&self) {
+        validator_in_range(self);
+    }
+
+    fn copies(alloc: Global, values: &[Validator]) -> Result<Vec<Validator>, NoMemory> {
+        let copies = Vec::from_slice(alloc, values)?;
+        Ok(copies)
+    }
+}
+
+impl InRange for PendingAttestation {
+    fn in_range(&self) {
+        attestation_in_range(self);
+    }
+
+    fn copies(
+        alloc: Global,
+        values: &[PendingAttestation],
+    ) -> Result<Vec<PendingAttestation>, NoMemory> {
+        let mut copies = Vec::with_capacity(alloc, values.len())?;
+        for attestation in values {
+            copies.push(copy_of(alloc, attestation)?)?;
+        }
+        Ok(copies)
+    }
+}
+
+/// The attestation once more: what its writing reads as.
+fn copy_of(alloc: Global, attestation: &PendingAttestation) -> Result<PendingAttestation, NoMemory>
+    ensures { IfOk result (λ copy. copy ≡ attestation.now) }
+{
+    attestation_in_range(attestation);
+    reads_back::<PendingAttestation>();
+    let bytes = attestation.write(alloc)?;
+    match PendingAttestation::read(alloc, &bytes) {
+        Ok(copy) => Ok(copy),
+        Err(_) => Err(NoMemory),
+    }
+}
+
+#[tactic(auto, unfolding(beacon_types::specs::Containers::eth1_data_codec, beacon_types::specs::Containers::eth1_data_row, ssz_codec::specs::Layout::OffsetsFit))]
+fn eth1_data_in_range(eth1: &Eth1Data)
+    ensures { eth1_data_codec.Within eth1.now }
+{
+    let _root = eth1.deposit_root;
+    let _count = eth1.deposit_count;
+    let _hash = eth1.block_hash;
+}
+
+#[tactic(auto, unfolding(beacon_types::specs::Containers::validator_codec, beacon_types::specs::Containers::validator_row, ssz_codec::specs::Layout::OffsetsFit))]
+fn validator_in_range(validator: &Validator)
+    ensures { validator_codec.Within validator.now }
+{
+    let _key = validator.pubkey;
+    let _credentials = validator.withdrawal_credentials;
+    let _balance = validator.effective_balance;
+    let _eligible = validator.activation_eligibility_epoch;
+    let _active = validator.activation_epoch;
+    let _left = validator.exit_epoch;
+    let _withdrawable = validator.withdrawable_epoch;
+}
+
+#[tactic(auto, unfolding(beacon_types::specs::Containers::checkpoint_codec, beacon_types::specs::Containers::checkpoint_row, ssz_codec::specs::Layout::OffsetsFit))]
+fn checkpoint_in_range(checkpoint: &Checkpoint)
+    ensures { checkpoint_codec.Within checkpoint.now }
+{
+    let _epoch = checkpoint.epoch;
+    let _root = checkpoint.root;
+}
+
+#[tactic(auto, unfolding(beacon_types::specs::Containers::attestation_data_codec, beacon_types::specs::Containers::attestation_data_row, ssz_codec::specs::Layout::OffsetsFit))]
+fn attestation_data_in_range(content: &AttestationData)
+    ensures { attestation_data_codec.Within content.now }
+{
+    let _slot = content.slot;
+    let _index = content.index;
+    let _root = content.beacon_block_root;
+    checkpoint_in_range(&content.source);
+    checkpoint_in_range(&content.target);
+}
+
+#[tactic(auto, unfolding(beacon_types::specs::Containers::pending_attestation_codec, beacon_types::specs::Containers::pending_attestation_row, beacon_types::specs::Containers::aggregation_bits_codec, ssz_codec::specs::Layout::OffsetsFit))]
+fn attestation_in_range(attestation: &PendingAttestation)
+    ensures { pending_attestation_codec.Within attestation.now }
+{
+    let _count = attestation.aggregation_bits.len();
+    attestation_data_in_range(&attestation.content);
+    let _delay = attestation.inclusion_delay;
+    let _proposer = attestation.proposer_index;
+}

@@ -1,0 +1,264 @@
+//! Changing the fields of a state: each call says in one clause which field or place changes, and that all else stays.
+//!
+//! What may take memory answers whether it was refused, and then leaves the state as it was.
+
+ghost use Rattle.std.specs.Prelude.{◌≡◌, ◌<◌, [], length, slice_set};
+ghost use Rattle.bc_words.specs.Outcome.{Pushes, Becomes, bind, checked_push, done};
+ghost use Rattle.spec_state.specs.States.{votes_limit, attestations_limit};
+
+use super::State;
+use crate::groups::{attestations_limit_of, votes_limit_of};
+use bc_words::{NoMemory, PushStop};
+use beacon_types::{BeaconBlockHeader, Checkpoint, Eth1Data, Fork, PendingAttestation, Validator};
+use hash_tree::Root;
+use std::mem;
+
+impl State {
+    /// Writes when the chain began.
+    pub fn set_genesis_time(&mut self, time: u64)
+        ensures { self.new ≡ record self.old { genesis_time = time } }
+    {
+        self.genesis_time = time;
+    }
+
+    /// Writes the root of the validators at the beginning.
+    pub fn set_genesis_validators_root(&mut self, root: Root)
+        ensures { self.new ≡ record self.old { genesis_validators_root = root } }
+    {
+        self.genesis_validators_root = root;
+    }
+
+    /// Writes the slot.
+    pub fn set_slot(&mut self, slot: u64)
+        ensures { self.new ≡ record self.old { slot = slot } }
+    {
+        self.slot = slot;
+    }
+
+    /// Writes the fork.
+    pub fn set_fork(&mut self, fork: Fork)
+        ensures { self.new ≡ record self.old { fork = fork } }
+    {
+        self.fork = fork;
+    }
+
+    /// Writes the header of the latest block.
+    pub fn set_latest_block_header(&mut self, header: BeaconBlockHeader)
+        ensures { self.new ≡ record self.old { latest_block_header = header } }
+    {
+        self.latest_block_header = header;
+    }
+
+    /// Writes what is known of the deposit contract.
+    pub fn set_eth1_data(&mut self, eth1_data: Eth1Data)
+        ensures { self.new ≡ record self.old { eth1_data = eth1_data } }
+    {
+        self.eth1_data = eth1_data;
+    }
+
+    /// Writes how many deposits were processed.
+    pub fn set_eth1_deposit_index(&mut self, index: u64)
+        ensures { self.new ≡ record self.old { eth1_deposit_index = index } }
+    {
+        self.eth1_deposit_index = index;
+    }
+
+    /// Writes which of the latest four epochs are justified, the current one first.
+    pub fn set_justification_bits(&mut self, bits: [bool; 4])
+        ensures { self.new ≡ record self.old { justification_bits = bits } }
+    {
+        self.justification_bits = bits;
+    }
+
+    /// Writes the justified checkpoint of the previous epoch.
+    pub fn set_previous_justified_checkpoint(&mut self, checkpoint: Checkpoint)
+        ensures { self.new ≡ record self.old { previous_justified_checkpoint = checkpoint } }
+    {
+        self.previous_justified_checkpoint = checkpoint;
+    }
+
+    /// Writes the justified checkpoint of the current epoch.
+    pub fn set_current_justified_checkpoint(&mut self, checkpoint: Checkpoint)
+        ensures { self.new ≡ record self.old { current_justified_checkpoint = checkpoint } }
+    {
+        self.current_justified_checkpoint = checkpoint;
+    }
+
+    /// Writes the finalised checkpoint.
+    pub fn set_finalized_checkpoint(&mut self, checkpoint: Checkpoint)
+        ensures { self.new ≡ record self.old { finalized_checkpoint = checkpoint } }
+    {
+        self.finalized_checkpoint = checkpoint;
+    }
+}
+
+impl State {
+    /// Writes another root of a block at a place. Where memory is refused, the state is as before.
+    pub fn set_block_roots_at(&mut self, i: u64, root: Root) -> Result<(), NoMemory>
+        requires { i < length self.old.block_roots }
+        ensures { Becomes result self.old self.new (record self.old { block_roots = slice_set self.old.block_roots i root }) }
+    {
+        self.block_roots.set(i, root)
+    }
+
+    /// Writes another root of a state at a place. Where memory is refused, the state is as before.
+    pub fn set_state_roots_at(&mut self, i: u64, root: Root) -> Result<(), NoMemory>
+        requires { i < length self.old.state_roots }
+        ensures { Becomes result self.old self.new (record self.old { state_roots = slice_set self.old.state_roots i root }) }
+    {
+        self.state_roots.set(i, root)
+    }
+
+    /// Writes another root of a batch at a place. Where memory is refused, the state is as before.
+    pub fn set_historical_roots_at(&mut self, i: u64, root: Root) -> Result<(), NoMemory>
+        requires { i < length self.old.historical_roots }
+        ensures { Becomes result self.old self.new (record self.old { historical_roots = slice_set self.old.historical_roots i root }) }
+    {
+        self.historical_roots.set(i, root)
+    }
+
+    /// Appends one more root of a batch. Full exactly where there are as many as the limit; the state is then as before, as it is
+    /// where memory is refused.
+    pub fn push_historical_roots(&mut self, root: Root) -> Result<(), PushStop>
+        ensures { Pushes result self.old self.new (bind (checked_push self.old.preset.historical_roots_limit self.old.historical_roots root) (λ items. done (record self.old { historical_roots = items }))) }
+    {
+        let limit = self.preset.historical_roots_limit;
+        self.historical_roots.push(root, limit)
+    }
+
+    /// Writes another vote at a place. Where memory is refused, the state is as before.
+    pub fn set_eth1_data_votes_at(&mut self, i: u64, vote: Eth1Data) -> Result<(), NoMemory>
+        requires { i < length self.old.eth1_data_votes }
+        ensures { Becomes result self.old self.new (record self.old { eth1_data_votes = slice_set self.old.eth1_data_votes i vote }) }
+    {
+        self.eth1_data_votes.set(i, vote)
+    }
+
+    /// Appends one more vote. Full exactly where there are as many as the limit; the state is then as before, as it is
+    /// where memory is refused.
+    pub fn push_eth1_data_votes(&mut self, vote: Eth1Data) -> Result<(), PushStop>
+        ensures { Pushes result self.old self.new (bind (checked_push (votes_limit self.old.preset) self.old.eth1_data_votes vote) (λ items. done (record self.old { eth1_data_votes = items }))) }
+    {
+        let limit = votes_limit_of(&self.preset);
+        self.eth1_data_votes.push(vote, limit)
+    }
+
+    /// Writes another validator at a place. Where memory is refused, the state is as before.
+    pub fn set_validators_at(&mut self, i: u64, validator: Validator) -> Result<(), NoMemory>
+        requires { i < length self.old.validators }
+        ensures { Becomes result self.old self.new (record self.old { validators = slice_set self.old.validators i validator }) }
+    {
+        self.validators.set(i, validator)
+    }
+
+    /// Appends one more validator. Full exactly where there are as many as the limit; the state is then as before, as it is
+    /// where memory is refused.
+    pub fn push_validators(&mut self, validator: Validator) -> Result<(), PushStop>
+        ensures { Pushes result self.old self.new (bind (checked_push self.old.preset.validator_registry_limit self.old.validators validator) (λ items. done (record self.old { validators = items }))) }
+    {
+        let limit = self.preset.validator_registry_limit;
+        self.validators.push(validator, limit)
+    }
+
+    /// Writes another balance at a place. Where memory is refused, the state is as before.
+    pub fn set_balances_at(&mut self, i: u64, balance: u64) -> Result<(), NoMemory>
+        requires { i < length self.old.balances }
+        ensures { Becomes result self.old self.new (record self.old { balances = slice_set self.old.balances i balance }) }
+    {
+        self.balances.set(i, balance)
+    }
+
+    /// Appends one more balance. Full exactly where there are as many as the limit; the state is then as before, as it is
+    /// where memory is refused.
+    pub fn push_balances(&mut self, balance: u64) -> Result<(), PushStop>
+        ensures { Pushes result self.old self.new (bind (checked_push self.old.preset.validator_registry_limit self.old.balances balance) (λ items. done (record self.old { balances = items }))) }
+    {
+        let limit = self.preset.validator_registry_limit;
+        self.balances.push(balance, limit)
+    }
+
+    /// Writes another mix at a place. Where memory is refused, the state is as before.
+    pub fn set_randao_mixes_at(&mut self, i: u64, mix: Root) -> Result<(), NoMemory>
+        requires { i < length self.old.randao_mixes }
+        ensures { Becomes result self.old self.new (record self.old { randao_mixes = slice_set self.old.randao_mixes i mix }) }
+    {
+        self.randao_mixes.set(i, mix)
+    }
+
+    /// Writes another slashed balance at a place. Where memory is refused, the state is as before.
+    pub fn set_slashings_at(&mut self, i: u64, balance: u64) -> Result<(), NoMemory>
+        requires { i < length self.old.slashings }
+        ensures { Becomes result self.old self.new (record self.old { slashings = slice_set self.old.slashings i balance }) }
+    {
+        self.slashings.set(i, balance)
+    }
+
+    /// Writes another attestation at a place. Where memory is refused, the state is as before.
+    pub fn set_previous_epoch_attestations_at(
+        &mut self,
+        i: u64,
+        attestation: PendingAttestation,
+    ) -> Result<(), NoMemory>
+        requires { i < length self.old.previous_epoch_attestations }
+        ensures { Becomes result self.old self.new (record self.old { previous_epoch_attestations = slice_set self.old.previous_epoch_attestations i attestation }) }
+    {
+        self.previous_epoch_attestations.set(i, attestation)
+    }
+
+    /// Appends one more attestation. Full exactly where there are as many as the limit; the state is then as before, as it is
+    /// where memory is refused.
+    pub fn push_previous_epoch_attestations(
+        &mut self,
+        attestation: PendingAttestation,
+    ) -> Result<(), PushStop>
+        ensures { Pushes result self.old self.new (bind (checked_push (attestations_limit self.old.preset) self.old.previous_epoch_attestations attestation) (λ items. done (record self.old { previous_epoch_attestations = items }))) }
+    {
+        let limit = attestations_limit_of(&self.preset);
+        self.previous_epoch_attestations.push(attestation, limit)
+    }
+
+    /// Writes another attestation at a place. Where memory is refused, the state is as before.
+    pub fn set_current_epoch_attestations_at(
+        &mut self,
+        i: u64,
+        attestation: PendingAttestation,
+    ) -> Result<(), NoMemory>
+        requires { i < length self.old.current_epoch_attestations }
+        ensures { Becomes result self.old self.new (record self.old { current_epoch_attestations = slice_set self.old.current_epoch_attestations i attestation }) }
+    {
+        self.current_epoch_attestations.set(i, attestation)
+    }
+
+    /// Appends one more attestation. Full exactly where there are as many as the limit; the state is then as before, as it is
+    /// where memory is refused.
+    pub fn push_current_epoch_attestations(
+        &mut self,
+        attestation: PendingAttestation,
+    ) -> Result<(), PushStop>
+        ensures { Pushes result self.old self.new (bind (checked_push (attestations_limit self.old.preset) self.old.current_epoch_attestations attestation) (λ items. done (record self.old { current_epoch_attestations = items }))) }
+    {
+        let limit = attestations_limit_of(&self.preset);
+        self.current_epoch_attestations.push(attestation, limit)
+    }
+
+    /// Drops all votes for the deposit contract. Where memory is refused, the state is as before.
+    pub fn clear_eth1_data_votes(&mut self) -> Result<(), NoMemory>
+        ensures { Becomes result self.old self.new (record self.old { eth1_data_votes = [] }) }
+    {
+        self.eth1_data_votes.clear();
+        Ok(())
+    }
+
+    /// The attestations of the current epoch become those of the previous one, and the current epoch has none. Where
+    /// memory is refused, the state is as before.
+    pub fn rotate_attestations(&mut self) -> Result<(), NoMemory>
+        ensures { Becomes result self.old self.new (record self.old { previous_epoch_attestations = self.old.current_epoch_attestations; current_epoch_attestations = [] }) }
+    {
+        self.previous_epoch_attestations.clear();
+        mem::swap(
+            &mut self.previous_epoch_attestations,
+            &mut self.current_epoch_attestations,
+        );
+        Ok(())
+    }
+}

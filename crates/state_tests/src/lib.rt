@@ -1,0 +1,5 @@
+//! Tests of the state's calls, which stand in a crate of their own so that the state is proved once.
+#![tactic(auto)]
+
+#[cfg(test)]
+mod genesis;
