@@ -1,14 +1,11 @@
-//! Active validators and total balances (beacon-chain.md, "Helper functions").
+//! Active validators and total balances (beacon-chain.md, "Beacon state accessors").
 //!
-//! They read the registry of a state through a small trait, which the state meets here; committees, justification
-//! and rewards take what they give.
+//! They read the registry of a state; committees, justification and rewards take what they give.
 #![tactic(auto)]
 
-mod registry;
-mod state;
 mod totals;
+mod validators;
 
-pub use registry::Registry;
 pub use totals::{active, total_active, total_of};
 
 #[cfg(test)]

@@ -1,17 +1,20 @@
 //! The list of active validators, and the total balance of a set.
 
 ghost use Rattle.std.specs.Prelude.{◌≡◌, ℕ, max, IfOk};
-ghost use Rattle.bc_words.specs.Outcome.{GivesExactly};
-ghost use Rattle.spec_state.specs.Epochs.{active_indices, total_balance, total_active_balance};
+ghost use Rattle.bc_words.specs.Outcome.{GivesExactly, checked_sum_by};
+ghost use Rattle.spec_state.specs.Misc.{effective_balance};
+ghost use Rattle.spec_state.specs.Accessors.{get_active_validator_indices, get_total_balance};
 
-use crate::registry::{Registry, effective_at, is_active_at};
-use bc_words::{NoMemory, Refusal, Stop};
+use crate::validators::{effective_at, is_active_at};
+use bc_words::{NoMemory, Stop, checked_add};
+use beacon_state::State;
 use std::alloc::Global;
 
 /// The indices of the validators that are active at the epoch, in order (beacon-chain.md,
 /// `get_active_validator_indices`).
-pub fn active<S: Registry>(alloc: Global, state: &S, epoch: u64) -> Result<Vec<u64>, NoMemory>
-    ensures { IfOk result (λ indices. indices.items ≡ active_indices (S.validators_of state.now) epoch) }
+#[tactic(auto, using(crate::proofs::Remaining::all_remain, crate::proofs::Remaining::list_grows, crate::proofs::Remaining::list_ends, crate::proofs::Remaining::one_passed_over))]
+pub fn active(alloc: Global, state: &State, epoch: u64) -> Result<Vec<u64>, NoMemory>
+    ensures { IfOk result (λ indices. indices.items ≡ get_active_validator_indices state.now epoch) }
 {
     let mut indices = Vec::new(alloc);
     for index in 0..state.validators_len() {
@@ -23,41 +26,55 @@ pub fn active<S: Registry>(alloc: Global, state: &S, epoch: u64) -> Result<Vec<u
     Ok(indices)
 }
 
-/// The total effective balance of the validators with these indices, in Gwei: at least one increment
-/// (beacon-chain.md, `get_total_balance`). Refused exactly where the sum does not fit.
-pub fn total_of<S: Registry>(state: &S, indices: &[u64]) -> Result<u64, Stop>
-    ensures { GivesExactly result (total_balance (S.preset_of state.now) (S.validators_of state.now) indices.now) }
+/// The sum of the effective balances of the validators with these indices, in Gwei.
+#[tactic(auto, using(bc_words::proofs::Sums::sum_by_number))]
+fn sum_of(state: &State, indices: &[u64]) -> Result<u64, Stop>
+    ensures { GivesExactly result (checked_sum_by (effective_balance state.now.validators) indices.now) }
 {
-    let mut sum = 0u64;
+    let mut sum = 0;
     for index in indices {
-        let Some(more) = sum.checked_add(effective_at(state, *index)) else {
-            return Err(Stop::Refused(Refusal::Overflow));
-        };
-        sum = more;
+        sum = checked_add(sum, effective_at(state, *index))?;
     }
-    Ok(at_least(sum, state.preset().effective_balance_increment))
+    Ok(sum)
 }
 
-/// The total effective balance of the validators that are active at the epoch, in Gwei (beacon-chain.md,
-/// `get_total_active_balance`). Refused exactly where the sum does not fit.
-pub fn total_active<S: Registry>(state: &S, epoch: u64) -> Result<u64, Stop>
-    ensures { GivesExactly result (total_active_balance (S.preset_of state.now) (S.validators_of state.now) epoch) }
+/// The total effective balance of the validators with these indices, in Gwei: at least one increment
+/// (beacon-chain.md, `get_total_balance`). Refused exactly where the sum does not fit.
+#[tactic(auto, unfolding(spec_state::specs::Accessors::get_total_balance))]
+pub fn total_of(state: &State, indices: &[u64]) -> Result<u64, Stop>
+    ensures { GivesExactly result (get_total_balance state.now indices.now) }
 {
-    let mut sum = 0u64;
+    let sum = sum_of(state, indices)?;
+    Ok(at_least(state.preset().effective_balance_increment, sum))
+}
+
+/// The sum of the effective balances of the validators that are active at the epoch, in Gwei.
+#[tactic(auto, using(bc_words::proofs::Sums::sum_begins, crate::proofs::Remaining::all_remain, crate::proofs::Remaining::sum_grows, crate::proofs::Remaining::sum_stays, crate::proofs::Remaining::sum_stops_here, crate::proofs::Remaining::sum_is_whole))]
+fn sum_active(state: &State, epoch: u64) -> Result<u64, Stop>
+    ensures { GivesExactly result (checked_sum_by (effective_balance state.now.validators) (get_active_validator_indices state.now epoch)) }
+{
+    let mut sum = 0;
     for index in 0..state.validators_len() {
         if !is_active_at(state, index, epoch) {
             continue;
         }
-        let Some(more) = sum.checked_add(effective_at(state, index)) else {
-            return Err(Stop::Refused(Refusal::Overflow));
-        };
-        sum = more;
+        sum = checked_add(sum, effective_at(state, index))?;
     }
-    Ok(at_least(sum, state.preset().effective_balance_increment))
+    Ok(sum)
 }
 
-/// The greater of the sum and the increment.
-fn at_least(sum: u64, increment: u64) -> u64
+/// The total effective balance of the validators that are active at the epoch, in Gwei (beacon-chain.md,
+/// `get_total_active_balance`, where it is the current one). Refused exactly where the sum does not fit.
+#[tactic(auto, unfolding(spec_state::specs::Accessors::get_total_balance))]
+pub fn total_active(state: &State, epoch: u64) -> Result<u64, Stop>
+    ensures { GivesExactly result (get_total_balance state.now (get_active_validator_indices state.now epoch)) }
+{
+    let sum = sum_active(state, epoch)?;
+    Ok(at_least(state.preset().effective_balance_increment, sum))
+}
+
+/// The sum, or the increment where that is greater.
+fn at_least(increment: u64, sum: u64) -> u64
     ensures { result ≡ max increment sum }
 {
     if sum < increment { increment } else { sum }

@@ -74,6 +74,17 @@ module _ {A : Type 0} (count : A → ℕ) where
   here (y ∷ xs) zero sum x less = opens sum y xs
   here (y ∷ xs) (suc i) sum x less = here xs i sum x (omega arith) ∙ ap (λ j. bind (checked_add sum (count (get_or xs i x))) (λ more. checked_sum_from count more (drop j (y ∷ xs)))) (let e : suc (i + 1) ≡ suc i + 1 = omega arith in e)
 
+  -- ---- one item
+
+  pub sum_of_nothing : (sum : ℕ) → checked_sum_from count sum [] ≡ done sum
+  sum_of_nothing sum = nothing_more sum
+
+  pub sum_takes : (x : A) (xs : List A) (sum more next : ℕ) → more ≡ count x → checked_add sum more ≡ done next → checked_sum_from count sum (x ∷ xs) ≡ checked_sum_from count next xs
+  sum_takes x xs sum more next is e = opens sum x xs ∙ ap (λ n. bind (checked_add sum n) (λ m. checked_sum_from count m xs)) (sym is) ∙ ap (λ o. bind o (λ m. checked_sum_from count m xs)) e
+
+  pub sum_refuses : (x : A) (xs : List A) (sum more : ℕ) (stop : Stop) → more ≡ count x → StopsExactly stop (checked_add sum more) → StopsExactly stop (checked_sum_from count sum (x ∷ xs))
+  sum_refuses x xs sum more stop is e = rw (opens sum x xs, ← is) (exactly_bound stop (checked_add sum more) (λ m. checked_sum_from count m xs) e)
+
 -- ---- the same over numbers
 
 -- a sum that fits leaves the items behind it

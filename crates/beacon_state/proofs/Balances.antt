@@ -1,7 +1,7 @@
 -- the effective balance at an index is that of the validator there
 use Rattle.std.proofs.Common.{◌≡◌, ℕ, zero, suc, ◌<◌, List, [], ◌∷◌, length, get_or, refl, arith}
 use Rattle.beacon_types.specs.declared.validator.Validator.{Validator}
-use Rattle.spec_state.specs.Epochs.{effective_balance}
+use Rattle.spec_state.specs.Misc.{effective_balance}
 
 at : (validators : List Validator) (index : ℕ) (d : Validator) → index < length validators → (get_or validators index d).effective_balance ≡ effective_balance validators index
 unfolding effective_balance

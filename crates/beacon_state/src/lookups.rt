@@ -1,7 +1,8 @@
 //! What seeds and proposers read of a state.
 
 ghost use Rattle.std.specs.Prelude.{◌≡◌, length};
-ghost use Rattle.spec_state.specs.Epochs.{randao_mix, effective_balance};
+ghost use Rattle.spec_state.specs.Accessors.{get_randao_mix};
+ghost use Rattle.spec_state.specs.Misc.{effective_balance};
 
 use crate::state::State;
 use bc_preset::Preset;
@@ -11,7 +12,7 @@ use hash_tree::Root;
 impl Lookup for State {
     ghost preset_of = { λ state. state.preset };
 
-    ghost mix_at = { randao_mix };
+    ghost mix_at = { get_randao_mix };
 
     ghost effective_at = { λ state. effective_balance state.validators };
 
@@ -21,9 +22,13 @@ impl Lookup for State {
         State::preset(self)
     }
 
-    #[tactic(auto, unfolding(spec_state::specs::Epochs::randao_mix))]
-    fn mix(&self, place: u64) -> Root {
-        self.randao_mixes()[place as usize]
+    #[tactic(auto, unfolding(spec_state::specs::Accessors::get_randao_mix))]
+    fn mix(&self, epoch: u64) -> Root {
+        self.limits();
+        let preset = State::preset(self);
+        preset.bounds();
+        let index = epoch % preset.epochs_per_historical_vector;
+        self.randao_mixes()[index as usize]
     }
 
     fn registry(&self) -> u64 {

@@ -3,9 +3,9 @@ use Rattle.std.proofs.Common.{◌≡◌, ℕ, suc, ◌+◌, ◌-◌, ◌<◌, �
 use Rattle.std.specs.List.{range_with_len}
 use Rattle.std.proofs.lemmas.Bool.{cases_order}
 use Rattle.std.proofs.lemmas.List.FromFn.{length-map-range_with_len, get_or-map-range_with_len}
-use Rattle.shuffling.specs.Shuffling.{shuffled_place}
+use Rattle.shuffling.specs.Shuffling.{compute_shuffled_index}
 use Rattle.shuffling.proofs.Rounds.{place_below, one_to_one, index_at, index_below, place_at_index}
-use Rattle.committees.specs.Committees.{first_place, compute_committee, StandsAt, StandOnce, IsWithoutRepeats}
+use Rattle.committees.specs.Committees.{committee_start, compute_committee, StandsAt, StandOnce, IsWithoutRepeats}
 use Rattle.committees.proofs.Parts.{first_monotone, first_zero, first_all, first_within, part_of}
 
 -- two parts that have a place in common are one part
@@ -19,23 +19,23 @@ same_part first a b place other monotone low high other_low other_high same = el
 module _ (active seed : List ℕ) (rounds count : ℕ) (some : 0 < count) where
   -- where committee k begins among the shuffled places
   abbrev first : ℕ → ℕ
-  first = first_place (length active) count
+  first = committee_start (length active) count
 
   -- all committees
   abbrev all : List (List ℕ)
-  all = map (λ k. compute_committee active seed rounds k count) (range_with_len 0 count)
+  all = map (λ k. compute_committee rounds active seed k count) (range_with_len 0 count)
 
   length_all : length all ≡ count
   length_all = length-map-range_with_len _ 0 count
 
-  committee_is : (k : ℕ) → k < count → slice_index_or all k [] ≡ compute_committee active seed rounds k count
+  committee_is : (k : ℕ) → k < count → slice_index_or all k [] ≡ compute_committee rounds active seed k count
   committee_is k less = get_or-map-range_with_len _ 0 count k k [] less (omega arith)
 
-  committee_length : (k : ℕ) → length (compute_committee active seed rounds k count) ≡ first (k + 1) - first k
+  committee_length : (k : ℕ) → length (compute_committee rounds active seed k count) ≡ first (k + 1) - first k
   unfolding compute_committee
   committee_length k = length-map-range_with_len _ (first k) (first (k + 1) - first k)
 
-  member_is : (k place : ℕ) → place < first (k + 1) - first k → slice_index (compute_committee active seed rounds k count) place ≡ slice_index active (shuffled_place seed rounds (length active) (first k + place))
+  member_is : (k place : ℕ) → place < first (k + 1) - first k → slice_index (compute_committee rounds active seed k count) place ≡ slice_index active (compute_shuffled_index rounds (first k + place) (length active) seed)
   unfolding compute_committee
   member_is k place less = get_or-map-range_with_len _ (first k) (first (k + 1) - first k) place (first k + place) 0 less refl
 
@@ -44,7 +44,7 @@ module _ (active seed : List ℕ) (rounds count : ℕ) (some : 0 < count) where
     committee : k < count
     place_in : first k + place < first (k + 1)
     within : first k + place < length active
-    is : slice_index active (shuffled_place seed rounds (length active) (first k + place)) ≡ member
+    is : slice_index active (compute_shuffled_index rounds (first k + place) (length active) seed) ≡ member
 
   from_stands : (k place member : ℕ) → StandsAt all k place member → Stands k place member
   from_stands k place member at =
@@ -64,7 +64,7 @@ module _ (active seed : List ℕ) (rounds count : ℕ) (some : 0 < count) where
     member_is = ap (λ xs. slice_index xs place) (committee_is k at.committee) ∙ (member_is k place (omega (arith, at.place_in)) ∙ at.is);
   }
 
-  each_at : (place : ℕ) → place < length active → (k : ℕ) × (inner : ℕ) × StandsAt all k inner (slice_index active (shuffled_place seed rounds (length active) place))
+  each_at : (place : ℕ) → place < length active → (k : ℕ) × (inner : ℕ) × StandsAt all k inner (slice_index active (compute_shuffled_index rounds place (length active) seed))
   each_at place less =
       let part = part_of first count place (omega (arith, first_zero (length active) count some)) (omega (arith, first_all (length active) count some)) in
       let e : first part.0 + (place - first part.0) ≡ place = omega (arith, part.2) in
@@ -75,7 +75,7 @@ module _ (active seed : List ℕ) (rounds count : ℕ) (some : 0 < count) where
           committee = part.1;
           place_in = omega (arith, part.3, next, e);
           within = omega (arith, e);
-          is = ap (λ p. slice_index active (shuffled_place seed rounds (length active) p)) e;
+          is = ap (λ p. slice_index active (compute_shuffled_index rounds p (length active) seed)) e;
         }),
       )
 
@@ -96,5 +96,5 @@ module _ (active seed : List ℕ) (rounds count : ℕ) (some : 0 < count) where
         (parts, omega (arith, same, ap first parts));
     only = λ k place member at.
         let h = from_stands k place member at in
-        (shuffled_place seed rounds (length active) (first k + place), place_below seed (length active) rounds _ h.within, h.is);
+        (compute_shuffled_index rounds (first k + place) (length active) seed, place_below seed (length active) rounds _ h.within, h.is);
   }

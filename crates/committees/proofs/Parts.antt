@@ -9,29 +9,30 @@ use Rattle.std.proofs.Math.Nat.{div-mul-le_self, zero-div, mul-div_cancel, mul-l
 use Rattle.bc_preset.specs.declared.presets.Preset.{Preset}
 use Rattle.bc_preset.specs.Presets.{IsPreset}
 use Rattle.bc_preset.proofs.Bounds.{preset_bounds}
-use Rattle.shuffling.specs.Shuffling.{shuffled_place, shuffled_list}
-use Rattle.committees.specs.Committees.{Committees, committees_of, committees_per_slot, first_place, compute_committee, cut, cut_for}
+use Rattle.shuffling.specs.Shuffling.{compute_shuffled_index, shuffled_list}
+use Rattle.committees.specs.Committees.{Committees, committees_of, committee_count_per_slot, committee_start, compute_committee}
+use Rattle.committees.specs.inside.Cut.{cut, cut_for}
 
 module _ (members count : ℕ) (some : 0 < count) where
-  pub first_monotone : (k later : ℕ) → k ≤ later → first_place members count k ≤ first_place members count later
-  unfolding first_place
+  pub first_monotone : (k later : ℕ) → k ≤ later → committee_start members count k ≤ committee_start members count later
+  unfolding committee_start
   first_monotone k later order =
       le-div _ (members * later) count some (omega (arith, div-mul-le_self (members * k) count, mul-le-mul_left members order))
 
-  pub first_zero : first_place members count 0 ≡ 0
-  unfolding first_place
+  pub first_zero : committee_start members count 0 ≡ 0
+  unfolding committee_start
   first_zero = let e : members * 0 ≡ 0 = omega arith in rw e (zero-div count)
 
-  pub first_all : first_place members count count ≡ members
-  unfolding first_place
+  pub first_all : committee_start members count count ≡ members
+  unfolding committee_start
   first_all = mul-div_cancel members some
 
-  pub first_within : (k : ℕ) → k ≤ count → first_place members count k ≤ members
+  pub first_within : (k : ℕ) → k ≤ count → committee_start members count k ≤ members
   first_within k order = omega (arith, first_monotone k count order, first_all)
 
 -- what the code computes fits, and lies within the list
 pub first_fits : (members count k : ℕ) → 0 < count → k ≤ count → members * k / count ≤ members
-unfolding first_place
+unfolding committee_start
 first_fits members count k some order = first_within members count some k order
 
 -- the part in which a place lies
@@ -67,23 +68,23 @@ module _ (active seed : List ℕ) (rounds : ℕ) where
   shuffled_length = length-map-range_with_len _ 0 (length active)
 
 module _ (active seed : List ℕ) (rounds count : ℕ) (some : 0 < count) where
-  part_is : (k : ℕ) → k < count → slice_range (shuffled_list seed rounds active) (first_place (length active) count k) (first_place (length active) count (k + 1)) ≡ compute_committee active seed rounds k count
+  part_is : (k : ℕ) → k < count → slice_range (shuffled_list seed rounds active) (committee_start (length active) count k) (committee_start (length active) count (k + 1)) ≡ compute_committee rounds active seed k count
   unfolding shuffled_list compute_committee
   part_is k less =
-      range_of_range (λ place. slice_index active (shuffled_place seed rounds (length active) place)) (length active) _ _
+      range_of_range (λ place. slice_index active (compute_shuffled_index rounds place (length active) seed)) (length active) _ _
       (first_monotone (length active) count some k (k + 1) (omega arith))
       (first_within (length active) count some (k + 1) (omega arith))
 
   -- the shuffled list, cut, is the committees
-  pub cut_is : cut (shuffled_list seed rounds active) count ≡ map (λ k. compute_committee active seed rounds k count) (range_with_len 0 count)
+  pub cut_is : cut (shuffled_list seed rounds active) count ≡ map (λ k. compute_committee rounds active seed k count) (range_with_len 0 count)
   unfolding cut
   cut_is =
-      rw (shuffled_length active seed rounds) (fill_by_all (λ k. compute_committee active seed rounds k count) _ count []
+      rw (shuffled_length active seed rounds) (fill_by_all (λ k. compute_committee rounds active seed k count) _ count []
       (length-map-range_with_len _ 0 count)
       (λ k less. get_or-map-range_with_len _ 0 count k k [] less (omega arith) ∙ part_is k less))
 
 -- what a list of committees is made of, where the code keeps it as one list
-pub whole_is : (preset : Preset) (seed active members : List ℕ) (per_slot : ℕ) → per_slot ≡ committees_per_slot preset (length active) → members ≡ shuffled_list seed preset.shuffle_round_count active → 1 ≤ per_slot → 1 ≤ preset.slots_per_epoch → cut_for per_slot preset.slots_per_epoch members ≡ committees_of preset seed active
+pub whole_is : (preset : Preset) (seed active members : List ℕ) (per_slot : ℕ) → per_slot ≡ committee_count_per_slot preset (length active) → members ≡ shuffled_list seed preset.shuffle_round_count active → 1 ≤ per_slot → 1 ≤ preset.slots_per_epoch → cut_for per_slot preset.slots_per_epoch members ≡ committees_of preset seed active
 unfolding committees_of
 whole_is preset seed active members per_slot per_slot_is members_is some slots =
     rw (members_is, ← per_slot_is)
@@ -101,14 +102,14 @@ module _ (members : List ℕ) (count : ℕ) where
   pub at_past : (k : ℕ) → count ≤ k → slice_get (cut members count) k ≡ None
   at_past k past = slice_get_past (cut members count) k (omega (arith, cut_length))
 
-  cut_at : (k : ℕ) → k < count → get_or (cut members count) k [] ≡ slice_range members (first_place (length members) count k) (first_place (length members) count (k + 1))
+  cut_at : (k : ℕ) → k < count → get_or (cut members count) k [] ≡ slice_range members (committee_start (length members) count k) (committee_start (length members) count (k + 1))
   unfolding cut
   cut_at k less = get_or-map-range_with_len _ 0 count k k [] less (omega arith)
 
-  pub at_part : (k : ℕ) → k < count → slice_get (cut members count) k ≡ Some (slice_range members (first_place (length members) count k) (first_place (length members) count (k + 1)))
+  pub at_part : (k : ℕ) → k < count → slice_get (cut members count) k ≡ Some (slice_range members (committee_start (length members) count k) (committee_start (length members) count (k + 1)))
   at_part k less = slice_get-get_or (cut members count) k [] (omega (arith, cut_length)) ∙ ap Some (cut_at k less)
 
 -- an epoch has a committee
-pub some_committees : (preset : Preset) (active : ℕ) → IsPreset preset → 0 < committees_per_slot preset active * preset.slots_per_epoch
-unfolding committees_per_slot
+pub some_committees : (preset : Preset) (active : ℕ) → IsPreset preset → 0 < committee_count_per_slot preset active * preset.slots_per_epoch
+unfolding committee_count_per_slot
 some_committees preset active is = one-le-mul (omega arith) (omega (arith, (preset_bounds preset is).least_slots_per_epoch))

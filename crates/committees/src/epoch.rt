@@ -2,7 +2,7 @@
 
 ghost use Rattle.std.specs.Prelude.{◌≡◌, ◌↔◌, IsNone, ◌*◌, ◌%◌, ◌+◌, ◌<◌, ◌≤◌, ◌^◌, length, slice_range, IfOk, IsOk, MatchOption, Some, None};
 ghost use Rattle.bc_preset.specs.Presets.{IsPreset};
-ghost use Rattle.committees.specs.Committees.{committees_of, committees_per_slot, committee_at, first_place, StandOnce, IsWithoutRepeats};
+ghost use Rattle.committees.specs.Committees.{committees_of, committee_count_per_slot, committee_at, committee_start, StandOnce, IsWithoutRepeats};
 
 use bc_preset::Preset;
 use bc_words::NoMemory;
@@ -22,7 +22,8 @@ pub struct EpochCommittees {
 
 impl Model for EpochCommittees {
     ghost use Rattle.std.specs.Prelude.{◌≤◌, ◌^◌, length};
-    ghost use Rattle.committees.specs.Committees.{Committees, cut_for};
+    ghost use Rattle.committees.specs.Committees.{Committees};
+    ghost use Rattle.committees.specs.inside.Cut.{cut_for};
 
     ghost Value = { Committees };
 
@@ -32,10 +33,10 @@ impl Model for EpochCommittees {
 }
 
 /// How many committees each slot of an epoch has (beacon-chain.md, `get_committee_count_per_slot`).
-#[tactic(auto, unfolding(crate::specs::Committees::committees_per_slot))]
-fn committees_per_slot(preset: &Preset, active: u64) -> u64
+#[tactic(auto, unfolding(crate::specs::Committees::committee_count_per_slot))]
+fn committee_count_per_slot(preset: &Preset, active: u64) -> u64
     requires { IsPreset preset.now }
-    ensures exact { result ≡ committees_per_slot preset.now active }
+    ensures exact { result ≡ committee_count_per_slot preset.now active }
     ensures least { 1 ≤ result }
     ensures most { result ≤ 64 }
 {
@@ -45,13 +46,13 @@ fn committees_per_slot(preset: &Preset, active: u64) -> u64
 }
 
 /// Where committee `k` of `count` begins in the list of all members.
-#[tactic(auto, unfolding(crate::specs::Committees::first_place), using(crate::proofs::Parts::first_fits))]
-fn first_place(members: &[u64], count: u64, k: u64) -> usize
+#[tactic(auto, unfolding(crate::specs::Committees::committee_start), using(crate::proofs::Parts::first_fits))]
+fn committee_start(members: &[u64], count: u64, k: u64) -> usize
     requires fits { length members.now ≤ 2 ^ 40 }
     requires count_fits { count ≤ 2048 }
     requires k_fits { k ≤ count }
     requires some { 0 < count }
-    ensures exact { result ≡ first_place (length members.now) count k }
+    ensures exact { result ≡ committee_start (length members.now) count k }
     ensures within { result ≤ length members.now }
 {
     (members.len() as u64 * k / count) as usize
@@ -62,10 +63,10 @@ fn part(members: &[u64], count: u64, k: u64) -> &[u64]
     requires fits { length members.now ≤ 2 ^ 40 }
     requires count_fits { count ≤ 2048 }
     requires in_range { k < count }
-    ensures { result.now ≡ slice_range members.now (first_place (length members.now) count k) (first_place (length members.now) count (k + 1)) }
+    ensures { result.now ≡ slice_range members.now (committee_start (length members.now) count k) (committee_start (length members.now) count (k + 1)) }
 {
-    let begin = first_place(members, count, k);
-    let end = first_place(members, count, k + 1);
+    let begin = committee_start(members, count, k);
+    let end = committee_start(members, count, k + 1);
     &members[begin..end]
 }
 
@@ -83,7 +84,7 @@ impl EpochCommittees {
         ensures always { IsOk result }
     {
         preset.bounds();
-        let per_slot = committees_per_slot(preset, active.len() as u64);
+        let per_slot = committee_count_per_slot(preset, active.len() as u64);
         let members = shuffle_all(alloc, active, seed, preset.shuffle_round_count as u32)?;
         Ok(EpochCommittees {
             members,

@@ -22,10 +22,9 @@ pub trait Lookup {
         ensures exact { result.now ≡ preset_of self.now }
         ensures preset { IsPreset result.now };
 
-    /// The randao mix at a place below EPOCHS_PER_HISTORICAL_VECTOR.
-    fn mix(&self, place: u64) -> Root
-        requires { place < (preset_of self.now).epochs_per_historical_vector }
-        ensures { result ≡ mix_at self.now place };
+    /// The randao mix of an epoch (beacon-chain.md, `get_randao_mix`).
+    fn mix(&self, epoch: u64) -> Root
+        ensures { result ≡ mix_at self.now epoch };
 
     /// The number of validators in the registry.
     fn registry(&self) -> u64

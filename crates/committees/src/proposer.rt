@@ -2,8 +2,9 @@
 
 ghost use Rattle.std.specs.Prelude.{◌≡◌, ℕ, ◌<◌, ◌≤◌, ◌^◌, length, slice_index};
 ghost use Rattle.bc_words.specs.Outcome.{GivesExactly};
+ghost use Rattle.bc_words.specs.Searches.{first_from};
 ghost use Rattle.bc_preset.specs.Presets.{IsPreset};
-ghost use Rattle.committees.specs.Proposers.{candidate, random_byte, passes, proposer};
+ghost use Rattle.committees.specs.Proposers.{candidate, random_byte, weighs_enough, candidate_passes, proposer_below};
 
 use crate::lookup::Lookup;
 use bc_preset::Preset;
@@ -12,7 +13,7 @@ use hash_tree::Root;
 use sha2::{Digest, Sha256};
 use shuffling::shuffled_index;
 
-/// The candidate with number `i`: one shuffled place, whatever the length of the list.
+/// The candidate with number `i`: one shuffled index, whatever the length of the list.
 #[tactic(auto, unfolding(crate::specs::Proposers::candidate))]
 fn candidate(preset: &Preset, active: &[u64], seed: &Root, i: u64) -> u64
     requires preset { IsPreset preset.now }
@@ -40,20 +41,54 @@ fn random_byte(seed: &Root, i: u64) -> u8
 }
 
 /// Whether a candidate with this effective balance passes with this byte.
-#[tactic(auto, unfolding(crate::specs::Proposers::passes))]
-fn passes(preset: &Preset, balance: u64, byte: u8) -> Result<bool, Stop>
-    ensures { GivesExactly result (passes preset.now balance byte) }
+#[tactic(auto, unfolding(crate::specs::Proposers::weighs_enough))]
+fn weighs_enough(preset: &Preset, balance: u64, byte: u8) -> Result<bool, Stop>
+    ensures { GivesExactly result (weighs_enough preset.now balance byte) }
 {
     let weighed = checked_mul(balance, 255)?;
     let least = checked_mul(preset.max_effective_balance, u64::from(byte))?;
     Ok(least <= weighed)
 }
 
+/// Whether the candidate with number `i` passes.
+#[tactic(auto, unfolding(crate::specs::Proposers::candidate_passes))]
+fn candidate_passes<S: Lookup>(active: &[u64], state: &S, seed: &Root, i: u64) -> Result<bool, Stop>
+    requires some { 0 < length active.now }
+    requires fits { length active.now ≤ 2 ^ 40 }
+    requires in_registry { (k : ℕ) → k < length active.now → slice_index active.now k < S.registry_of state.now }
+    ensures { GivesExactly result (candidate_passes (S.preset_of state.now) (S.effective_at state.now) active.now seed.now i) }
+{
+    let preset = state.preset();
+    let index = candidate(preset, active, seed, i);
+    weighs_enough(preset, state.effective(index), random_byte(seed, i))
+}
+
+/// The least number below `bound` of a candidate that passes.
+#[tactic(auto, using(bc_words::proofs::Searches::first_index))]
+fn first_passing<S: Lookup>(
+    active: &[u64],
+    state: &S,
+    seed: &Root,
+    bound: u64,
+) -> Result<Option<u64>, Stop>
+    requires some { 0 < length active.now }
+    requires fits { length active.now ≤ 2 ^ 40 }
+    requires in_registry { (k : ℕ) → k < length active.now → slice_index active.now k < S.registry_of state.now }
+    ensures { GivesExactly result (first_from (candidate_passes (S.preset_of state.now) (S.effective_at state.now) active.now seed.now) bound 0) }
+{
+    for i in 0..bound {
+        if candidate_passes(active, state, seed, i)? {
+            return Ok(Some(i));
+        }
+    }
+    Ok(None)
+}
+
 /// The proposer by this seed (beacon-chain.md, `compute_proposer_index`), of the first `bound` candidates.
 ///
 /// `active` has at most 2^40 indices, each in the registry. Refused where nobody is active, and where a balance is
 /// too great to be weighed; the limit comes where no candidate passes.
-#[tactic(auto, unfolding(crate::specs::Proposers::proposer))]
+#[tactic(auto, unfolding(crate::specs::Proposers::proposer_below, crate::specs::Proposers::candidate_found))]
 pub fn pick_proposer<S: Lookup>(
     active: &[u64],
     state: &S,
@@ -62,17 +97,13 @@ pub fn pick_proposer<S: Lookup>(
 ) -> Result<u64, Stop>
     requires fits { length active.now ≤ 2 ^ 40 }
     requires in_registry { (k : ℕ) → k < length active.now → slice_index active.now k < S.registry_of state.now }
-    ensures { GivesExactly result (proposer (S.preset_of state.now) (S.effective_at state.now) active.now seed.now bound) }
+    ensures { GivesExactly result (proposer_below (S.preset_of state.now) (S.effective_at state.now) active.now seed.now bound) }
 {
     if active.is_empty() {
         return Err(Stop::Refused(Refusal::NoActive));
     }
-    let preset = state.preset();
-    for i in 0..bound {
-        let index = candidate(preset, active, seed, i);
-        if passes(preset, state.effective(index), random_byte(seed, i))? {
-            return Ok(index);
-        }
+    match first_passing(active, state, seed, bound)? {
+        Some(i) => Ok(candidate(state.preset(), active, seed, i)),
+        None => Err(Stop::Limit(Limit::Proposer)),
     }
-    Err(Stop::Limit(Limit::Proposer))
 }

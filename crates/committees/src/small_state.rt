@@ -1,4 +1,4 @@
-//! A state for tests: every balance is the same, and each byte of a mix is its place.
+//! A state for tests: every balance is the same, and each byte of a mix is its index.
 
 ghost use Rattle.std.specs.Prelude.{◌≡◌, ◌%◌, replicate};
 ghost use Rattle.bc_preset.specs.Presets.{IsPreset};
@@ -43,7 +43,7 @@ impl SmallState {
 impl Lookup for SmallState {
     ghost preset_of = { λ s. s.0 };
 
-    ghost mix_at = { λ _ place. replicate 32 (place % 256) };
+    ghost mix_at = { λ s epoch. replicate 32 (epoch % s.0.epochs_per_historical_vector % 256) };
 
     ghost effective_at = { λ s _. s.2 };
 
@@ -53,8 +53,10 @@ impl Lookup for SmallState {
         &self.preset
     }
 
-    fn mix(&self, place: u64) -> Root {
-        [(place % 256) as u8; 32]
+    fn mix(&self, epoch: u64) -> Root {
+        self.preset.bounds();
+        let index = epoch % self.preset.epochs_per_historical_vector;
+        [(index % 256) as u8; 32]
     }
 
     fn registry(&self) -> u64 {

@@ -5,7 +5,7 @@ use Rattle.std.specs.Int.{bit_at}
 use Rattle.std.proofs.lemmas.Bool.{cases_eq, cases_lt}
 use Rattle.shuffling.specs.Shuffling.{pivot_of, bit_of, after_round}
 use Rattle.shuffling.proofs.Rounds.{flip_of}
-use Rattle.shuffling.specs.Pass.{later, by_word, Passed}
+use Rattle.shuffling.specs.inside.Pass.{later, by_word, Passed}
 
 -- nothing is passed yet
 pub begin : (take : ℕ → ℕ) (sum first : ℕ) (old : List ℕ) → Passed take sum first first old old

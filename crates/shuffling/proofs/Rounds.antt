@@ -3,7 +3,7 @@
 use Rattle.std.proofs.Common.{◌≡◌, ℕ, zero, suc, ◌+◌, ◌-◌, ◌%◌, ◌<◌, ◌≤◌, max, List, eqb, Bool, true, false, cond, refl, sym, ap, ◌∙◌, arith, inl, inr}
 use Rattle.std.proofs.Math.Nat.{mod-eq_of_lt, add-mod_right, mod-lt}
 use Rattle.std.proofs.lemmas.Bool.{cases_lt}
-use Rattle.shuffling.specs.Shuffling.{pivot_of, bit_of, after_round, shuffled_place}
+use Rattle.shuffling.specs.Shuffling.{pivot_of, bit_of, after_round, compute_shuffled_index}
 
 -- the index that a round may put in the place of an index
 abbrev pub flip_of : ℕ → ℕ → ℕ → ℕ
@@ -95,29 +95,29 @@ module _ (seed : List ℕ) (round count : ℕ) where
   after_center index is = rw (after_is index) (chosen_center (flips index) index is)
 
 module _ (seed : List ℕ) (count : ℕ) where
-  pub place_below : (rounds index : ℕ) → index < count → shuffled_place seed rounds count index < count
-  unfolding shuffled_place
+  pub place_below : (rounds index : ℕ) → index < count → compute_shuffled_index rounds index count seed < count
+  unfolding compute_shuffled_index
   place_below zero index below = below
   place_below (suc round) index below =
-      after_below seed round count (shuffled_place seed round count index) (place_below round index below)
+      after_below seed round count (compute_shuffled_index round index count seed) (place_below round index below)
 
-  pub place_next : (round index : ℕ) → 0 < round → after_round seed (round - 1) count (shuffled_place seed (round - 1) count index) ≡ shuffled_place seed round count index
-  unfolding shuffled_place
+  pub place_next : (round index : ℕ) → 0 < round → after_round seed (round - 1) count (compute_shuffled_index (round - 1) index count seed) ≡ compute_shuffled_index round index count seed
+  unfolding compute_shuffled_index
   place_next zero index some = absurd (omega arith)
   place_next (suc round) index some = let e : suc round - 1 ≡ round = omega arith in rw e refl
 
-  pub place_first : (round index : ℕ) → round ≡ 0 → shuffled_place seed round count index ≡ index
-  unfolding shuffled_place
+  pub place_first : (round index : ℕ) → round ≡ 0 → compute_shuffled_index round index count seed ≡ index
+  unfolding compute_shuffled_index
   place_first round index is = rw is refl
 
-  pub one_to_one : (rounds index other : ℕ) → index < count → other < count → shuffled_place seed rounds count other ≡ shuffled_place seed rounds count index → other ≡ index
-  unfolding shuffled_place
+  pub one_to_one : (rounds index other : ℕ) → index < count → other < count → compute_shuffled_index rounds other count seed ≡ compute_shuffled_index rounds index count seed → other ≡ index
+  unfolding compute_shuffled_index
   one_to_one zero index other below other_below same = same
   one_to_one (suc round) index other below other_below same =
       one_to_one round index other below other_below
-      (sym (after_twice seed round count (shuffled_place seed round count other) (place_below round other other_below))
+      (sym (after_twice seed round count (compute_shuffled_index round other count seed) (place_below round other other_below))
       ∙ ap (after_round seed round count) same
-      ∙ after_twice seed round count (shuffled_place seed round count index) (place_below round index below))
+      ∙ after_twice seed round count (compute_shuffled_index round index count seed) (place_below round index below))
 
   -- the index whose shuffled place is this one
   unfoldable pub index_at : ℕ → ℕ → ℕ
@@ -129,8 +129,8 @@ module _ (seed : List ℕ) (count : ℕ) where
   index_below zero place below = below
   index_below (suc round) place below = index_below round (after_round seed round count place) (after_below seed round count place below)
 
-  pub place_at_index : (rounds place : ℕ) → place < count → shuffled_place seed rounds count (index_at rounds place) ≡ place
-  unfolding shuffled_place index_at
+  pub place_at_index : (rounds place : ℕ) → place < count → compute_shuffled_index rounds (index_at rounds place) count seed ≡ place
+  unfolding compute_shuffled_index index_at
   place_at_index zero place below = refl
   place_at_index (suc round) place below =
       ap (after_round seed round count) (place_at_index round (after_round seed round count place) (after_below seed round count place below))

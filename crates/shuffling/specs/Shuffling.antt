@@ -26,12 +26,13 @@ after_round seed round count index =
     let flip : ℕ = (pivot_of seed round count + count - index) % count in
     if bit_of seed round (max index flip) == 1 then flip else index
 
--- compute_shuffled_index, after so many rounds, the first of which has number 0
-unfoldable pub shuffled_place : List ℕ → ℕ → ℕ → ℕ → ℕ
-shuffled_place seed zero count index = index
-shuffled_place seed (suc round) count index = after_round seed round count (shuffled_place seed round count index)
+-- compute_shuffled_index, with so many rounds (SHUFFLE_ROUND_COUNT of the preset), the first of which has number 0
+unfoldable pub compute_shuffled_index : ℕ → ℕ → ℕ → List ℕ → ℕ
+compute_shuffled_index zero index index_count seed = index
+compute_shuffled_index (suc round) index index_count seed =
+    after_round seed round index_count (compute_shuffled_index round index index_count seed)
 
--- the list whose place i holds the item at the shuffled place of i
+-- the list that holds, at each index, the item at the shuffled index
 unfoldable pub shuffled_list : List ℕ → ℕ → List ℕ → List ℕ
 shuffled_list seed rounds items =
-    map (λ index. slice_index items (shuffled_place seed rounds (length items) index)) (range_with_len 0 (length items))
+    map (λ index. slice_index items (compute_shuffled_index rounds index (length items) seed)) (range_with_len 0 (length items))

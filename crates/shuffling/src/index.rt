@@ -1,7 +1,7 @@
-//! The shuffled place of one index, round by round.
+//! The shuffled index, round by round.
 
 ghost use Rattle.std.specs.Prelude.{◌≡◌, ℕ, ◌<◌, ◌≤◌, ◌^◌};
-ghost use Rattle.shuffling.specs.Shuffling.{after_round, shuffled_place};
+ghost use Rattle.shuffling.specs.Shuffling.{after_round, compute_shuffled_index};
 
 use crate::round::{bit_at, pivot_at, source_at};
 use hash_tree::Root;
@@ -25,17 +25,17 @@ fn after_round(index: u64, count: u64, seed: &Root, round: u8) -> u64
     }
 }
 
-/// The shuffled place of `index` among `count` (beacon-chain.md, `compute_shuffled_index`), with so many rounds.
+/// The shuffled index of `index` among `count` (beacon-chain.md, `compute_shuffled_index`), with so many rounds.
 ///
 /// It is below `count`, and no other index below `count` has it.
-#[tactic(auto, using(crate::proofs::Rounds::one_to_one), unfolding(crate::specs::Shuffling::shuffled_place))]
+#[tactic(auto, using(crate::proofs::Rounds::one_to_one), unfolding(crate::specs::Shuffling::compute_shuffled_index))]
 pub fn shuffled_index(index: u64, count: u64, seed: &Root, rounds: u32) -> u64
     requires in_range { index < count }
     requires count_fits { count ≤ 2 ^ 40 }
     requires rounds_fit { rounds ≤ 256 }
-    ensures place { result ≡ shuffled_place seed.now rounds count index }
+    ensures place { result ≡ compute_shuffled_index rounds index count seed.now }
     ensures in_range { result < count }
-    ensures one_to_one { (other : ℕ) → other < count → shuffled_place seed.now rounds count other ≡ result → other ≡ index }
+    ensures one_to_one { (other : ℕ) → other < count → compute_shuffled_index rounds other count seed.now ≡ result → other ≡ index }
 {
     let mut place = index;
     for round in 0..rounds {

@@ -4,7 +4,7 @@
 ghost use Rattle.std.specs.Prelude.{◌≡◌, ℕ, ◌+◌, ◌-◌, ◌/◌, ◌%◌, ◌<◌, ◌≤◌, ◌^◌, length, slice_index, IsOk, IfOk};
 ghost use Rattle.std.specs.Int.{bit_at, trailing_zeros, w64};
 ghost use Rattle.std.specs.List.{SwappedAt};
-ghost use Rattle.shuffling.specs.Pass.{by_word, Passed};
+ghost use Rattle.shuffling.specs.inside.Pass.{by_word, Passed};
 ghost use Rattle.shuffling.specs.Shuffling.{after_round, pivot_of, source_of, bit_in, shuffled_list};
 
 use crate::round::{pivot_at, source_at};

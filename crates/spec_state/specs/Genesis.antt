@@ -15,11 +15,8 @@ use Rattle.spec_state.specs.declared.fault.ValidatorFault.{ValidatorFault}
 use Rattle.spec_state.specs.declared.fault.ValidatorFault.TheVariants as validators
 use Rattle.spec_state.specs.declared.fault.GenesisFault.{GenesisFault}
 use Rattle.spec_state.specs.declared.fault.GenesisFault.TheVariants as parts
+use Rattle.spec_state.specs.Constants.{far_future_epoch, max_genesis_len}
 use Rattle.spec_state.specs.States.{state_codec}
-
--- 2 ^ 64 - 1
-abbrev pub far_future_epoch : ℕ
-far_future_epoch = 18446744073709551615
 
 -- 32 zero bytes
 abbrev pub zero_root : List ℕ
@@ -105,4 +102,4 @@ checked_genesis (Some s) = sound_genesis s (genesis_fault s)
 
 -- The genesis state that a file of this many bytes at most holds, or the first part of the file that is wrong.
 unfoldable pub genesis_of : Preset → List ℕ → Result PlainState GenesisFault
-genesis_of preset bytes = if nat_lt 1073741824 (length bytes) then Err parts.TooLong else checked_genesis ((state_codec preset).parse bytes)
+genesis_of preset bytes = if nat_lt max_genesis_len (length bytes) then Err parts.TooLong else checked_genesis ((state_codec preset).parse bytes)

@@ -1,5 +1,8 @@
+pub mod Constants
+pub mod Predicates
+pub mod Misc
+pub mod Accessors
 pub mod Heights
 pub mod States
 pub mod Limits
 pub mod Genesis
-pub mod Epochs

@@ -1,6 +1,6 @@
 use Rattle.std.proofs.Common.{◌-◌, ◌<◌, length, slice_index, sym, ap, ◌∙◌, arith}
 use Rattle.std.proofs.lemmas.List.FromFn.{fill_by_all}
-use Rattle.shuffling.specs.Shuffling.{after_round, shuffled_place, shuffled_list}
+use Rattle.shuffling.specs.Shuffling.{after_round, compute_shuffled_index, shuffled_list}
 use Rattle.shuffling.proofs.Rounds.{place_below, place_next, place_first}
 use Rattle.shuffling.proofs.list.shuffle_rounds.Goals as goal
 
@@ -12,7 +12,7 @@ loop-round-preserved c =
     record {
       fits = omega arith;
       shuffled = λ index below.
-          let place = shuffled_place seed (round - 1) count index in
+          let place = compute_shuffled_index (round - 1) index count seed in
           let inside : place < length c.loop-round.list = omega (arith, place_below seed count (round - 1) index below) in
           c.shuffle_round.ensures place inside
           ∙ ap (λ n. slice_index c.loop-round.list (after_round seed (round - 1) n place)) c.loop-round.auto.list
@@ -25,5 +25,5 @@ unfolding shuffled_list
 returns c =
     let seed = c.args.seed.now in
     let old = c.args.list.now in
-    fill_by_all (λ index. slice_index old (shuffled_place seed c.args.rounds (length old) index)) c.loop-round.list (length old) 0 c.loop-round.auto.list
+    fill_by_all (λ index. slice_index old (compute_shuffled_index c.args.rounds index (length old) seed)) c.loop-round.list (length old) 0 c.loop-round.auto.list
     (λ index below. ap (slice_index c.loop-round.list) (sym (place_first seed (length old) c.loop-round.round index (omega arith))) ∙ c.loop-round.invariant.shuffled index below)

@@ -2,7 +2,7 @@ use Rattle.std.proofs.Common.{◌≡◌, ◌+◌, ◌-◌, ◌/◌, length, slic
 use Rattle.std.specs.Int.{bit_at}
 use Rattle.std.proofs.lemmas.Bool.{cases_lt}
 use Rattle.shuffling.specs.Shuffling.{pivot_of, after_round, bit_in, bit_of, source_of}
-use Rattle.shuffling.specs.Pass.{later, by_word}
+use Rattle.shuffling.specs.inside.Pass.{later, by_word}
 use Rattle.shuffling.proofs.Rounds.{flip_of, after_center}
 use Rattle.shuffling.proofs.Pass.{join, same_choice}
 use Rattle.shuffling.proofs.list.swap_mirror_images.Goals as goal

@@ -1,6 +1,6 @@
 use Rattle.std.proofs.Common.{◌≡◌, ◌-◌, ◌%◌, ◌/◌, ◌<◌, ◌≤◌, length}
 use Rattle.shuffling.specs.Shuffling.{after_round, source_of}
-use Rattle.shuffling.specs.Pass.{Passed}
+use Rattle.shuffling.specs.inside.Pass.{Passed}
 use Rattle.shuffling.proofs.list.swap_mirror_images.Given as goal
 
 abbrev pub invariant-loop-position : goal.invariant-loop-position

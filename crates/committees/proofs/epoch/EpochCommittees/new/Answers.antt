@@ -1,5 +1,5 @@
 use Rattle.std.proofs.Common.{arith, rules, ap, ◌∙◌}
-use Rattle.committees.specs.Committees.{committees_per_slot}
+use Rattle.committees.specs.Committees.{committee_count_per_slot}
 use Rattle.committees.proofs.Parts.{whole_is, shuffled_fits}
 use Rattle.committees.proofs.epoch.EpochCommittees.new.Goals as goal
 
@@ -10,5 +10,5 @@ invariant_of-result c =
 
 pub returns-clause-exact : goal.returns-clause-exact
 returns-clause-exact c =
-    whole_is c.args.preset.now c.args.seed.now c.args.active.items c.in_ok-members.members.items c.committees_per_slot-per_slot.result
-    (c.committees_per_slot-per_slot.ensures.exact ∙ ap (committees_per_slot c.args.preset.now) (search rules)) c.in_ok-members.ensures.shuffled (omega arith) (omega arith)
+    whole_is c.args.preset.now c.args.seed.now c.args.active.items c.in_ok-members.members.items c.committee_count_per_slot-per_slot.result
+    (c.committee_count_per_slot-per_slot.ensures.exact ∙ ap (committee_count_per_slot c.args.preset.now) (search rules)) c.in_ok-members.ensures.shuffled (omega arith) (omega arith)

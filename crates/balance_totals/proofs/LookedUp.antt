@@ -1,0 +1,29 @@
+-- What is read at an index is what the definitions look up there.
+use Rattle.std.proofs.Common.{◌≡◌, ℕ, zero, suc, Bool, false, List, [], ◌∷◌, Some, None, refl, ap, slice_get}
+use Rattle.beacon_types.specs.declared.validator.Validator.{Validator}
+use Rattle.spec_state.specs.Misc.{effective_balance}
+use Rattle.balance_totals.specs.inside.Lookups.{passes}
+
+pub passes_some : (test : Validator → Bool) (validators : List Validator) (index : ℕ) (v : Validator) → Some v ≡ slice_get validators index → passes test validators index ≡ test v
+unfolding passes
+passes_some test [] index v e = absurd cc
+passes_some test (w ∷ validators) zero v e = ap test (let s : w ≡ v = cc in s)
+passes_some test (w ∷ validators) (suc index) v e = passes_some test validators index v e
+
+pub passes_none : (test : Validator → Bool) (validators : List Validator) (index : ℕ) → None ≡ slice_get validators index → passes test validators index ≡ false
+unfolding passes
+passes_none test [] index e = refl
+passes_none test (w ∷ validators) zero e = absurd cc
+passes_none test (w ∷ validators) (suc index) e = passes_none test validators index e
+
+pub effective_some : (validators : List Validator) (index : ℕ) (v : Validator) → Some v ≡ slice_get validators index → effective_balance validators index ≡ v.effective_balance
+unfolding effective_balance
+effective_some [] index v e = absurd cc
+effective_some (w ∷ validators) zero v e = ap (λ x. x.effective_balance) (let s : w ≡ v = cc in s)
+effective_some (w ∷ validators) (suc index) v e = effective_some validators index v e
+
+pub effective_none : (validators : List Validator) (index : ℕ) → None ≡ slice_get validators index → effective_balance validators index ≡ 0
+unfolding effective_balance
+effective_none [] index e = refl
+effective_none (w ∷ validators) zero e = absurd cc
+effective_none (w ∷ validators) (suc index) e = effective_none validators index e

@@ -1,0 +1,37 @@
+//! What totals read of one validator of a state.
+
+ghost use Rattle.std.specs.Prelude.{◌≡◌};
+ghost use Rattle.spec_state.specs.Predicates.{is_active_validator};
+ghost use Rattle.spec_state.specs.Misc.{effective_balance};
+ghost use Rattle.balance_totals.specs.inside.Lookups.{passes};
+
+use beacon_state::State;
+use beacon_types::Validator;
+
+/// Whether the validator is active at the epoch (beacon-chain.md, `is_active_validator`).
+#[tactic(auto, unfolding(spec_state::specs::Predicates::is_active_validator))]
+fn is_active_validator(validator: &Validator, epoch: u64) -> bool
+    ensures { result ≡ is_active_validator validator.now epoch }
+{
+    validator.activation_epoch <= epoch && epoch < validator.exit_epoch
+}
+
+/// Whether the validator with an index is active at the epoch. One that isn't in the registry is not.
+pub(crate) fn is_active_at(state: &State, index: u64, epoch: u64) -> bool
+    ensures { result ≡ passes (λ v. is_active_validator v epoch) state.now.validators index }
+{
+    match state.validators_at(index) {
+        Some(validator) => is_active_validator(validator, epoch),
+        None => false,
+    }
+}
+
+/// The effective balance of the validator with an index, in Gwei, or 0 where there is none.
+pub(crate) fn effective_at(state: &State, index: u64) -> u64
+    ensures { result ≡ effective_balance state.now.validators index }
+{
+    match state.validators_at(index) {
+        Some(validator) => validator.effective_balance,
+        None => 0,
+    }
+}
