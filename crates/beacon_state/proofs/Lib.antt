@@ -1,6 +1,5 @@
 pub mod Parts
 pub mod Unread
-pub mod Depths
 pub mod FirstFault
 pub mod Balances
 pub mod Joining

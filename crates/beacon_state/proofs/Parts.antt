@@ -37,7 +37,7 @@ module _ {X : Type 0} (f : X → List ℕ) (p : Preset) (ps a r1 b r2 c r3 d r4 
   m5 : map f r5 ≡ drop 2 (drop 4 (drop 3 (drop 3 (drop 5 all))))
   m5 = back 2 r5 r4 (drop 4 (drop 3 (drop 3 (drop 5 all)))) e5 m4
 
-  pub parts_are_read : parse_groups p (map f a) (map f b) (map f c) (map f d) (map f e) (map f r5) ≡ (state_row p).parse all
+  pub parts_are_read : parse_groups p (map f a) (map f b) (map f c) (map f d) (map f e) (map f r5) ≡ (state_row p).deserialize all
   parts_are_read =
       ap (λ x. parse_groups p x (map f b) (map f c) (map f d) (map f e) (map f r5)) (front 5 a ps all ea refl)
       ∙ ap (λ x. parse_groups p (take 5 all) x (map f c) (map f d) (map f e) (map f r5)) (front 3 b r1 (drop 5 all) eb m1)

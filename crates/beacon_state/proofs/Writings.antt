@@ -1,6 +1,6 @@
 -- A state within the limits has a writing.
 use Rattle.std.proofs.Common.{◌≡◌, ℕ, List, Some, sym, subst}
-use Rattle.ssz_codec.specs.Layout.{OffsetsFit, heads_len}
+use Rattle.ssz_codec.specs.Layout.{OffsetsFit, fixed_length}
 use Rattle.ssz_codec.specs.Lawful.{IsBytes}
 use Rattle.bc_preset.specs.declared.presets.Preset.{Preset}
 use Rattle.spec_state.specs.declared.plain.PlainState.{PlainState}
@@ -25,8 +25,8 @@ unfolding state_codec
 within_fits p s within = record {
   previous = previous_fits p s within.0;
   current = current_fits p s within.0;
-  whole = subst (λ q. OffsetsFit (state_row q).fields ((state_row q).parts s) (heads_len (state_row q).fields)) (sym (same_preset p s within.0)) within.1;
+  whole = subst (λ q. OffsetsFit (state_row q).fields ((state_row q).parts s) (fixed_length (state_row q).fields)) (sym (same_preset p s within.0)) within.1;
 }
 
-pub read_has_writing : (p : Preset) (bytes : List ℕ) (s : PlainState) → IsBytes bytes → (state_codec p).parse bytes ≡ Some s → HasWriting s
+pub read_has_writing : (p : Preset) (bytes : List ℕ) (s : PlainState) → IsBytes bytes → (state_codec p).deserialize bytes ≡ Some s → HasWriting s
 read_has_writing p bytes s fits e = within_fits p s ((state_lawful p).sound bytes s fits e).0

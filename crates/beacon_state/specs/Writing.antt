@@ -1,7 +1,7 @@
 -- Which states have a writing (simple-serialize.md, "Serialization": each offset fits in four bytes).
 use Rattle.std.specs.Prelude.{◌*◌, List, length, map, replicate}
 use Rattle.ssz_codec.specs.declared.layout.Field.TheVariants.{Variable}
-use Rattle.ssz_codec.specs.Layout.{heads_len, OffsetsFit}
+use Rattle.ssz_codec.specs.Layout.{fixed_length, OffsetsFit}
 use Rattle.beacon_types.specs.declared.pending_attestation.PendingAttestation.{PendingAttestation}
 use Rattle.beacon_types.specs.Containers.{pending_attestation_codec}
 use Rattle.spec_state.specs.declared.plain.PlainState.{PlainState}
@@ -9,10 +9,10 @@ use Rattle.spec_state.specs.States.{state_row}
 
 -- the offsets of a list of pending attestations fit
 unfoldable pub ListFits : List PendingAttestation → Type 0
-ListFits xs = OffsetsFit (replicate (length xs) Variable) (map pending_attestation_codec.writing xs) (4 * length xs)
+ListFits xs = OffsetsFit (replicate (length xs) Variable) (map pending_attestation_codec.serialize xs) (4 * length xs)
 
 -- all offsets of a state fit
 pub record HasWriting (s : PlainState) : Type 0 where
   pub previous : ListFits s.previous_epoch_attestations
   pub current : ListFits s.current_epoch_attestations
-  pub whole : OffsetsFit (state_row s.preset).fields ((state_row s.preset).parts s) (heads_len (state_row s.preset).fields)
+  pub whole : OffsetsFit (state_row s.preset).fields ((state_row s.preset).parts s) (fixed_length (state_row s.preset).fields)

@@ -6,9 +6,8 @@ ghost use Rattle.spec_state.specs.Genesis.{empty_list_root as empty_list, empty_
 
 use crate::state::State;
 use beacon_types::{BeaconBlockHeader, Checkpoint, Eth1Data, Validator};
-use hash_tree::{Root, merkle, merkle_bytes, mix_in_length, zero_hash};
+use hash_tree::{Leaf, Root, merkle, merkle_bytes, mix_in_length, zero_hash};
 use spec_state::{GenesisFault, ValidatorFault};
-use ssz_codec::Ssz;
 
 const FAR_FUTURE_EPOCH: u64 = 18_446_744_073_709_551_615;
 
@@ -33,7 +32,7 @@ pub fn empty_body_root() -> Root
     merkle(
         &[
             merkle_bytes(&[0; 96], 2),
-            eth1_data.hash_tree_root(),
+            eth1_data.root(),
             [0; 32],
             empty_list_root(4),
             empty_list_root(1),

@@ -1,7 +1,7 @@
 //! Reading the fields of a state in groups of neighbours. Parts come from cutting the state, values go into the state.
 
 ghost use Rattle.std.specs.Prelude.{◌≡◌, map, take, drop, length};
-ghost use Rattle.ssz_codec.specs.Reads.{Gives};
+ghost use Rattle.ssz_codec.specs.Reads.{ReadsAs};
 ghost use Rattle.spec_state.specs.States.{clock_row, history_row, eth1_row, registry_row, pending_row, finality_row, state_row, state_of, parse_groups, votes_limit, attestations_limit};
 ghost use Rattle.bc_preset.specs.Presets.{IsPreset};
 
@@ -14,7 +14,7 @@ use std::alloc::Global;
 
 #[tactic(auto, unfolding(spec_state::specs::States::clock_row))]
 fn read_clock(alloc: Global, parts: &[&[u8]]) -> Result<Clock, SszFault>
-    ensures { Gives result (clock_row.parse (map (λ part. part.now) parts.now)) }
+    ensures { ReadsAs result (clock_row.deserialize (map (λ part. part.now) parts.now)) }
 {
     match parts {
         [
@@ -36,7 +36,7 @@ fn read_clock(alloc: Global, parts: &[&[u8]]) -> Result<Clock, SszFault>
 
 #[tactic(auto, unfolding(spec_state::specs::States::history_row))]
 fn read_history(alloc: Global, preset: &Preset, parts: &[&[u8]]) -> Result<History, SszFault>
-    ensures { Gives result ((history_row preset.now).parse (map (λ part. part.now) parts.now)) }
+    ensures { ReadsAs result ((history_row preset.now).deserialize (map (λ part. part.now) parts.now)) }
 {
     let count = preset.slots_per_historical_root as usize;
     match parts {
@@ -57,7 +57,7 @@ fn read_history(alloc: Global, preset: &Preset, parts: &[&[u8]]) -> Result<Histo
 #[tactic(auto, unfolding(spec_state::specs::States::eth1_row))]
 fn read_eth1(alloc: Global, preset: &Preset, parts: &[&[u8]]) -> Result<Eth1, SszFault>
     requires { IsPreset preset.now }
-    ensures { Gives result ((eth1_row preset.now).parse (map (λ part. part.now) parts.now)) }
+    ensures { ReadsAs result ((eth1_row preset.now).deserialize (map (λ part. part.now) parts.now)) }
 {
     let limit = votes_limit_of(preset);
     match parts {
@@ -72,7 +72,7 @@ fn read_eth1(alloc: Global, preset: &Preset, parts: &[&[u8]]) -> Result<Eth1, Ss
 
 #[tactic(auto, unfolding(spec_state::specs::States::registry_row))]
 fn read_registry(alloc: Global, preset: &Preset, parts: &[&[u8]]) -> Result<Registry, SszFault>
-    ensures { Gives result ((registry_row preset.now).parse (map (λ part. part.now) parts.now)) }
+    ensures { ReadsAs result ((registry_row preset.now).deserialize (map (λ part. part.now) parts.now)) }
 {
     let limit = preset.validator_registry_limit;
     let mixes = preset.epochs_per_historical_vector as usize;
@@ -91,7 +91,7 @@ fn read_registry(alloc: Global, preset: &Preset, parts: &[&[u8]]) -> Result<Regi
 #[tactic(auto, unfolding(spec_state::specs::States::pending_row))]
 fn read_pending(alloc: Global, preset: &Preset, parts: &[&[u8]]) -> Result<Pending, SszFault>
     requires { IsPreset preset.now }
-    ensures { Gives result ((pending_row preset.now).parse (map (λ part. part.now) parts.now)) }
+    ensures { ReadsAs result ((pending_row preset.now).deserialize (map (λ part. part.now) parts.now)) }
 {
     let limit = attestations_limit_of(preset);
     match parts {
@@ -105,7 +105,7 @@ fn read_pending(alloc: Global, preset: &Preset, parts: &[&[u8]]) -> Result<Pendi
 
 #[tactic(auto, unfolding(spec_state::specs::States::finality_row))]
 fn read_finality(alloc: Global, parts: &[&[u8]]) -> Result<Finality, SszFault>
-    ensures { Gives result (finality_row.parse (map (λ part. part.now) parts.now)) }
+    ensures { ReadsAs result (finality_row.deserialize (map (λ part. part.now) parts.now)) }
 {
     match parts {
         [bits, previous, current, finalized] => Ok(Finality {
@@ -221,7 +221,7 @@ fn read_groups(
     finality: &[&[u8]],
 ) -> Result<PlainState, SszFault>
     requires { IsPreset preset.now }
-    ensures { Gives result (parse_groups preset.now (map (λ part. part.now) clock.now) (map (λ part. part.now) history.now) (map (λ part. part.now) eth1.now) (map (λ part. part.now) registry.now) (map (λ part. part.now) pending.now) (map (λ part. part.now) finality.now)) }
+    ensures { ReadsAs result (parse_groups preset.now (map (λ part. part.now) clock.now) (map (λ part. part.now) history.now) (map (λ part. part.now) eth1.now) (map (λ part. part.now) registry.now) (map (λ part. part.now) pending.now) (map (λ part. part.now) finality.now)) }
 {
     let clock = read_clock(alloc, clock)?;
     let history = read_history(alloc, preset, history)?;
@@ -240,7 +240,7 @@ pub(crate) fn read_fields(
 ) -> Result<PlainState, SszFault>
     requires preset { IsPreset preset.now }
     requires count { length parts.now ≡ 21 }
-    ensures { Gives result ((state_row preset.now).parse (map (λ part. part.now) parts.now)) }
+    ensures { ReadsAs result ((state_row preset.now).deserialize (map (λ part. part.now) parts.now)) }
 {
     let (clock, parts) = parts.split_at(5);
     let (history, parts) = parts.split_at(3);

@@ -94,7 +94,7 @@ fn copy_of(alloc: Global, attestation: &PendingAttestation) -> Result<PendingAtt
     }
 }
 
-#[tactic(auto, unfolding(beacon_types::specs::Containers::eth1_data_codec, beacon_types::specs::Containers::eth1_data_row, ssz_codec::specs::Layout::OffsetsFit))]
+#[tactic(auto, unfolding(ssz_codec::specs::Layout::OffsetsFit))]
 fn eth1_data_in_range(eth1: &Eth1Data)
     ensures { eth1_data_codec.Within eth1.now }
 {
@@ -103,7 +103,7 @@ fn eth1_data_in_range(eth1: &Eth1Data)
     let _hash = eth1.block_hash;
 }
 
-#[tactic(auto, unfolding(beacon_types::specs::Containers::validator_codec, beacon_types::specs::Containers::validator_row, ssz_codec::specs::Layout::OffsetsFit))]
+#[tactic(auto, unfolding(ssz_codec::specs::Layout::OffsetsFit))]
 fn validator_in_range(validator: &Validator)
     ensures { validator_codec.Within validator.now }
 {
@@ -116,7 +116,7 @@ fn validator_in_range(validator: &Validator)
     let _withdrawable = validator.withdrawable_epoch;
 }
 
-#[tactic(auto, unfolding(beacon_types::specs::Containers::checkpoint_codec, beacon_types::specs::Containers::checkpoint_row, ssz_codec::specs::Layout::OffsetsFit))]
+#[tactic(auto, unfolding(ssz_codec::specs::Layout::OffsetsFit))]
 fn checkpoint_in_range(checkpoint: &Checkpoint)
     ensures { checkpoint_codec.Within checkpoint.now }
 {
@@ -124,7 +124,7 @@ fn checkpoint_in_range(checkpoint: &Checkpoint)
     let _root = checkpoint.root;
 }
 
-#[tactic(auto, unfolding(beacon_types::specs::Containers::attestation_data_codec, beacon_types::specs::Containers::attestation_data_row, ssz_codec::specs::Layout::OffsetsFit))]
+#[tactic(auto, unfolding(ssz_codec::specs::Layout::OffsetsFit))]
 fn attestation_data_in_range(content: &AttestationData)
     ensures { attestation_data_codec.Within content.now }
 {
@@ -135,7 +135,7 @@ fn attestation_data_in_range(content: &AttestationData)
     checkpoint_in_range(&content.target);
 }
 
-#[tactic(auto, unfolding(beacon_types::specs::Containers::pending_attestation_codec, beacon_types::specs::Containers::pending_attestation_row, beacon_types::specs::Containers::aggregation_bits_codec, ssz_codec::specs::Layout::OffsetsFit))]
+#[tactic(auto, unfolding(ssz_codec::specs::Layout::OffsetsFit))]
 fn attestation_in_range(attestation: &PendingAttestation)
     ensures { pending_attestation_codec.Within attestation.now }
 {

@@ -5,7 +5,6 @@
 
 mod genesis;
 mod groups;
-mod heights;
 mod in_range;
 mod lookups;
 mod reading;

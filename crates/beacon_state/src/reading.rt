@@ -1,8 +1,8 @@
 //! Reading a state: bytes come from the genesis file.
 
 ghost use Rattle.std.specs.Prelude.{◌≡◌, ◌<◌, ◌^◌, IfOk};
-ghost use Rattle.ssz_codec.specs.Layout.{heads_len};
-ghost use Rattle.ssz_codec.specs.Reads.{Gives, Reads};
+ghost use Rattle.ssz_codec.specs.Layout.{fixed_length};
+ghost use Rattle.ssz_codec.specs.Reads.{ReadsAs, Reads};
 ghost use Rattle.bc_preset.specs.Presets.{IsPreset};
 ghost use Rattle.spec_state.specs.States.{state_row, state_codec};
 ghost use Rattle.spec_state.specs.Limits.{IsState, IsInRange};
@@ -20,7 +20,7 @@ use std::alloc::Global;
 pub(crate) fn state_fields(preset: &Preset) -> [Field; 21]
     requires { IsPreset preset.now }
     ensures fields { result ≡ (state_row preset.now).fields }
-    ensures room { heads_len result < 2 ^ 32 }
+    ensures room { fixed_length result < 2 ^ 32 }
 {
     let roots = Field::Fixed(preset.slots_per_historical_root as usize * 32);
     let mixes = Field::Fixed(preset.epochs_per_historical_vector as usize * 32);
@@ -54,7 +54,7 @@ pub(crate) fn state_fields(preset: &Preset) -> [Field; 21]
 #[tactic(auto, unfolding(spec_state::specs::States::state_codec))]
 fn read_plain(alloc: Global, preset: &Preset, bytes: &[u8]) -> Result<PlainState, SszFault>
     requires { IsPreset preset.now }
-    ensures { Gives result ((state_codec preset.now).parse bytes.now) }
+    ensures { ReadsAs result ((state_codec preset.now).deserialize bytes.now) }
 {
     let fields = state_fields(preset);
     let mut parts = [bytes; 21];
@@ -67,7 +67,7 @@ impl State {
     pub fn read(alloc: Global, preset: &Preset, bytes: &[u8]) -> Result<State, SszFault>
         requires { IsPreset preset.now }
         ensures reads { Reads (state_codec preset.now) result bytes.now }
-        ensures parses { Gives result ((state_codec preset.now).parse bytes.now) }
+        ensures parses { ReadsAs result ((state_codec preset.now).deserialize bytes.now) }
         ensures state { IfOk result IsState }
         ensures range { IfOk result IsInRange }
         ensures written { IfOk result HasWriting }

@@ -1,7 +1,7 @@
 //! Writing a state: its fields come from the state, and the bytes go to files.
 
 ghost use Rattle.std.specs.Prelude.{◌≡◌, ◌++◌, Some, OnOk, IfOk};
-ghost use Rattle.ssz_codec.specs.Layout.{heads_len};
+ghost use Rattle.ssz_codec.specs.Layout.{fixed_length};
 ghost use Rattle.spec_state.specs.States.{clock_row, history_row, eth1_row, registry_row, pending_row, finality_row, state_row, state_codec, clock_of, history_of, eth1_of, registry_of, pending_of, finality_of};
 ghost use Rattle.spec_state.specs.Limits.{IsState};
 ghost use Rattle.bc_preset.specs.Presets.{IsPreset};
@@ -102,7 +102,7 @@ fn write_fields(alloc: Global, s: &State) -> Result<Written, NoMemory>
 #[tactic(auto, unfolding(spec_state::specs::States::state_row, spec_state::specs::States::clock_row, spec_state::specs::States::history_row, spec_state::specs::States::eth1_row, spec_state::specs::States::registry_row, spec_state::specs::States::pending_row, spec_state::specs::States::finality_row), using(bc_preset::proofs::Bounds::preset_bounds))]
 fn head_of(preset: &Preset) -> u64
     requires { IsPreset preset.now }
-    ensures { result ≡ heads_len (state_row preset.now).fields }
+    ensures { result ≡ fixed_length (state_row preset.now).fields }
 {
     let roots = 32 * preset.slots_per_historical_root;
     let mixes = 32 * preset.epochs_per_historical_vector;
@@ -114,7 +114,7 @@ fn head_of(preset: &Preset) -> u64
 #[tactic(auto, unfolding(spec_state::specs::States::state_codec))]
 fn write_plain(alloc: Global, s: &State) -> Result<Vec<u8>, NoMemory>
     requires { HasWriting s.now }
-    ensures { IfOk result (λ bytes. bytes.items ≡ (state_codec s.now.preset).writing s.now) }
+    ensures { IfOk result (λ bytes. bytes.items ≡ (state_codec s.now.preset).serialize s.now) }
 {
     let parts = write_fields(alloc, s)?;
     let fields = state_fields(s.preset());
@@ -125,7 +125,7 @@ impl State {
     /// The writing of the state, which must have one: each of its offsets fits in four bytes.
     pub fn write(&self, alloc: Global) -> Result<Vec<u8>, NoMemory>
         requires { HasWriting self.now }
-        ensures { IfOk result (λ bytes. bytes.items ≡ (state_codec self.now.preset).writing self.now) }
+        ensures { IfOk result (λ bytes. bytes.items ≡ (state_codec self.now.preset).serialize self.now) }
     {
         write_plain(alloc, self)
     }
@@ -134,11 +134,11 @@ impl State {
 /// A state that is written is read again: it has a writing, and reading gives it back.
 #[tactic(auto, using(crate::proofs::Unread::state_again))]
 pub fn state_reads_back()
-    ensures { (p : Preset) (s : PlainState) → (state_codec p).Within s → (state_codec p).parse ((state_codec p).writing s) ≡ Some s }
+    ensures { (p : Preset) (s : PlainState) → (state_codec p).Within s → (state_codec p).deserialize ((state_codec p).serialize s) ≡ Some s }
 {}
 
 /// Two states never share a writing.
 #[tactic(auto, using(crate::proofs::Unread::one_state))]
 pub fn one_writing_of_states()
-    ensures { (p : Preset) (s t : PlainState) → (state_codec p).Within s → (state_codec p).Within t → (state_codec p).writing s ≡ (state_codec p).writing t → s ≡ t }
+    ensures { (p : Preset) (s t : PlainState) → (state_codec p).Within s → (state_codec p).Within t → (state_codec p).serialize s ≡ (state_codec p).serialize t → s ≡ t }
 {}

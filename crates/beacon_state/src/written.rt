@@ -4,7 +4,7 @@ ghost use Rattle.std.specs.Prelude.{◌≡◌, ◌<◌, ◌*◌, ◌^◌, [], �
 ghost use Rattle.std.specs.List.{flat_map};
 ghost use Rattle.std.proofs.Common.{get_or};
 ghost use Rattle.ssz_codec.specs.declared.layout.Field.TheVariants.{Variable};
-ghost use Rattle.ssz_codec.specs.Layout.{heads, bodies, heads_len, joined, OffsetsFit};
+ghost use Rattle.ssz_codec.specs.Layout.{fixed_parts, variable_parts, fixed_length, joined, OffsetsFit};
 
 use bc_words::NoMemory;
 use ssz_codec::{Field, Ssz, Writer};
@@ -60,7 +60,7 @@ impl Written {
 
     /// Adds a value.
     pub(crate) fn add<T: Ssz>(&mut self, alloc: Global, value: &T) -> Result<(), NoMemory>
-        ensures { OnOk result (self.new ≡ self.old ++ T.codec.writing value.now ∷ []) }
+        ensures { OnOk result (self.new ≡ self.old ++ T.codec.serialize value.now ∷ []) }
     {
         let part = value.write(alloc)?;
         self.add_part(part)
@@ -68,7 +68,7 @@ impl Written {
 
     /// Adds a vector or a list of values of fixed size.
     pub(crate) fn add_items<T: Ssz>(&mut self, alloc: Global, items: &[T]) -> Result<(), NoMemory>
-        ensures { OnOk result (self.new ≡ self.old ++ flat_map T.codec.writing items.now ∷ []) }
+        ensures { OnOk result (self.new ≡ self.old ++ flat_map T.codec.serialize items.now ∷ []) }
     {
         let mut out = Writer::new(alloc);
         write_items(items, &mut out)?;
@@ -76,11 +76,11 @@ impl Written {
     }
 
     /// Adds a list of values of variable size.
-    #[tactic(auto, using(ssz_codec::specs::ListLaws::variable_heads))]
+    #[tactic(auto, using(ssz_codec::specs::laws::Lists::variable_heads))]
     pub(crate) fn add_list<T: Ssz>(&mut self, alloc: Global, items: &[T]) -> Result<(), NoMemory>
         requires few { length items.now < 2 ^ 32 }
-        requires fit { OffsetsFit (replicate (length items.now) Variable) (map T.codec.writing items.now) (4 * length items.now) }
-        ensures { OnOk result (self.new ≡ self.old ++ joined (replicate (length items.now) Variable) (map T.codec.writing items.now) ∷ []) }
+        requires fit { OffsetsFit (replicate (length items.now) Variable) (map T.codec.serialize items.now) (4 * length items.now) }
+        ensures { OnOk result (self.new ≡ self.old ++ joined (replicate (length items.now) Variable) (map T.codec.serialize items.now) ∷ []) }
     {
         let parts = write_each(alloc, items)?;
         let count = items.len();
@@ -92,7 +92,7 @@ impl Written {
 
 /// Writes each of the values.
 fn write_each<T: Ssz>(alloc: Global, items: &[T]) -> Result<Written, NoMemory>
-    ensures { IfOk result (λ parts. parts ≡ map T.codec.writing items.now) }
+    ensures { IfOk result (λ parts. parts ≡ map T.codec.serialize items.now) }
 {
     let mut parts = Written::new(alloc);
     for item in items {
@@ -103,7 +103,7 @@ fn write_each<T: Ssz>(alloc: Global, items: &[T]) -> Result<Written, NoMemory>
 
 /// Writes values one after another.
 fn write_items<T: Ssz>(items: &[T], out: &mut Writer) -> Result<(), NoMemory>
-    ensures { OnOk result (out.new ≡ out.old ++ flat_map T.codec.writing items.now) }
+    ensures { OnOk result (out.new ≡ out.old ++ flat_map T.codec.serialize items.now) }
 {
     for item in items {
         item.write_to(out)?;
@@ -115,7 +115,7 @@ fn write_items<T: Ssz>(items: &[T], out: &mut Writer) -> Result<(), NoMemory>
 fn put_heads(out: &mut Writer, fields: &[Field], parts: &Written, head: u64) -> Result<(), NoMemory>
     requires same { length parts.now ≡ length fields.now }
     requires fit { OffsetsFit fields.now parts.now head }
-    ensures { OnOk result (out.new ≡ out.old ++ heads fields.now parts.now head) }
+    ensures { OnOk result (out.new ≡ out.old ++ fixed_parts fields.now parts.now head) }
 {
     let mut offset = u128::from(head);
     for i in 0..fields.len() {
@@ -135,7 +135,7 @@ fn put_heads(out: &mut Writer, fields: &[Field], parts: &Written, head: u64) -> 
 /// Writes the variable parts.
 fn put_bodies(out: &mut Writer, fields: &[Field], parts: &Written) -> Result<(), NoMemory>
     requires { length parts.now ≡ length fields.now }
-    ensures { OnOk result (out.new ≡ out.old ++ bodies fields.now parts.now) }
+    ensures { OnOk result (out.new ≡ out.old ++ variable_parts fields.now parts.now) }
 {
     for i in 0..fields.len() {
         match fields[i] {
@@ -155,8 +155,8 @@ pub(crate) fn join(
     head: u64,
 ) -> Result<Vec<u8>, NoMemory>
     requires same { length parts.now ≡ length fields.now }
-    requires head { head ≡ heads_len fields.now }
-    requires fit { OffsetsFit fields.now parts.now (heads_len fields.now) }
+    requires head { head ≡ fixed_length fields.now }
+    requires fit { OffsetsFit fields.now parts.now (fixed_length fields.now) }
     ensures { IfOk result (λ bytes. bytes.items ≡ joined fields.now parts.now) }
 {
     let mut out = Writer::new(alloc);

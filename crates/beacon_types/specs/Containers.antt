@@ -1,9 +1,10 @@
--- The small containers of a state, field by field in the order of the published specification (beacon-chain.md,
--- "Containers"). The depth is that of the tree over the fields.
+-- The small containers of states and blocks, field by field in the order of the published specification (beacon-chain.md,
+-- "Containers").
 use Rattle.std.specs.Prelude.{List, Bool}
-use Rattle.ssz_codec.specs.Codec.{Codec, Row, ◌&◌, pair, only, map_row, container, sized, variable}
-use Rattle.ssz_codec.specs.Basic.{number_codec, bool_codec, bytes4_codec, bytes32_codec, bytes48_codec}
-use Rattle.ssz_codec.specs.BitLists.{bit_list_codec}
+use Rattle.ssz_codec.specs.Codec.{Codec}
+use Rattle.ssz_codec.specs.Containers.{Fields, fields_of, ◌▹◌∶◌, container_of}
+use Rattle.ssz_codec.specs.Basic.{uint64, boolean, bytes4, bytes32, bytes48}
+use Rattle.ssz_codec.specs.BitLists.{bitlist}
 use Rattle.beacon_types.specs.declared.pending_attestation.PendingAttestation.{PendingAttestation}
 use Rattle.beacon_types.specs.declared.fork.Fork.{Fork}
 use Rattle.beacon_types.specs.declared.checkpoint.Checkpoint.{Checkpoint}
@@ -14,85 +15,93 @@ use Rattle.beacon_types.specs.declared.block_header.BeaconBlockHeader.{BeaconBlo
 use Rattle.beacon_types.specs.declared.voluntary_exit.VoluntaryExit.{VoluntaryExit}
 
 -- Fork
-unfoldable pub fork_row : Row Fork
-fork_row =
-    map_row (bytes4_codec & bytes4_codec & only number_codec)
-    (λ v. record { previous_version = v.first; current_version = v.rest.first; epoch = v.rest.rest })
-    (λ v. pair v.previous_version (pair v.current_version v.epoch))
+abbrev pub fork_fields : Fields Fork Fork
+fork_fields = fields_of (λ previous current epoch. record { previous_version = previous; current_version = current; epoch = epoch })
+    ▹ (λ v. v.previous_version) ∶ bytes4
+    ▹ (λ v. v.current_version) ∶ bytes4
+    ▹ (λ v. v.epoch) ∶ uint64
 
-unfoldable pub fork_codec : Codec Fork
-fork_codec = container 2 fork_row
+abbrev pub fork_codec : Codec Fork
+fork_codec = container_of fork_fields
 
 -- Checkpoint
-unfoldable pub checkpoint_row : Row Checkpoint
-checkpoint_row =
-    map_row (number_codec & only bytes32_codec)
-    (λ v. record { epoch = v.first; root = v.rest })
-    (λ v. pair v.epoch v.root)
+abbrev pub checkpoint_fields : Fields Checkpoint Checkpoint
+checkpoint_fields = fields_of (λ epoch root. record { epoch = epoch; root = root })
+    ▹ (λ v. v.epoch) ∶ uint64
+    ▹ (λ v. v.root) ∶ bytes32
 
-unfoldable pub checkpoint_codec : Codec Checkpoint
-checkpoint_codec = container 1 checkpoint_row
+abbrev pub checkpoint_codec : Codec Checkpoint
+checkpoint_codec = container_of checkpoint_fields
 
 -- Validator
-unfoldable pub validator_row : Row Validator
-validator_row =
-    map_row (bytes48_codec & bytes32_codec & number_codec & bool_codec & number_codec & number_codec & number_codec & only number_codec)
-    (λ v. record { pubkey = v.first; withdrawal_credentials = v.rest.first; effective_balance = v.rest.rest.first; slashed = v.rest.rest.rest.first; activation_eligibility_epoch = v.rest.rest.rest.rest.first; activation_epoch = v.rest.rest.rest.rest.rest.first; exit_epoch = v.rest.rest.rest.rest.rest.rest.first; withdrawable_epoch = v.rest.rest.rest.rest.rest.rest.rest })
-    (λ v. pair v.pubkey (pair v.withdrawal_credentials (pair v.effective_balance (pair v.slashed (pair v.activation_eligibility_epoch (pair v.activation_epoch (pair v.exit_epoch v.withdrawable_epoch)))))))
+abbrev pub validator_fields : Fields Validator Validator
+validator_fields = fields_of (λ pubkey credentials balance slashed eligibility activation exit withdrawable. record { pubkey = pubkey; withdrawal_credentials = credentials; effective_balance = balance; slashed = slashed; activation_eligibility_epoch = eligibility; activation_epoch = activation; exit_epoch = exit; withdrawable_epoch = withdrawable })
+    ▹ (λ v. v.pubkey) ∶ bytes48
+    ▹ (λ v. v.withdrawal_credentials) ∶ bytes32
+    ▹ (λ v. v.effective_balance) ∶ uint64
+    ▹ (λ v. v.slashed) ∶ boolean
+    ▹ (λ v. v.activation_eligibility_epoch) ∶ uint64
+    ▹ (λ v. v.activation_epoch) ∶ uint64
+    ▹ (λ v. v.exit_epoch) ∶ uint64
+    ▹ (λ v. v.withdrawable_epoch) ∶ uint64
 
-unfoldable pub validator_codec : Codec Validator
-validator_codec = container 3 validator_row
+abbrev pub validator_codec : Codec Validator
+validator_codec = container_of validator_fields
 
 -- AttestationData
-unfoldable pub attestation_data_row : Row AttestationData
-attestation_data_row =
-    map_row (number_codec & number_codec & bytes32_codec & sized 40 checkpoint_codec & only (sized 40 checkpoint_codec))
-    (λ v. record { slot = v.first; index = v.rest.first; beacon_block_root = v.rest.rest.first; source = v.rest.rest.rest.first; target = v.rest.rest.rest.rest })
-    (λ v. pair v.slot (pair v.index (pair v.beacon_block_root (pair v.source v.target))))
+abbrev pub attestation_data_fields : Fields AttestationData AttestationData
+attestation_data_fields = fields_of (λ slot index block source target. record { slot = slot; index = index; beacon_block_root = block; source = source; target = target })
+    ▹ (λ v. v.slot) ∶ uint64
+    ▹ (λ v. v.index) ∶ uint64
+    ▹ (λ v. v.beacon_block_root) ∶ bytes32
+    ▹ (λ v. v.source) ∶ checkpoint_codec
+    ▹ (λ v. v.target) ∶ checkpoint_codec
 
-unfoldable pub attestation_data_codec : Codec AttestationData
-attestation_data_codec = container 3 attestation_data_row
+abbrev pub attestation_data_codec : Codec AttestationData
+attestation_data_codec = container_of attestation_data_fields
 
 -- Eth1Data
-unfoldable pub eth1_data_row : Row Eth1Data
-eth1_data_row =
-    map_row (bytes32_codec & number_codec & only bytes32_codec)
-    (λ v. record { deposit_root = v.first; deposit_count = v.rest.first; block_hash = v.rest.rest })
-    (λ v. pair v.deposit_root (pair v.deposit_count v.block_hash))
+abbrev pub eth1_data_fields : Fields Eth1Data Eth1Data
+eth1_data_fields = fields_of (λ root count hash. record { deposit_root = root; deposit_count = count; block_hash = hash })
+    ▹ (λ v. v.deposit_root) ∶ bytes32
+    ▹ (λ v. v.deposit_count) ∶ uint64
+    ▹ (λ v. v.block_hash) ∶ bytes32
 
-unfoldable pub eth1_data_codec : Codec Eth1Data
-eth1_data_codec = container 2 eth1_data_row
+abbrev pub eth1_data_codec : Codec Eth1Data
+eth1_data_codec = container_of eth1_data_fields
 
 -- BeaconBlockHeader
-unfoldable pub block_header_row : Row BeaconBlockHeader
-block_header_row =
-    map_row (number_codec & number_codec & bytes32_codec & bytes32_codec & only bytes32_codec)
-    (λ v. record { slot = v.first; proposer_index = v.rest.first; parent_root = v.rest.rest.first; state_root = v.rest.rest.rest.first; body_root = v.rest.rest.rest.rest })
-    (λ v. pair v.slot (pair v.proposer_index (pair v.parent_root (pair v.state_root v.body_root))))
+abbrev pub block_header_fields : Fields BeaconBlockHeader BeaconBlockHeader
+block_header_fields = fields_of (λ slot proposer parent state body. record { slot = slot; proposer_index = proposer; parent_root = parent; state_root = state; body_root = body })
+    ▹ (λ v. v.slot) ∶ uint64
+    ▹ (λ v. v.proposer_index) ∶ uint64
+    ▹ (λ v. v.parent_root) ∶ bytes32
+    ▹ (λ v. v.state_root) ∶ bytes32
+    ▹ (λ v. v.body_root) ∶ bytes32
 
-unfoldable pub block_header_codec : Codec BeaconBlockHeader
-block_header_codec = container 3 block_header_row
+abbrev pub block_header_codec : Codec BeaconBlockHeader
+block_header_codec = container_of block_header_fields
 
 -- VoluntaryExit
-unfoldable pub voluntary_exit_row : Row VoluntaryExit
-voluntary_exit_row =
-    map_row (number_codec & only number_codec)
-    (λ v. record { epoch = v.first; validator_index = v.rest })
-    (λ v. pair v.epoch v.validator_index)
+abbrev pub voluntary_exit_fields : Fields VoluntaryExit VoluntaryExit
+voluntary_exit_fields = fields_of (λ epoch validator. record { epoch = epoch; validator_index = validator })
+    ▹ (λ v. v.epoch) ∶ uint64
+    ▹ (λ v. v.validator_index) ∶ uint64
 
-unfoldable pub voluntary_exit_codec : Codec VoluntaryExit
-voluntary_exit_codec = container 1 voluntary_exit_row
+abbrev pub voluntary_exit_codec : Codec VoluntaryExit
+voluntary_exit_codec = container_of voluntary_exit_fields
 
--- Bitlist[MAX_VALIDATORS_PER_COMMITTEE], in a tree of 8 chunks
-unfoldable pub aggregation_bits_codec : Codec (List Bool)
-aggregation_bits_codec = bit_list_codec 2048 3
+-- Bitlist[MAX_VALIDATORS_PER_COMMITTEE]
+abbrev pub aggregation_bits_codec : Codec (List Bool)
+aggregation_bits_codec = bitlist 2048
 
 -- PendingAttestation; the published field data is called content
-unfoldable pub pending_attestation_row : Row PendingAttestation
-pending_attestation_row =
-    map_row (variable aggregation_bits_codec & sized 128 attestation_data_codec & number_codec & only number_codec)
-    (λ v. record { aggregation_bits = v.first; content = v.rest.first; inclusion_delay = v.rest.rest.first; proposer_index = v.rest.rest.rest })
-    (λ v. pair v.aggregation_bits (pair v.content (pair v.inclusion_delay v.proposer_index)))
+abbrev pub pending_attestation_fields : Fields PendingAttestation PendingAttestation
+pending_attestation_fields = fields_of (λ bits content delay proposer. record { aggregation_bits = bits; content = content; inclusion_delay = delay; proposer_index = proposer })
+    ▹ (λ v. v.aggregation_bits) ∶ aggregation_bits_codec
+    ▹ (λ v. v.content) ∶ attestation_data_codec
+    ▹ (λ v. v.inclusion_delay) ∶ uint64
+    ▹ (λ v. v.proposer_index) ∶ uint64
 
-unfoldable pub pending_attestation_codec : Codec PendingAttestation
-pending_attestation_codec = container 2 pending_attestation_row
+abbrev pub pending_attestation_codec : Codec PendingAttestation
+pending_attestation_codec = container_of pending_attestation_fields

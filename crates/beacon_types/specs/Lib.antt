@@ -1,3 +1,3 @@
 pub mod Containers
-pub mod Laws
 pub mod Slashable
+pub mod laws

@@ -1,14 +1,15 @@
 //! What an attestation votes for.
 
-ghost use Rattle.std.specs.Prelude.{◌≡◌, map};
-ghost use Rattle.ssz_codec.specs.Reads.{Gives};
-ghost use Rattle.beacon_types.specs.Containers.{attestation_data_row, attestation_data_codec};
-ghost use Rattle.beacon_types.specs.Laws.{attestation_data_lawful};
+ghost use Rattle.std.specs.Prelude.{◌≡◌, refl};
+ghost use Rattle.beacon_types.specs.Containers.{attestation_data_codec};
+ghost use Rattle.beacon_types.specs.laws.Containers.{attestation_data_lawful, attestation_data_fixed};
 
 use crate::checkpoint::Checkpoint;
 use bc_words::NoMemory;
-use hash_tree::{Leaf, Root, merkle};
-use ssz_codec::{Field, Ssz, SszFault, Writer, cut};
+use hash_tree::{Leaf, Root};
+use ssz_codec::{
+    Field, FixedSsz, Ssz, SszFault, Writer, read_container, root_of_container, write_container,
+};
 use std::alloc::Global;
 
 /// The vote of an attestation (beacon-chain.md, "AttestationData").
@@ -26,73 +27,47 @@ pub struct AttestationData {
     pub target: Checkpoint,
 }
 
-impl AttestationData {
-    /// The container of these parts.
-    #[tactic(auto, unfolding(crate::specs::Containers::attestation_data_row))]
-    fn from_parts(alloc: Global, parts: &[&[u8]]) -> Result<AttestationData, SszFault>
-        ensures { Gives result (attestation_data_row.parse (map (λ part. part.now) parts.now)) }
-    {
-        match parts {
-            [slot, index, beacon_block_root, source, target] => Ok(AttestationData {
-                slot: u64::parse(alloc, slot)?,
-                index: u64::parse(alloc, index)?,
-                beacon_block_root: Root::parse(alloc, beacon_block_root)?,
-                source: Checkpoint::parse(alloc, source)?,
-                target: Checkpoint::parse(alloc, target)?,
-            }),
-            _ => Err(SszFault::NotAWriting),
-        }
+impl Leaf for AttestationData {
+    ghost root_of = { attestation_data_codec.hash_tree_root };
+
+    fn root(&self) -> Root {
+        root_of_container!(self, slot, index, beacon_block_root, source, target)
     }
 }
 
 impl Ssz for AttestationData {
     ghost codec = { attestation_data_codec };
 
-    #[tactic(auto, unfolding(crate::specs::Containers::attestation_data_codec, crate::specs::Containers::attestation_data_row))]
+    fn field() -> Field {
+        Field::Fixed(128)
+    }
+
     fn parse(alloc: Global, bytes: &[u8]) -> Result<AttestationData, SszFault> {
-        let fields = [
-            Field::Fixed(8),
-            Field::Fixed(8),
-            Field::Fixed(32),
-            Field::Fixed(40),
-            Field::Fixed(40),
-        ];
-        let mut parts = [bytes; 5];
-        cut(bytes, &fields, &mut parts)?;
-        AttestationData::from_parts(alloc, &parts)
-    }
-
-    #[tactic(auto, unfolding(crate::specs::Containers::attestation_data_codec, crate::specs::Containers::attestation_data_row, ssz_codec::specs::Layout::joined, ssz_codec::specs::Layout::heads, ssz_codec::specs::Layout::bodies))]
-    fn write_to(&self, out: &mut Writer) -> Result<(), NoMemory> {
-        self.slot.write_to(out)?;
-        self.index.write_to(out)?;
-        self.beacon_block_root.write_to(out)?;
-        self.source.write_to(out)?;
-        self.target.write_to(out)?;
-        Ok(())
-    }
-
-    #[tactic(auto, unfolding(crate::specs::Containers::attestation_data_codec, crate::specs::Containers::attestation_data_row))]
-    fn hash_tree_root(&self) -> Root {
-        merkle(
-            &[
-                self.slot.hash_tree_root(),
-                self.index.hash_tree_root(),
-                self.beacon_block_root.hash_tree_root(),
-                self.source.hash_tree_root(),
-                self.target.hash_tree_root(),
-            ],
-            3,
+        read_container!(
+            alloc,
+            bytes,
+            AttestationData {
+                slot: u64,
+                index: u64,
+                beacon_block_root: Root,
+                source: Checkpoint,
+                target: Checkpoint
+            }
         )
     }
 
+    #[tactic(auto, unfolding(ssz_codec::specs::Layout::joined, ssz_codec::specs::Layout::fixed_parts, ssz_codec::specs::Layout::variable_parts))]
+    fn append_to(&self, out: &mut Writer) -> Result<(), NoMemory> {
+        write_container!(self, out, slot, index, beacon_block_root, source, target)
+    }
+
     ghost lawful = { attestation_data_lawful };
+
+    ghost roots = { refl };
 }
 
-impl Leaf for AttestationData {
-    ghost root_of = { attestation_data_codec.root };
+impl FixedSsz for AttestationData {
+    ghost is_fixed = { attestation_data_fixed };
 
-    fn root(&self) -> Root {
-        self.hash_tree_root()
-    }
+    ghost composite = { refl };
 }

@@ -1,13 +1,14 @@
 //! A block at the beginning of an epoch.
 
-ghost use Rattle.std.specs.Prelude.{◌≡◌, map};
-ghost use Rattle.ssz_codec.specs.Reads.{Gives};
-ghost use Rattle.beacon_types.specs.Containers.{checkpoint_row, checkpoint_codec};
-ghost use Rattle.beacon_types.specs.Laws.{checkpoint_lawful};
+ghost use Rattle.std.specs.Prelude.{◌≡◌, refl};
+ghost use Rattle.beacon_types.specs.Containers.{checkpoint_codec};
+ghost use Rattle.beacon_types.specs.laws.Containers.{checkpoint_lawful, checkpoint_fixed};
 
 use bc_words::NoMemory;
-use hash_tree::{Leaf, Root, merkle};
-use ssz_codec::{Field, Ssz, SszFault, Writer, cut};
+use hash_tree::{Leaf, Root};
+use ssz_codec::{
+    Field, FixedSsz, Ssz, SszFault, Writer, read_container, root_of_container, write_container,
+};
 use std::alloc::Global;
 
 /// An epoch and the block at its beginning (beacon-chain.md, "Checkpoint").
@@ -19,55 +20,44 @@ pub struct Checkpoint {
     pub root: Root,
 }
 
-impl Checkpoint {
-    /// The container of these parts.
-    #[tactic(auto, unfolding(crate::specs::Containers::checkpoint_row))]
-    fn from_parts(alloc: Global, parts: &[&[u8]]) -> Result<Checkpoint, SszFault>
-        ensures { Gives result (checkpoint_row.parse (map (λ part. part.now) parts.now)) }
-    {
-        match parts {
-            [epoch, root] => Ok(Checkpoint {
-                epoch: u64::parse(alloc, epoch)?,
-                root: Root::parse(alloc, root)?,
-            }),
-            _ => Err(SszFault::NotAWriting),
-        }
+impl Leaf for Checkpoint {
+    ghost root_of = { checkpoint_codec.hash_tree_root };
+
+    fn root(&self) -> Root {
+        root_of_container!(self, epoch, root)
     }
 }
 
 impl Ssz for Checkpoint {
     ghost codec = { checkpoint_codec };
 
-    #[tactic(auto, unfolding(crate::specs::Containers::checkpoint_codec, crate::specs::Containers::checkpoint_row))]
+    fn field() -> Field {
+        Field::Fixed(40)
+    }
+
     fn parse(alloc: Global, bytes: &[u8]) -> Result<Checkpoint, SszFault> {
-        let fields = [Field::Fixed(8), Field::Fixed(32)];
-        let mut parts = [bytes; 2];
-        cut(bytes, &fields, &mut parts)?;
-        Checkpoint::from_parts(alloc, &parts)
-    }
-
-    #[tactic(auto, unfolding(crate::specs::Containers::checkpoint_codec, crate::specs::Containers::checkpoint_row, ssz_codec::specs::Layout::joined, ssz_codec::specs::Layout::heads, ssz_codec::specs::Layout::bodies))]
-    fn write_to(&self, out: &mut Writer) -> Result<(), NoMemory> {
-        self.epoch.write_to(out)?;
-        self.root.write_to(out)?;
-        Ok(())
-    }
-
-    #[tactic(auto, unfolding(crate::specs::Containers::checkpoint_codec, crate::specs::Containers::checkpoint_row))]
-    fn hash_tree_root(&self) -> Root {
-        merkle(
-            &[self.epoch.hash_tree_root(), self.root.hash_tree_root()],
-            1,
+        read_container!(
+            alloc,
+            bytes,
+            Checkpoint {
+                epoch: u64,
+                root: Root
+            }
         )
     }
 
+    #[tactic(auto, unfolding(ssz_codec::specs::Layout::joined, ssz_codec::specs::Layout::fixed_parts, ssz_codec::specs::Layout::variable_parts))]
+    fn append_to(&self, out: &mut Writer) -> Result<(), NoMemory> {
+        write_container!(self, out, epoch, root)
+    }
+
     ghost lawful = { checkpoint_lawful };
+
+    ghost roots = { refl };
 }
 
-impl Leaf for Checkpoint {
-    ghost root_of = { checkpoint_codec.root };
+impl FixedSsz for Checkpoint {
+    ghost is_fixed = { checkpoint_fixed };
 
-    fn root(&self) -> Root {
-        self.hash_tree_root()
-    }
+    ghost composite = { refl };
 }

@@ -1,13 +1,14 @@
 //! Which fork a state is in.
 
-ghost use Rattle.std.specs.Prelude.{◌≡◌, map};
-ghost use Rattle.ssz_codec.specs.Reads.{Gives};
-ghost use Rattle.beacon_types.specs.Containers.{fork_row, fork_codec};
-ghost use Rattle.beacon_types.specs.Laws.{fork_lawful};
+ghost use Rattle.std.specs.Prelude.{◌≡◌, refl};
+ghost use Rattle.beacon_types.specs.Containers.{fork_codec};
+ghost use Rattle.beacon_types.specs.laws.Containers.{fork_lawful, fork_fixed};
 
 use bc_words::NoMemory;
-use hash_tree::{Leaf, Root, merkle};
-use ssz_codec::{Field, Ssz, SszFault, Writer, cut};
+use hash_tree::{Leaf, Root};
+use ssz_codec::{
+    Field, FixedSsz, Ssz, SszFault, Writer, read_container, root_of_container, write_container,
+};
 use std::alloc::Global;
 
 /// The versions of the fork (beacon-chain.md, "Fork").
@@ -21,61 +22,45 @@ pub struct Fork {
     pub epoch: u64,
 }
 
-impl Fork {
-    /// The container of these parts.
-    #[tactic(auto, unfolding(crate::specs::Containers::fork_row))]
-    fn from_parts(alloc: Global, parts: &[&[u8]]) -> Result<Fork, SszFault>
-        ensures { Gives result (fork_row.parse (map (λ part. part.now) parts.now)) }
-    {
-        match parts {
-            [previous_version, current_version, epoch] => Ok(Fork {
-                previous_version: <[u8; 4]>::parse(alloc, previous_version)?,
-                current_version: <[u8; 4]>::parse(alloc, current_version)?,
-                epoch: u64::parse(alloc, epoch)?,
-            }),
-            _ => Err(SszFault::NotAWriting),
-        }
+impl Leaf for Fork {
+    ghost root_of = { fork_codec.hash_tree_root };
+
+    fn root(&self) -> Root {
+        root_of_container!(self, previous_version, current_version, epoch)
     }
 }
 
 impl Ssz for Fork {
     ghost codec = { fork_codec };
 
-    #[tactic(auto, unfolding(crate::specs::Containers::fork_codec, crate::specs::Containers::fork_row))]
+    fn field() -> Field {
+        Field::Fixed(16)
+    }
+
     fn parse(alloc: Global, bytes: &[u8]) -> Result<Fork, SszFault> {
-        let fields = [Field::Fixed(4), Field::Fixed(4), Field::Fixed(8)];
-        let mut parts = [bytes; 3];
-        cut(bytes, &fields, &mut parts)?;
-        Fork::from_parts(alloc, &parts)
-    }
-
-    #[tactic(auto, unfolding(crate::specs::Containers::fork_codec, crate::specs::Containers::fork_row, ssz_codec::specs::Layout::joined, ssz_codec::specs::Layout::heads, ssz_codec::specs::Layout::bodies))]
-    fn write_to(&self, out: &mut Writer) -> Result<(), NoMemory> {
-        self.previous_version.write_to(out)?;
-        self.current_version.write_to(out)?;
-        self.epoch.write_to(out)?;
-        Ok(())
-    }
-
-    #[tactic(auto, unfolding(crate::specs::Containers::fork_codec, crate::specs::Containers::fork_row))]
-    fn hash_tree_root(&self) -> Root {
-        merkle(
-            &[
-                self.previous_version.hash_tree_root(),
-                self.current_version.hash_tree_root(),
-                self.epoch.hash_tree_root(),
-            ],
-            2,
+        read_container!(
+            alloc,
+            bytes,
+            Fork {
+                previous_version: [u8; 4],
+                current_version: [u8; 4],
+                epoch: u64
+            }
         )
     }
 
+    #[tactic(auto, unfolding(ssz_codec::specs::Layout::joined, ssz_codec::specs::Layout::fixed_parts, ssz_codec::specs::Layout::variable_parts))]
+    fn append_to(&self, out: &mut Writer) -> Result<(), NoMemory> {
+        write_container!(self, out, previous_version, current_version, epoch)
+    }
+
     ghost lawful = { fork_lawful };
+
+    ghost roots = { refl };
 }
 
-impl Leaf for Fork {
-    ghost root_of = { fork_codec.root };
+impl FixedSsz for Fork {
+    ghost is_fixed = { fork_fixed };
 
-    fn root(&self) -> Root {
-        self.hash_tree_root()
-    }
+    ghost composite = { refl };
 }

@@ -1,15 +1,13 @@
 //! An attestation that waits in the state for the end of its epoch.
 
-ghost use Rattle.std.specs.Prelude.{◌≡◌, ◌==◌, ◌≤◌, length, map, slice_get};
-ghost use Rattle.ssz_codec.specs.Reads.{Gives};
-ghost use Rattle.ssz_codec.specs.BitLists.{bit_list_codec};
-ghost use Rattle.beacon_types.specs.Containers.{aggregation_bits_codec, pending_attestation_row, pending_attestation_codec};
-ghost use Rattle.beacon_types.specs.Laws.{aggregation_bits_lawful, pending_attestation_lawful};
+ghost use Rattle.std.specs.Prelude.{◌≡◌, ◌==◌, ◌≤◌, length, slice_get, refl};
+ghost use Rattle.beacon_types.specs.Containers.{aggregation_bits_codec, pending_attestation_codec};
+ghost use Rattle.beacon_types.specs.laws.Containers.{aggregation_bits_lawful, pending_attestation_lawful};
 
 use crate::attestation_data::AttestationData;
 use bc_words::NoMemory;
-use hash_tree::{Leaf, Root, merkle};
-use ssz_codec::{BitList, Field, Ssz, SszFault, Writer, cut};
+use hash_tree::{Leaf, Root};
+use ssz_codec::{BitList, Field, Ssz, SszFault, Writer, read_container, root_of_container};
 use std::alloc::Global;
 use std::marker::Model;
 
@@ -61,34 +59,41 @@ impl AggregationBits {
         self.bits.is_empty()
     }
 
-    /// The bit at a place. None exactly where the place is not below the length.
-    pub fn get(&self, place: u64) -> Option<bool>
-        ensures { result ≡ slice_get self.now place }
+    /// The bit at an index. None exactly where the index is not below the length.
+    pub fn get(&self, index: u64) -> Option<bool>
+        ensures { result ≡ slice_get self.now index }
     {
-        self.bits.get(place)
+        self.bits.get(index)
+    }
+}
+
+impl Leaf for AggregationBits {
+    ghost root_of = { aggregation_bits_codec.hash_tree_root };
+
+    fn root(&self) -> Root {
+        self.bits.root(2048)
     }
 }
 
 impl Ssz for AggregationBits {
     ghost codec = { aggregation_bits_codec };
 
-    #[tactic(auto, unfolding(crate::specs::Containers::aggregation_bits_codec))]
+    fn field() -> Field {
+        Field::Variable
+    }
+
     fn parse(alloc: Global, bytes: &[u8]) -> Result<AggregationBits, SszFault> {
         let bits = BitList::read(alloc, bytes, 2048)?;
         Ok(AggregationBits { bits })
     }
 
-    #[tactic(auto, unfolding(crate::specs::Containers::aggregation_bits_codec))]
-    fn write_to(&self, out: &mut Writer) -> Result<(), NoMemory> {
+    fn append_to(&self, out: &mut Writer) -> Result<(), NoMemory> {
         self.bits.write_to(out)
     }
 
-    #[tactic(auto, unfolding(crate::specs::Containers::aggregation_bits_codec))]
-    fn hash_tree_root(&self) -> Root {
-        self.bits.root(3)
-    }
-
     ghost lawful = { aggregation_bits_lawful };
+
+    ghost roots = { refl };
 }
 
 /// An attestation that a block brought (beacon-chain.md, "PendingAttestation").
@@ -104,44 +109,42 @@ pub struct PendingAttestation {
     pub proposer_index: u64,
 }
 
-impl PendingAttestation {
-    /// The container of these parts.
-    #[tactic(auto, unfolding(crate::specs::Containers::pending_attestation_row))]
-    fn from_parts(alloc: Global, parts: &[&[u8]]) -> Result<PendingAttestation, SszFault>
-        ensures { Gives result (pending_attestation_row.parse (map (λ part. part.now) parts.now)) }
-    {
-        match parts {
-            [aggregation_bits, content, inclusion_delay, proposer_index] => Ok(
-                PendingAttestation {
-                    aggregation_bits: AggregationBits::parse(alloc, aggregation_bits)?,
-                    content: AttestationData::parse(alloc, content)?,
-                    inclusion_delay: u64::parse(alloc, inclusion_delay)?,
-                    proposer_index: u64::parse(alloc, proposer_index)?,
-                },
-            ),
-            _ => Err(SszFault::NotAWriting),
-        }
+impl Leaf for PendingAttestation {
+    ghost root_of = { pending_attestation_codec.hash_tree_root };
+
+    fn root(&self) -> Root {
+        root_of_container!(
+            self,
+            aggregation_bits,
+            content,
+            inclusion_delay,
+            proposer_index
+        )
     }
 }
 
 impl Ssz for PendingAttestation {
     ghost codec = { pending_attestation_codec };
 
-    #[tactic(auto, unfolding(crate::specs::Containers::pending_attestation_codec, crate::specs::Containers::pending_attestation_row))]
-    fn parse(alloc: Global, bytes: &[u8]) -> Result<PendingAttestation, SszFault> {
-        let fields = [
-            Field::Variable,
-            Field::Fixed(128),
-            Field::Fixed(8),
-            Field::Fixed(8),
-        ];
-        let mut parts = [bytes; 4];
-        cut(bytes, &fields, &mut parts)?;
-        PendingAttestation::from_parts(alloc, &parts)
+    fn field() -> Field {
+        Field::Variable
     }
 
-    #[tactic(auto, unfolding(crate::specs::Containers::pending_attestation_codec, crate::specs::Containers::pending_attestation_row, ssz_codec::specs::Layout::joined, ssz_codec::specs::Layout::heads, ssz_codec::specs::Layout::bodies))]
-    fn write_to(&self, out: &mut Writer) -> Result<(), NoMemory> {
+    fn parse(alloc: Global, bytes: &[u8]) -> Result<PendingAttestation, SszFault> {
+        read_container!(
+            alloc,
+            bytes,
+            PendingAttestation {
+                aggregation_bits: AggregationBits,
+                content: AttestationData,
+                inclusion_delay: u64,
+                proposer_index: u64
+            }
+        )
+    }
+
+    #[tactic(auto, unfolding(ssz_codec::specs::Layout::joined, ssz_codec::specs::Layout::fixed_parts, ssz_codec::specs::Layout::variable_parts))]
+    fn append_to(&self, out: &mut Writer) -> Result<(), NoMemory> {
         out.put_u32(148)?;
         self.content.write_to(out)?;
         self.inclusion_delay.write_to(out)?;
@@ -150,26 +153,7 @@ impl Ssz for PendingAttestation {
         Ok(())
     }
 
-    #[tactic(auto, unfolding(crate::specs::Containers::pending_attestation_codec, crate::specs::Containers::pending_attestation_row))]
-    fn hash_tree_root(&self) -> Root {
-        merkle(
-            &[
-                self.aggregation_bits.hash_tree_root(),
-                self.content.hash_tree_root(),
-                self.inclusion_delay.hash_tree_root(),
-                self.proposer_index.hash_tree_root(),
-            ],
-            2,
-        )
-    }
-
     ghost lawful = { pending_attestation_lawful };
-}
 
-impl Leaf for PendingAttestation {
-    ghost root_of = { pending_attestation_codec.root };
-
-    fn root(&self) -> Root {
-        self.hash_tree_root()
-    }
+    ghost roots = { refl };
 }

@@ -44,8 +44,8 @@ fn zero_roots(rt: HostRuntime) {
         epoch: 0,
     };
     assert_eq!(rt; fork.root(), FOUR_ZERO_LEAVES);
-    assert_eq!(rt; [0; 48].hash_tree_root(), TWO_ZERO_LEAVES);
-    assert_eq!(rt; [0; 96].hash_tree_root(), FOUR_ZERO_LEAVES);
+    assert_eq!(rt; [0; 48].root(), TWO_ZERO_LEAVES);
+    assert_eq!(rt; [0; 96].root(), FOUR_ZERO_LEAVES);
     let header = BeaconBlockHeader {
         slot: 0,
         proposer_index: 0,

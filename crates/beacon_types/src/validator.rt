@@ -1,13 +1,14 @@
 //! A validator of the registry.
 
-ghost use Rattle.std.specs.Prelude.{◌≡◌, map};
-ghost use Rattle.ssz_codec.specs.Reads.{Gives};
-ghost use Rattle.beacon_types.specs.Containers.{validator_row, validator_codec};
-ghost use Rattle.beacon_types.specs.Laws.{validator_lawful};
+ghost use Rattle.std.specs.Prelude.{◌≡◌, refl};
+ghost use Rattle.beacon_types.specs.Containers.{validator_codec};
+ghost use Rattle.beacon_types.specs.laws.Containers.{validator_lawful, validator_fixed};
 
 use bc_words::NoMemory;
-use hash_tree::{Leaf, Root, merkle};
-use ssz_codec::{Field, Ssz, SszFault, Writer, cut};
+use hash_tree::{Leaf, Root};
+use ssz_codec::{
+    Field, FixedSsz, Ssz, SszFault, Writer, read_container, root_of_container, write_container,
+};
 use std::alloc::Global;
 
 /// A validator (beacon-chain.md, "Validator").
@@ -31,94 +32,71 @@ pub struct Validator {
     pub withdrawable_epoch: u64,
 }
 
-impl Validator {
-    /// The container of these parts.
-    #[tactic(auto, unfolding(crate::specs::Containers::validator_row))]
-    fn from_parts(alloc: Global, parts: &[&[u8]]) -> Result<Validator, SszFault>
-        ensures { Gives result (validator_row.parse (map (λ part. part.now) parts.now)) }
-    {
-        match parts {
-            [
-                pubkey,
-                withdrawal_credentials,
-                effective_balance,
-                slashed,
-                activation_eligibility_epoch,
-                activation_epoch,
-                exit_epoch,
-                withdrawable_epoch,
-            ] => Ok(Validator {
-                pubkey: <[u8; 48]>::parse(alloc, pubkey)?,
-                withdrawal_credentials: <[u8; 32]>::parse(alloc, withdrawal_credentials)?,
-                effective_balance: u64::parse(alloc, effective_balance)?,
-                slashed: bool::parse(alloc, slashed)?,
-                activation_eligibility_epoch: u64::parse(alloc, activation_eligibility_epoch)?,
-                activation_epoch: u64::parse(alloc, activation_epoch)?,
-                exit_epoch: u64::parse(alloc, exit_epoch)?,
-                withdrawable_epoch: u64::parse(alloc, withdrawable_epoch)?,
-            }),
-            _ => Err(SszFault::NotAWriting),
-        }
+impl Leaf for Validator {
+    ghost root_of = { validator_codec.hash_tree_root };
+
+    fn root(&self) -> Root {
+        root_of_container!(
+            self,
+            pubkey,
+            withdrawal_credentials,
+            effective_balance,
+            slashed,
+            activation_eligibility_epoch,
+            activation_epoch,
+            exit_epoch,
+            withdrawable_epoch
+        )
     }
 }
 
 impl Ssz for Validator {
     ghost codec = { validator_codec };
 
-    #[tactic(auto, unfolding(crate::specs::Containers::validator_codec, crate::specs::Containers::validator_row))]
+    fn field() -> Field {
+        Field::Fixed(121)
+    }
+
     fn parse(alloc: Global, bytes: &[u8]) -> Result<Validator, SszFault> {
-        let fields = [
-            Field::Fixed(48),
-            Field::Fixed(32),
-            Field::Fixed(8),
-            Field::Fixed(1),
-            Field::Fixed(8),
-            Field::Fixed(8),
-            Field::Fixed(8),
-            Field::Fixed(8),
-        ];
-        let mut parts = [bytes; 8];
-        cut(bytes, &fields, &mut parts)?;
-        Validator::from_parts(alloc, &parts)
+        read_container!(
+            alloc,
+            bytes,
+            Validator {
+                pubkey: [u8; 48],
+                withdrawal_credentials: [u8; 32],
+                effective_balance: u64,
+                slashed: bool,
+                activation_eligibility_epoch: u64,
+                activation_epoch: u64,
+                exit_epoch: u64,
+                withdrawable_epoch: u64
+            }
+        )
     }
 
-    #[tactic(auto, unfolding(crate::specs::Containers::validator_codec, crate::specs::Containers::validator_row, ssz_codec::specs::Layout::joined, ssz_codec::specs::Layout::heads, ssz_codec::specs::Layout::bodies))]
-    fn write_to(&self, out: &mut Writer) -> Result<(), NoMemory> {
-        self.pubkey.write_to(out)?;
-        self.withdrawal_credentials.write_to(out)?;
-        self.effective_balance.write_to(out)?;
-        self.slashed.write_to(out)?;
-        self.activation_eligibility_epoch.write_to(out)?;
-        self.activation_epoch.write_to(out)?;
-        self.exit_epoch.write_to(out)?;
-        self.withdrawable_epoch.write_to(out)?;
-        Ok(())
-    }
-
-    #[tactic(auto, unfolding(crate::specs::Containers::validator_codec, crate::specs::Containers::validator_row))]
-    fn hash_tree_root(&self) -> Root {
-        merkle(
-            &[
-                self.pubkey.hash_tree_root(),
-                self.withdrawal_credentials.hash_tree_root(),
-                self.effective_balance.hash_tree_root(),
-                self.slashed.hash_tree_root(),
-                self.activation_eligibility_epoch.hash_tree_root(),
-                self.activation_epoch.hash_tree_root(),
-                self.exit_epoch.hash_tree_root(),
-                self.withdrawable_epoch.hash_tree_root(),
-            ],
-            3,
+    #[tactic(auto, unfolding(ssz_codec::specs::Layout::joined, ssz_codec::specs::Layout::fixed_parts, ssz_codec::specs::Layout::variable_parts))]
+    fn append_to(&self, out: &mut Writer) -> Result<(), NoMemory> {
+        write_container!(
+            self,
+            out,
+            pubkey,
+            withdrawal_credentials,
+            effective_balance,
+            slashed,
+            activation_eligibility_epoch,
+            activation_epoch,
+            exit_epoch,
+            withdrawable_epoch
         )
     }
 
     ghost lawful = { validator_lawful };
+
+    ghost roots = { refl };
 }
 
-impl Leaf for Validator {
-    ghost root_of = { validator_codec.root };
+impl FixedSsz for Validator {
+    ghost is_fixed = { validator_fixed };
 
-    fn root(&self) -> Root {
-        self.hash_tree_root()
-    }
+    ghost composite = { refl };
 }

@@ -1,13 +1,14 @@
 //! A validator's wish to leave.
 
-ghost use Rattle.std.specs.Prelude.{◌≡◌, map};
-ghost use Rattle.ssz_codec.specs.Reads.{Gives};
-ghost use Rattle.beacon_types.specs.Containers.{voluntary_exit_row, voluntary_exit_codec};
-ghost use Rattle.beacon_types.specs.Laws.{voluntary_exit_lawful};
+ghost use Rattle.std.specs.Prelude.{◌≡◌, refl};
+ghost use Rattle.beacon_types.specs.Containers.{voluntary_exit_codec};
+ghost use Rattle.beacon_types.specs.laws.Containers.{voluntary_exit_lawful, voluntary_exit_fixed};
 
 use bc_words::NoMemory;
-use hash_tree::{Leaf, Root, merkle};
-use ssz_codec::{Field, Ssz, SszFault, Writer, cut};
+use hash_tree::{Leaf, Root};
+use ssz_codec::{
+    Field, FixedSsz, Ssz, SszFault, Writer, read_container, root_of_container, write_container,
+};
 use std::alloc::Global;
 
 /// A validator that wants to exit (beacon-chain.md, "VoluntaryExit").
@@ -19,58 +20,44 @@ pub struct VoluntaryExit {
     pub validator_index: u64,
 }
 
-impl VoluntaryExit {
-    /// The container of these parts.
-    #[tactic(auto, unfolding(crate::specs::Containers::voluntary_exit_row))]
-    fn from_parts(alloc: Global, parts: &[&[u8]]) -> Result<VoluntaryExit, SszFault>
-        ensures { Gives result (voluntary_exit_row.parse (map (λ part. part.now) parts.now)) }
-    {
-        match parts {
-            [epoch, validator_index] => Ok(VoluntaryExit {
-                epoch: u64::parse(alloc, epoch)?,
-                validator_index: u64::parse(alloc, validator_index)?,
-            }),
-            _ => Err(SszFault::NotAWriting),
-        }
+impl Leaf for VoluntaryExit {
+    ghost root_of = { voluntary_exit_codec.hash_tree_root };
+
+    fn root(&self) -> Root {
+        root_of_container!(self, epoch, validator_index)
     }
 }
 
 impl Ssz for VoluntaryExit {
     ghost codec = { voluntary_exit_codec };
 
-    #[tactic(auto, unfolding(crate::specs::Containers::voluntary_exit_codec, crate::specs::Containers::voluntary_exit_row))]
+    fn field() -> Field {
+        Field::Fixed(16)
+    }
+
     fn parse(alloc: Global, bytes: &[u8]) -> Result<VoluntaryExit, SszFault> {
-        let fields = [Field::Fixed(8), Field::Fixed(8)];
-        let mut parts = [bytes; 2];
-        cut(bytes, &fields, &mut parts)?;
-        VoluntaryExit::from_parts(alloc, &parts)
-    }
-
-    #[tactic(auto, unfolding(crate::specs::Containers::voluntary_exit_codec, crate::specs::Containers::voluntary_exit_row, ssz_codec::specs::Layout::joined, ssz_codec::specs::Layout::heads, ssz_codec::specs::Layout::bodies))]
-    fn write_to(&self, out: &mut Writer) -> Result<(), NoMemory> {
-        self.epoch.write_to(out)?;
-        self.validator_index.write_to(out)?;
-        Ok(())
-    }
-
-    #[tactic(auto, unfolding(crate::specs::Containers::voluntary_exit_codec, crate::specs::Containers::voluntary_exit_row))]
-    fn hash_tree_root(&self) -> Root {
-        merkle(
-            &[
-                self.epoch.hash_tree_root(),
-                self.validator_index.hash_tree_root(),
-            ],
-            1,
+        read_container!(
+            alloc,
+            bytes,
+            VoluntaryExit {
+                epoch: u64,
+                validator_index: u64
+            }
         )
     }
 
+    #[tactic(auto, unfolding(ssz_codec::specs::Layout::joined, ssz_codec::specs::Layout::fixed_parts, ssz_codec::specs::Layout::variable_parts))]
+    fn append_to(&self, out: &mut Writer) -> Result<(), NoMemory> {
+        write_container!(self, out, epoch, validator_index)
+    }
+
     ghost lawful = { voluntary_exit_lawful };
+
+    ghost roots = { refl };
 }
 
-impl Leaf for VoluntaryExit {
-    ghost root_of = { voluntary_exit_codec.root };
+impl FixedSsz for VoluntaryExit {
+    ghost is_fixed = { voluntary_exit_fixed };
 
-    fn root(&self) -> Root {
-        self.hash_tree_root()
-    }
+    ghost composite = { refl };
 }

@@ -1,3 +1,4 @@
 pub mod Chunks
+pub mod Depths
 pub mod Halves
 pub mod Zeros

@@ -1,6 +1,6 @@
 -- Merkle trees over chunks of 32 bytes (simple-serialize.md, "Merkleization"). A chunk and a root are lists of
 -- 32 bytes, and a byte is a number below 256.
-use Rattle.std.specs.Prelude.{ℕ, zero, suc, ◌+◌, ◌-◌, ◌*◌, ◌/◌, ◌^◌, List, [], ◌∷◌, ◌++◌, length, take, drop, replicate}
+use Rattle.std.specs.Prelude.{ℕ, zero, suc, ◌+◌, ◌-◌, ◌*◌, ◌/◌, ◌^◌, Bool, cond, List, [], ◌∷◌, ◌++◌, length, take, drop, replicate, nat_lt, if◌then◌else◌}
 use Rattle.std.specs.List.{flat_map}
 use Rattle.std.specs.Int.{w64, to_le_bytes}
 use Rattle.sha2.specs.Sha256.{sha256}
@@ -13,13 +13,26 @@ hash bytes = sha256 bytes
 unfoldable pub zero_chunk : List ℕ
 zero_chunk = replicate 32 0
 
--- merkleize: the root of the chunks in a tree of this depth, that is with 2 ^ depth leaves, where a leaf that
--- no chunk fills is the zero chunk
+-- the root of the chunks in a tree of this depth, that is with 2 ^ depth leaves, where a leaf that no chunk fills is
+-- the zero chunk
 unfoldable pub merkle_root : ℕ → List (List ℕ) → List ℕ
 merkle_root zero [] = zero_chunk
 merkle_root zero (chunk ∷ chunks) = chunk
 merkle_root (suc depth) chunks =
     hash (merkle_root depth (take (2 ^ depth) chunks) ++ merkle_root depth (drop (2 ^ depth) chunks))
+
+-- the least depth from d on whose tree has that many leaves, within so many steps
+unfoldable pub depth_from : ℕ → ℕ → ℕ → ℕ
+depth_from zero d leaves = d
+depth_from (suc steps) d leaves = if nat_lt (2 ^ d) leaves then depth_from steps (d + 1) leaves else d
+
+-- the depth of the tree whose number of leaves is the next power of two of the limit, for limits up to 2 ^ 40
+unfoldable pub depth_of : ℕ → ℕ
+depth_of limit = depth_from 40 0 limit
+
+-- merkleize(chunks, limit): the root of at most so many chunks
+unfoldable pub merkleize : List (List ℕ) → ℕ → List ℕ
+merkleize chunks limit = merkle_root (depth_of limit) chunks
 
 -- the bytes of one chunk, filled up with zeros
 unfoldable pub padded_chunk : List ℕ → List ℕ
@@ -38,13 +51,30 @@ u64_bytes n = to_le_bytes w64 n
 unfoldable pub u64s_bytes : List ℕ → List ℕ
 u64s_bytes numbers = flat_map u64_bytes numbers
 
+-- chunk_count: how many chunks so many bytes need
+abbrev pub chunk_count : ℕ → ℕ
+chunk_count bytes = (bytes + 31) / 32
+
+-- and how many so many bits need (chunk_count of Bitlist and Bitvector)
+abbrev pub bit_chunk_count : ℕ → ℕ
+bit_chunk_count bits = (bits + 255) / 256
+
 -- pack, for as many chunks as the bytes need
 abbrev pub byte_chunks : List ℕ → List (List ℕ)
-byte_chunks bytes = chunks_of ((length bytes + 31) / 32) bytes
+byte_chunks bytes = chunks_of (chunk_count (length bytes)) bytes
+
+-- pack_bits: the number whose binary digits these are, the lowest first
+abbrev pub bits_number : List Bool → ℕ
+bits_number [] = 0
+bits_number (b ∷ bs) = cond b 1 0 + 2 * bits_number bs
+
+-- a boolean in one byte
+abbrev pub bool_bytes : Bool → List ℕ
+bool_bytes b = cond b 1 0 ∷ []
 
 -- pack of numbers of 64 bits, four to a chunk
 abbrev pub u64_chunks : List ℕ → List (List ℕ)
-u64_chunks numbers = chunks_of ((8 * length numbers + 31) / 32) (u64s_bytes numbers)
+u64_chunks numbers = byte_chunks (u64s_bytes numbers)
 
 -- a length as 32 bytes, low byte first
 unfoldable pub length_chunk : ℕ → List ℕ

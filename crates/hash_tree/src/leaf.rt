@@ -1,19 +1,39 @@
-//! Values that have a root, as the items of lists and vectors do.
+//! Values that have a root, as the items of lists and vectors and the fields of containers do.
 //!
-//! The containers above implement `Leaf`; `rows` and shared trees take their roots.
+//! Basic values have theirs here; the containers above implement `Leaf` too, and `rows` and shared trees take the roots.
 
-ghost use Rattle.std.specs.Prelude.{◌≡◌, ℕ, List};
+ghost use Rattle.std.specs.Prelude.{◌≡◌, ℕ, List, [], ◌∷◌};
+ghost use Rattle.hash_tree.specs.Merkle.{padded_chunk, u64_bytes, bool_bytes, bits_number, byte_chunks, chunk_count, bit_chunk_count, merkleize};
 
 use crate::Root;
+use crate::pair::chunk_root;
+use crate::roots::bytes_root;
 
 /// A value that has a root (simple-serialize.md, "Merkleization").
 pub trait Leaf {
     /// The root by shape of what the value stands for.
     ghost root_of: { Self → List ℕ };
 
-    /// The root of the value.
+    /// The root of the value. It takes no memory.
     fn root(&self) -> Root
         ensures { result ≡ root_of self.now };
+}
+
+impl Leaf for u64 {
+    ghost root_of = { λ n. padded_chunk (u64_bytes n) };
+
+    #[tactic(auto, unfolding(crate::specs::Merkle::u64_bytes))]
+    fn root(&self) -> Root {
+        chunk_root(&self.to_le_bytes())
+    }
+}
+
+impl Leaf for bool {
+    ghost root_of = { λ b. padded_chunk (bool_bytes b) };
+
+    fn root(&self) -> Root {
+        chunk_root(&[u8::from(*self)])
+    }
 }
 
 impl Leaf for Root {
@@ -21,5 +41,45 @@ impl Leaf for Root {
 
     fn root(&self) -> Root {
         *self
+    }
+}
+
+impl Leaf for [u8; 4] {
+    ghost root_of = { λ bytes. merkleize (byte_chunks bytes) (chunk_count 4) };
+
+    fn root(&self) -> Root {
+        bytes_root(self)
+    }
+}
+
+impl Leaf for [u8; 48] {
+    ghost root_of = { λ bytes. merkleize (byte_chunks bytes) (chunk_count 48) };
+
+    fn root(&self) -> Root {
+        bytes_root(self)
+    }
+}
+
+impl Leaf for [u8; 96] {
+    ghost root_of = { λ bytes. merkleize (byte_chunks bytes) (chunk_count 96) };
+
+    fn root(&self) -> Root {
+        bytes_root(self)
+    }
+}
+
+/// The byte of four bits, the lowest first (simple-serialize.md, "Bitvector[N]").
+pub fn bits_byte(bits: &[bool; 4]) -> u8
+    ensures { result ≡ bits_number bits.now }
+{
+    let [a, b, c, d] = *bits;
+    u8::from(a) + 2 * (u8::from(b) + 2 * (u8::from(c) + 2 * u8::from(d)))
+}
+
+impl Leaf for [bool; 4] {
+    ghost root_of = { λ bits. merkleize (byte_chunks (bits_number bits ∷ [])) (bit_chunk_count 4) };
+
+    fn root(&self) -> Root {
+        bytes_root(&[bits_byte(self)])
     }
 }

@@ -4,6 +4,7 @@
 //! memory.
 #![tactic(auto)]
 
+mod depth;
 mod leaf;
 mod pair;
 mod roots;
@@ -11,9 +12,10 @@ mod rows;
 mod tree;
 mod zero;
 
-pub use leaf::Leaf;
+pub use depth::depth_of;
+pub use leaf::{Leaf, bits_byte};
 pub use pair::{chunk_root, hash_pair, mix_in_length};
-pub use roots::{merkle, merkle_bytes, merkle_leaves, merkle_u64};
+pub use roots::{bytes_root, fields_root, merkle, merkle_bytes, merkle_leaves, merkle_u64};
 pub use zero::zero_hash;
 
 /// A chunk, or the root of a tree of chunks (simple-serialize.md, "Merkleization").

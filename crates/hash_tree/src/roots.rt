@@ -3,9 +3,10 @@
 //! Slices come from the containers and lists above, which mix in lengths themselves. Nothing is copied.
 
 ghost use Rattle.std.specs.Prelude.{◌≡◌, ◌+◌, ◌/◌, ◌^◌, ◌≤◌, length, map};
-ghost use Rattle.hash_tree.specs.Merkle.{merkle_root, byte_chunks, u64_chunks};
+ghost use Rattle.hash_tree.specs.Merkle.{merkle_root, merkleize, chunk_count, byte_chunks, u64_chunks};
 
 use crate::Root;
+use crate::depth::depth_of;
 use crate::leaf::Leaf;
 use crate::rows::{ByteRow, LeafRow, NumberRow};
 use crate::tree::merkle_of;
@@ -49,4 +50,23 @@ pub fn merkle_u64(numbers: &[u64], depth: u32) -> Root
 {
     let row = NumberRow { numbers };
     merkle_of(&row, depth)
+}
+
+/// The root of a container from the roots of its fields, in the tree over as many leaves as it has fields
+/// (simple-serialize.md, "Merkleization").
+#[tactic(auto, unfolding(crate::specs::Merkle::merkleize))]
+pub fn fields_root(roots: &[Root]) -> Root
+    requires few { length roots.now ≤ 2 ^ 40 }
+    ensures { result ≡ merkleize roots.now (length roots.now) }
+{
+    merkle(roots, depth_of(roots.len() as u64))
+}
+
+/// The root of bytes, packed into as many chunks as they need (simple-serialize.md, "Merkleization": a vector of bytes).
+#[tactic(auto, unfolding(crate::specs::Merkle::merkleize))]
+pub fn bytes_root(bytes: &[u8]) -> Root
+    requires few { length bytes.now ≤ 2 ^ 40 }
+    ensures { result ≡ merkleize (byte_chunks bytes.now) (chunk_count (length bytes.now)) }
+{
+    merkle_bytes(bytes, depth_of(bytes.len().div_ceil(32) as u64))
 }

@@ -35,7 +35,7 @@ unfolding state_codec
 row_is_state p s preset within = within_is_state p s preset within.0
 
 -- what is read as a state of the preset is one
-pub read_is_state : (p : Preset) (bytes : List ℕ) (s : PlainState) → IsPreset p → IsBytes bytes → (state_codec p).parse bytes ≡ Some s → IsState s
+pub read_is_state : (p : Preset) (bytes : List ℕ) (s : PlainState) → IsPreset p → IsBytes bytes → (state_codec p).deserialize bytes ≡ Some s → IsState s
 read_is_state p bytes s preset fits e = row_is_state p s preset ((state_lawful p).sound bytes s fits e).0
 
 within_in_range : (p : Preset) (s : PlainState) → (state_row p).Within s → IsInRange s
@@ -76,7 +76,7 @@ unfolding state_codec
 codec_in_range p s within = within_in_range p s within.0
 
 -- what is read as a state is in range
-pub read_is_in_range : (p : Preset) (bytes : List ℕ) (s : PlainState) → IsBytes bytes → (state_codec p).parse bytes ≡ Some s → IsInRange s
+pub read_is_in_range : (p : Preset) (bytes : List ℕ) (s : PlainState) → IsBytes bytes → (state_codec p).deserialize bytes ≡ Some s → IsInRange s
 read_is_in_range p bytes s fits e = codec_in_range p s ((state_lawful p).sound bytes s fits e).0
 
 -- a state of a preset that is in range, and whose offsets fit, is one that the codec has

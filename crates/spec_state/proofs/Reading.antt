@@ -1,7 +1,7 @@
 -- Reading a state is reading its groups.
 use Rattle.std.proofs.Common.{◌≡◌, ℕ, List, length, take, drop, Option, Some, None, refl, ap, ◌∙◌}
-use Rattle.ssz_codec.specs.Layout.{◌>>=◌}
-use Rattle.ssz_codec.specs.Codec.{pair}
+use Rattle.ssz_codec.specs.Layout.{◌and_then◌}
+use Rattle.ssz_codec.specs.Containers.{pair}
 use Rattle.bc_preset.specs.declared.presets.Preset.{Preset}
 use Rattle.spec_state.specs.declared.plain.PlainState.{PlainState}
 use Rattle.spec_state.specs.declared.parts.Clock.{Clock}
@@ -14,15 +14,15 @@ use Rattle.spec_state.specs.States.{clock_row, history_row, eth1_row, registry_r
 
 abbrev paired : Option Clock → Option History → Option Eth1 → Option Registry → Option Pending → Option Finality → Option Groups
 paired a b c d e f =
-    a >>= λ clock. (b >>= λ history. (c >>= λ eth1. (d >>= λ registry. (e >>= λ pending. f >>= λ finality. Some (pair pending finality))
-    >>= λ v. Some (pair registry v)) >>= λ v. Some (pair eth1 v)) >>= λ v. Some (pair history v)) >>= λ v. Some (pair clock v)
+    a and_then λ clock. (b and_then λ history. (c and_then λ eth1. (d and_then λ registry. (e and_then λ pending. f and_then λ finality. Some (pair pending finality))
+    and_then λ v. Some (pair registry v)) and_then λ v. Some (pair eth1 v)) and_then λ v. Some (pair history v)) and_then λ v. Some (pair clock v)
 
 abbrev all_of : Preset → Option Clock → Option History → Option Eth1 → Option Registry → Option Pending → Option Finality → Option PlainState
 all_of p a b c d e f =
-    a >>= λ clock. b >>= λ history. c >>= λ eth1. d >>= λ registry. e >>= λ pending. f >>= λ finality. Some (state_of p clock history eth1 registry pending finality)
+    a and_then λ clock. b and_then λ history. c and_then λ eth1. d and_then λ registry. e and_then λ pending. f and_then λ finality. Some (state_of p clock history eth1 registry pending finality)
 
 regroup : (p : Preset) (a : Option Clock) (b : Option History) (c : Option Eth1) (d : Option Registry) (e : Option Pending) (f : Option Finality)
-    → (paired a b c d e f >>= λ v. Some (state_of p v.first v.rest.first v.rest.rest.first v.rest.rest.rest.first v.rest.rest.rest.rest.first v.rest.rest.rest.rest.rest)) ≡ all_of p a b c d e f
+    → (paired a b c d e f and_then λ v. Some (state_of p v.first v.rest.first v.rest.rest.first v.rest.rest.rest.first v.rest.rest.rest.rest.first v.rest.rest.rest.rest.rest)) ≡ all_of p a b c d e f
 regroup p None b c d e f = refl
 regroup p (Some clock) None c d e f = refl
 regroup p (Some clock) (Some history) None d e f = refl
@@ -54,11 +54,11 @@ pending_len p = refl
 -- the groups, where each takes so many parts
 abbrev split : Preset → List (List ℕ) → ℕ → ℕ → ℕ → ℕ → ℕ → Option PlainState
 split p parts i j k l m =
-    all_of p (clock_row.parse (take i parts)) ((history_row p).parse (take j (drop i parts))) ((eth1_row p).parse (take k (drop j (drop i parts))))
-    ((registry_row p).parse (take l (drop k (drop j (drop i parts))))) ((pending_row p).parse (take m (drop l (drop k (drop j (drop i parts))))))
-    (finality_row.parse (drop m (drop l (drop k (drop j (drop i parts))))))
+    all_of p (clock_row.deserialize (take i parts)) ((history_row p).deserialize (take j (drop i parts))) ((eth1_row p).deserialize (take k (drop j (drop i parts))))
+    ((registry_row p).deserialize (take l (drop k (drop j (drop i parts))))) ((pending_row p).deserialize (take m (drop l (drop k (drop j (drop i parts))))))
+    (finality_row.deserialize (drop m (drop l (drop k (drop j (drop i parts))))))
 
-pub groups_are_read : (p : Preset) (parts : List (List ℕ)) → (state_row p).parse parts ≡ parse_groups p (take 5 parts) (take 3 (drop 5 parts)) (take 3 (drop 3 (drop 5 parts)))
+pub groups_are_read : (p : Preset) (parts : List (List ℕ)) → (state_row p).deserialize parts ≡ parse_groups p (take 5 parts) (take 3 (drop 5 parts)) (take 3 (drop 3 (drop 5 parts)))
     (take 4 (drop 3 (drop 3 (drop 5 parts)))) (take 2 (drop 4 (drop 3 (drop 3 (drop 5 parts))))) (drop 2 (drop 4 (drop 3 (drop 3 (drop 5 parts)))))
 unfolding state_row parse_groups
 groups_are_read p parts =
@@ -67,9 +67,9 @@ groups_are_read p parts =
     let k = length (eth1_row p).fields in
     let l = length (registry_row p).fields in
     let m = length (pending_row p).fields in
-    regroup p (clock_row.parse (take i parts)) ((history_row p).parse (take j (drop i parts))) ((eth1_row p).parse (take k (drop j (drop i parts))))
-    ((registry_row p).parse (take l (drop k (drop j (drop i parts))))) ((pending_row p).parse (take m (drop l (drop k (drop j (drop i parts))))))
-    (finality_row.parse (drop m (drop l (drop k (drop j (drop i parts))))))
+    regroup p (clock_row.deserialize (take i parts)) ((history_row p).deserialize (take j (drop i parts))) ((eth1_row p).deserialize (take k (drop j (drop i parts))))
+    ((registry_row p).deserialize (take l (drop k (drop j (drop i parts))))) ((pending_row p).deserialize (take m (drop l (drop k (drop j (drop i parts))))))
+    (finality_row.deserialize (drop m (drop l (drop k (drop j (drop i parts))))))
     ∙ ap (λ n. split p parts n j k l m) clock_len
     ∙ ap (λ n. split p parts 5 n k l m) (history_len p)
     ∙ ap (λ n. split p parts 5 3 n l m) (eth1_len p)

@@ -33,7 +33,7 @@ empty_list_root depth = mix_in_length (merkle_root depth []) 0
 -- of its lists are 16, 2, 128, 16 and 16).
 unfoldable pub empty_body_root : List ℕ
 empty_body_root =
-    merkle_root 3 (merkle_root 2 (byte_chunks (replicate 96 0)) ∷ eth1_data_codec.root zero_eth1_data ∷ zero_root
+    merkle_root 3 (merkle_root 2 (byte_chunks (replicate 96 0)) ∷ eth1_data_codec.hash_tree_root zero_eth1_data ∷ zero_root
     ∷ empty_list_root 4 ∷ empty_list_root 1 ∷ empty_list_root 7 ∷ empty_list_root 4 ∷ empty_list_root 4 ∷ [])
 
 -- the two roots are equal
@@ -43,12 +43,12 @@ same_root a b = pointwise nat_eq a b
 -- the header with the state's root, as it is once the slot is over
 unfoldable pub block_header_of : PlainState → BeaconBlockHeader
 block_header_of s =
-    if same_root s.latest_block_header.state_root zero_root then record s.latest_block_header { state_root = (state_codec s.preset).root s }
+    if same_root s.latest_block_header.state_root zero_root then record s.latest_block_header { state_root = (state_codec s.preset).hash_tree_root s }
     else s.latest_block_header
 
 -- The root of the latest block: that of its header, whose zero state root is replaced by the state's root.
 unfoldable pub header_root_of : PlainState → List ℕ
-header_root_of s = block_header_codec.root (block_header_of s)
+header_root_of s = block_header_codec.hash_tree_root (block_header_of s)
 
 -- the header of an empty block of slot 0
 abbrev pub is_genesis_header : BeaconBlockHeader → Bool
@@ -102,4 +102,4 @@ checked_genesis (Some s) = sound_genesis s (genesis_fault s)
 
 -- The genesis state that a file of this many bytes at most holds, or the first part of the file that is wrong.
 unfoldable pub genesis_of : Preset → List ℕ → Result PlainState GenesisFault
-genesis_of preset bytes = if nat_lt max_genesis_len (length bytes) then Err parts.TooLong else checked_genesis ((state_codec preset).parse bytes)
+genesis_of preset bytes = if nat_lt max_genesis_len (length bytes) then Err parts.TooLong else checked_genesis ((state_codec preset).deserialize bytes)

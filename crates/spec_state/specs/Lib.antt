@@ -2,7 +2,6 @@ pub mod Constants
 pub mod Predicates
 pub mod Misc
 pub mod Accessors
-pub mod Heights
 pub mod States
 pub mod Limits
 pub mod Genesis

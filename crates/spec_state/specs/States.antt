@@ -1,11 +1,12 @@
 -- The codec of the state of a preset (beacon-chain.md, "BeaconState"): its 21 fields in their order, in six rows of
 -- neighbours.
 use Rattle.std.specs.Prelude.{◌≡◌, ℕ, ◌*◌, List, Option, Some}
-use Rattle.hash_tree.specs.Merkle.{u64_chunks}
-use Rattle.ssz_codec.specs.Layout.{◌>>=◌}
-use Rattle.ssz_codec.specs.Codec.{Codec, Row, ◌&◌, ◌⊕◌, ◌⊗◌, pair, only, map_row, map_row_where, container, sized}
-use Rattle.ssz_codec.specs.Basic.{number_codec, bytes32_codec, bit_vector_codec}
-use Rattle.ssz_codec.specs.Lists.{vector_codec, list_codec, variable_list_codec, root_leaves}
+use Rattle.ssz_codec.specs.Layout.{◌and_then◌}
+use Rattle.ssz_codec.specs.Codec.{Codec}
+use Rattle.ssz_codec.specs.Containers.{◌⊗◌, pair}
+use Rattle.ssz_codec.specs.Rows.{Row, ◌&◌, ◌⊕◌, only, map_row, map_row_where, container}
+use Rattle.ssz_codec.specs.Basic.{uint64, bytes32, bitvector}
+use Rattle.ssz_codec.specs.Lists.{vector_codec, list_codec, variable_list_codec}
 use Rattle.bc_preset.specs.declared.presets.Preset.{Preset}
 use Rattle.beacon_types.specs.Containers.{fork_codec, checkpoint_codec, validator_codec, eth1_data_codec, block_header_codec, pending_attestation_codec}
 use Rattle.spec_state.specs.declared.plain.PlainState.{PlainState}
@@ -15,7 +16,6 @@ use Rattle.spec_state.specs.declared.parts.Eth1.{Eth1}
 use Rattle.spec_state.specs.declared.parts.Registry.{Registry}
 use Rattle.spec_state.specs.declared.parts.Pending.{Pending}
 use Rattle.spec_state.specs.declared.parts.Finality.{Finality}
-use Rattle.spec_state.specs.Heights.{height, number_leaves}
 
 -- limits of the lists of votes and of pending attestations
 abbrev pub votes_limit : Preset → ℕ
@@ -26,51 +26,51 @@ attestations_limit p = p.max_attestations * p.slots_per_epoch
 
 -- Vector[Root, N]
 abbrev pub roots_codec : ℕ → Codec (List (List ℕ))
-roots_codec count = vector_codec bytes32_codec count (root_leaves bytes32_codec) (height count)
+roots_codec count = vector_codec bytes32 count
 
 -- genesis_time, genesis_validators_root, slot, fork, latest_block_header
 unfoldable pub clock_row : Row Clock
 clock_row =
-    map_row (number_codec & bytes32_codec & number_codec & sized 16 fork_codec & only (sized 112 block_header_codec))
+    map_row (uint64 & bytes32 & uint64 & fork_codec & only block_header_codec)
     (λ v. record { genesis_time = v.first; genesis_validators_root = v.rest.first; slot = v.rest.rest.first; fork = v.rest.rest.rest.first; latest_block_header = v.rest.rest.rest.rest })
     (λ v. pair v.genesis_time (pair v.genesis_validators_root (pair v.slot (pair v.fork v.latest_block_header))))
 
 -- block_roots, state_roots, historical_roots
 unfoldable pub history_row : Preset → Row History
 history_row p =
-    map_row (roots_codec p.slots_per_historical_root & roots_codec p.slots_per_historical_root & only (list_codec bytes32_codec p.historical_roots_limit (root_leaves bytes32_codec) (height p.historical_roots_limit)))
+    map_row (roots_codec p.slots_per_historical_root & roots_codec p.slots_per_historical_root & only (list_codec bytes32 p.historical_roots_limit))
     (λ v. record { block_roots = v.first; state_roots = v.rest.first; historical_roots = v.rest.rest })
     (λ v. pair v.block_roots (pair v.state_roots v.historical_roots))
 
 -- eth1_data, eth1_data_votes, eth1_deposit_index
 unfoldable pub eth1_row : Preset → Row Eth1
 eth1_row p =
-    map_row (sized 72 eth1_data_codec & list_codec (sized 72 eth1_data_codec) (votes_limit p) (root_leaves eth1_data_codec) (height (votes_limit p)) & only number_codec)
+    map_row (eth1_data_codec & list_codec eth1_data_codec (votes_limit p) & only uint64)
     (λ v. record { eth1_data = v.first; eth1_data_votes = v.rest.first; eth1_deposit_index = v.rest.rest })
     (λ v. pair v.eth1_data (pair v.eth1_data_votes v.eth1_deposit_index))
 
 -- validators, balances, randao_mixes, slashings
 unfoldable pub registry_row : Preset → Row Registry
 registry_row p =
-    map_row (list_codec (sized 121 validator_codec) p.validator_registry_limit (root_leaves validator_codec) (height p.validator_registry_limit)
-    & list_codec number_codec p.validator_registry_limit u64_chunks (height (number_leaves p.validator_registry_limit))
+    map_row (list_codec validator_codec p.validator_registry_limit
+    & list_codec uint64 p.validator_registry_limit
     & roots_codec p.epochs_per_historical_vector
-    & only (vector_codec number_codec p.epochs_per_slashings_vector u64_chunks (height (number_leaves p.epochs_per_slashings_vector))))
+    & only (vector_codec uint64 p.epochs_per_slashings_vector))
     (λ v. record { validators = v.first; balances = v.rest.first; randao_mixes = v.rest.rest.first; slashings = v.rest.rest.rest })
     (λ v. pair v.validators (pair v.balances (pair v.randao_mixes v.slashings)))
 
 -- previous_epoch_attestations, current_epoch_attestations
 unfoldable pub pending_row : Preset → Row Pending
 pending_row p =
-    map_row (variable_list_codec pending_attestation_codec (attestations_limit p) (height (attestations_limit p))
-    & only (variable_list_codec pending_attestation_codec (attestations_limit p) (height (attestations_limit p))))
+    map_row (variable_list_codec pending_attestation_codec (attestations_limit p)
+    & only (variable_list_codec pending_attestation_codec (attestations_limit p)))
     (λ v. record { previous_epoch_attestations = v.first; current_epoch_attestations = v.rest })
     (λ v. pair v.previous_epoch_attestations v.current_epoch_attestations)
 
 -- justification_bits, previous_justified_checkpoint, current_justified_checkpoint, finalized_checkpoint
 unfoldable pub finality_row : Row Finality
 finality_row =
-    map_row (bit_vector_codec 4 & sized 40 checkpoint_codec & sized 40 checkpoint_codec & only (sized 40 checkpoint_codec))
+    map_row (bitvector 4 & checkpoint_codec & checkpoint_codec & only checkpoint_codec)
     (λ v. record { justification_bits = v.first; previous_justified_checkpoint = v.rest.first; current_justified_checkpoint = v.rest.rest.first; finalized_checkpoint = v.rest.rest.rest })
     (λ v. pair v.justification_bits (pair v.previous_justified_checkpoint (pair v.current_justified_checkpoint v.finalized_checkpoint)))
 
@@ -133,11 +133,11 @@ state_row p =
     groups_of
 
 unfoldable pub state_codec : Preset → Codec PlainState
-state_codec p = container 5 (state_row p)
+state_codec p = container (state_row p)
 
 -- reading the groups, one after another, each from its own parts
 unfoldable pub parse_groups : Preset → List (List ℕ) → List (List ℕ) → List (List ℕ) → List (List ℕ) → List (List ℕ) → List (List ℕ) → Option PlainState
 parse_groups p a b c d e f =
-    clock_row.parse a >>= λ clock. (history_row p).parse b >>= λ history. (eth1_row p).parse c >>= λ eth1.
-    (registry_row p).parse d >>= λ registry. (pending_row p).parse e >>= λ pending. finality_row.parse f >>= λ finality.
+    clock_row.deserialize a and_then λ clock. (history_row p).deserialize b and_then λ history. (eth1_row p).deserialize c and_then λ eth1.
+    (registry_row p).deserialize d and_then λ registry. (pending_row p).deserialize e and_then λ pending. finality_row.deserialize f and_then λ finality.
     Some (state_of p clock history eth1 registry pending finality)

@@ -7,13 +7,14 @@ use Rattle.std.proofs.Math.Seq.{take-append-add}
 use Rattle.std.proofs.lemmas.Grind.{and_numeral, flat_map-append, one_shifted}
 use Rattle.std.proofs.lemmas.Option.{slice_get-get_or}
 use Rattle.std.proofs.lemmas.List.{take_all, take-append-drop, length-append, length-take-le, length-drop, get_or_append_left, get_or-append_right, get_or-take, get_or_default, append-nil}
-use Rattle.ssz_codec.specs.Basic.{bits_number, number_bits}
-use Rattle.ssz_codec.specs.BitLists.{bits_bytes, bit_list_writing}
-use Rattle.ssz_codec.specs.HeldBits.{held_bits, IsHeld}
+use Rattle.ssz_codec.specs.Basic.{number_bits}
+use Rattle.hash_tree.specs.Merkle.{bits_number}
+use Rattle.ssz_codec.specs.BitLists.{bits_bytes, bit_list_bytes}
+use Rattle.ssz_codec.specs.inside.HeldBits.{held_bits, IsHeld}
 use Rattle.ssz_codec.specs.declared.bit_list.BitList.TheInside.{Inside}
 use Rattle.ssz_codec.specs.Lawful.{IsBytes}
-use Rattle.ssz_codec.specs.BasicLaws.{bits_of_number, number_bits_len, bits_below, pow-step}
-use Rattle.ssz_codec.specs.BitListLaws.{whole_bits, length-whole_bits, bits_bytes_len, bits_bytes_nil, bits_bytes_step, bits_bytes_one, writing_step, writing_one}
+use Rattle.ssz_codec.specs.laws.Basic.{bits_of_number, number_bits_len, bits_below, pow-step}
+use Rattle.ssz_codec.specs.laws.BitLists.{whole_bits, length-whole_bits, bits_bytes_len, bits_bytes_nil, bits_bytes_step, bits_bytes_one, writing_step, writing_one}
 
 -- ---- one bit
 
@@ -100,7 +101,7 @@ bits_number-push : (bits : List Bool) → bits_number (bits ++ true ∷ []) ≡ 
 bits_number-push [] = refl
 bits_number-push (b ∷ bits) = omega (arith, bits_number-push bits, pow-step (length bits))
 
-writing_whole_at : (count : ℕ) (bits : List Bool) → length bits ≡ 8 * count → bit_list_writing bits ≡ bits_bytes bits ++ 1 ∷ []
+writing_whole_at : (count : ℕ) (bits : List Bool) → length bits ≡ 8 * count → bit_list_bytes bits ≡ bits_bytes bits ++ 1 ∷ []
 writing_whole_at zero [] e = writing_one [] (omega arith) ∙ ap (λ (t : List ℕ). t ++ 1 ∷ []) (sym bits_bytes_nil)
 writing_whole_at zero (b ∷ bits) e = absurd (omega arith)
 writing_whole_at (suc count) bits e =
@@ -108,13 +109,13 @@ writing_whole_at (suc count) bits e =
     let more = drop 8 bits in
     let l : length first ≡ 8 = length-take-le 8 bits (omega arith) in
     let split : first ++ more ≡ bits = take-append-drop 8 bits in
-    let ih : bit_list_writing more ≡ bits_bytes more ++ 1 ∷ [] = writing_whole_at count more (omega (arith, length-drop 8 bits)) in
-    ap bit_list_writing (sym split)
+    let ih : bit_list_bytes more ≡ bits_bytes more ++ 1 ∷ [] = writing_whole_at count more (omega (arith, length-drop 8 bits)) in
+    ap bit_list_bytes (sym split)
     ∙ writing_step first more l
     ∙ ap (λ (t : List ℕ). bits_number first ∷ t) ih
     ∙ ap (λ (t : List ℕ). t ++ 1 ∷ []) (sym (bits_bytes_step first more l) ∙ ap bits_bytes split)
 
-pub writing_whole : (bits : List Bool) (bytes : List ℕ) → bits_bytes bits ≡ bytes → length bits % 8 ≡ 0 → bit_list_writing bits ≡ bytes ++ 1 ∷ []
+pub writing_whole : (bits : List Bool) (bytes : List ℕ) → bits_bytes bits ≡ bytes → length bits % 8 ≡ 0 → bit_list_bytes bits ≡ bytes ++ 1 ∷ []
 writing_whole bits bytes h e = writing_whole_at (length bits / 8) bits (omega arith) ∙ ap (λ (t : List ℕ). t ++ 1 ∷ []) h
 
 alone : (x last : ℕ) (front : List ℕ) → x ∷ [] ≡ front ++ last ∷ [] → (front ≡ []) × (x ≡ last)
@@ -122,7 +123,7 @@ alone x last [] h = (refl, cc)
 alone x last (n ∷ front) h = absurd (omega (arith, ap length h, length-append front (last ∷ [])))
 
 abbrev pub EndsIn : List Bool → List ℕ → ℕ → ℕ → Type 0
-EndsIn bits front last k = (last < 2 ^ k) × (bit_list_writing bits ≡ front ++ (last + 2 ^ k) ∷ [])
+EndsIn bits front last k = (last < 2 ^ k) × (bit_list_bytes bits ≡ front ++ (last + 2 ^ k) ∷ [])
 
 last_byte : (k : ℕ) (bits : List Bool) (front : List ℕ) (last : ℕ) → length bits ≡ k → k < 8 → (front ≡ []) × (bits_number bits ≡ last) → EndsIn bits front last k
 last_byte k bits front last e l h =
@@ -150,7 +151,7 @@ writing_part_at (suc count) k bits front last e some l h =
     let w = first_byte (bits_number first) last (bits_bytes more) front (omega (arith, bits_bytes_len more)) (sym (bits_bytes_step first more n) ∙ ap bits_bytes split ∙ h) in
     let ih = writing_part_at count k more w.0 last rest some l w.2 in (
       ih.0,
-      ap bit_list_writing (sym split)
+      ap bit_list_bytes (sym split)
           ∙ writing_step first more n
           ∙ ap (λ (t : List ℕ). bits_number first ∷ t) ih.1
           ∙ ap (λ (t : List ℕ). t ++ (last + 2 ^ k) ∷ []) (sym w.1),
@@ -195,7 +196,7 @@ without_top place last l low = omega (arith, (one_shifted place 255 refl l).0)
 pub held_len : (b : Inside) → IsHeld b → length b.bytes.items ≡ (b.len + 7) / 8
 held_len b h = sym (ap length h.packed) ∙ bits_bytes_len (held_bits b) ∙ ap (λ n. (n + 7) / 8) h.count
 
-pub whole_writing : (b : Inside) → IsHeld b → b.len % 8 ≡ 0 → bit_list_writing (held_bits b) ≡ b.bytes.items ++ 1 ∷ []
+pub whole_writing : (b : Inside) → IsHeld b → b.len % 8 ≡ 0 → bit_list_bytes (held_bits b) ≡ b.bytes.items ++ 1 ∷ []
 whole_writing b h e = writing_whole (held_bits b) b.bytes.items h.packed (omega (arith, h.count))
 
 pub part_writing : (b : Inside) (front : List ℕ) (last : ℕ) → IsHeld b → b.bytes.items ≡ front ++ last ∷ [] → 0 < b.len % 8 → EndsIn (held_bits b) front last (b.len % 8)

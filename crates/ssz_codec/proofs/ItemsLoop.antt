@@ -5,20 +5,20 @@ use Rattle.std.proofs.lemmas.Bool.{lt-ltb, le-ltb, eq-eqb, ne_eqb}
 use Rattle.std.proofs.lemmas.List.{append-nil, drop_more, drop_all}
 use Rattle.ssz_codec.specs.declared.fault.SszFault.{SszFault}
 use Rattle.ssz_codec.specs.declared.fault.SszFault.TheVariants.{NotAWriting, NoMemory}
-use Rattle.ssz_codec.specs.Layout.{◌>>=◌}
+use Rattle.ssz_codec.specs.Layout.{◌and_then◌}
 use Rattle.ssz_codec.specs.Lists.{parse_items, parse_parts}
 use Rattle.ssz_codec.specs.Reads.{Fails}
 
 -- what was read before, and what is still read
 abbrev pub with_front : {A : Type 0} → List A → Option (List A) → Option (List A)
-with_front front read = read >>= λ xs. Some (front ++ xs)
+with_front front read = read and_then λ xs. Some (front ++ xs)
 
-regroup : {A : Type 0} (front : List A) (x : A) (read : Option (List A)) → with_front front (read >>= λ xs. Some (x ∷ xs)) ≡ with_front (front ++ x ∷ []) read
+regroup : {A : Type 0} (front : List A) (x : A) (read : Option (List A)) → with_front front (read and_then λ xs. Some (x ∷ xs)) ≡ with_front (front ++ x ∷ []) read
 regroup front x None = refl
 regroup front x (Some xs) = ap (λ ys. Some ys) (sym (append_assoc front (x ∷ []) xs))
 
 abbrev item_step : {A : Type 0} → (List ℕ → Option A) → ℕ → ℕ → List ℕ → Option (List A)
-item_step parse size count bytes = parse (take size bytes) >>= λ x. parse_items parse size count (drop size bytes) >>= λ xs. Some (x ∷ xs)
+item_step parse size count bytes = parse (take size bytes) and_then λ x. parse_items parse size count (drop size bytes) and_then λ xs. Some (x ∷ xs)
 
 -- the count that is left is one more than the next one
 left : {A : Type 0} (parse : List ℕ → Option A) (size count i : ℕ) (bytes : List ℕ) → i < count
@@ -31,10 +31,10 @@ left parse size count i bytes lt =
 pub item_more : {A : Type 0} (parse : List ℕ → Option A) (size count i : ℕ) (front : List A) (bytes : List ℕ) (x : A) (total : Option (List A)) → i < count → size ≤ length bytes → parse (take size bytes) ≡ Some x
     → with_front front (parse_items parse size (count - i) bytes) ≡ total → with_front (front ++ x ∷ []) (parse_items parse size (count - (i + 1)) (drop size bytes)) ≡ total
 item_more {A = A} parse size count i front bytes x total lt le is so_far =
-    let one : parse_items parse size (count - i) bytes ≡ (parse_items parse size (count - (i + 1)) (drop size bytes) >>= λ xs. Some (x ∷ xs)) =
+    let one : parse_items parse size (count - i) bytes ≡ (parse_items parse size (count - (i + 1)) (drop size bytes) and_then λ xs. Some (x ∷ xs)) =
     left parse size count i bytes lt
     ∙ ap (λ b. cond b None (item_step parse size (count - (i + 1)) bytes)) (le-ltb _ _ le)
-    ∙ ap (λ (o : Option A). o >>= λ y. parse_items parse size (count - (i + 1)) (drop size bytes) >>= λ xs. Some (y ∷ xs)) is in
+    ∙ ap (λ (o : Option A). o and_then λ y. parse_items parse size (count - (i + 1)) (drop size bytes) and_then λ xs. Some (y ∷ xs)) is in
     sym (regroup front x (parse_items parse size (count - (i + 1)) (drop size bytes))) ∙ ap (with_front front) (sym one) ∙ so_far
 
 pub item_fails : {A : Type 0} (e : SszFault) (parse : List ℕ → Option A) (size count i : ℕ) (front : List A) (bytes : List ℕ) (total : Option (List A)) → i < count → size ≤ length bytes → Fails e (parse (take size bytes))
@@ -44,7 +44,7 @@ item_fails {A = A} NotAWriting parse size count i front bytes total lt le is so_
     let one : parse_items parse size (count - i) bytes ≡ None =
     left parse size count i bytes lt
     ∙ ap (λ b. cond b None (item_step parse size (count - (i + 1)) bytes)) (le-ltb _ _ le)
-    ∙ ap (λ (o : Option A). o >>= λ y. parse_items parse size (count - (i + 1)) (drop size bytes) >>= λ xs. Some (y ∷ xs)) is in
+    ∙ ap (λ (o : Option A). o and_then λ y. parse_items parse size (count - (i + 1)) (drop size bytes) and_then λ xs. Some (y ∷ xs)) is in
     sym so_far ∙ ap (with_front front) one
 
 pub item_short : {A : Type 0} (parse : List ℕ → Option A) (size count i : ℕ) (front : List A) (bytes : List ℕ) (total : Option (List A)) → i < count → length bytes < size
@@ -76,8 +76,8 @@ pub part_more : {A : Type 0} (parse : List ℕ → Option A) (front : List A) (p
     → with_front front (parse_parts parse (part ∷ parts)) ≡ total → with_front (front ++ x ∷ []) (parse_parts parse parts) ≡ total
 unfolding parse_parts
 part_more {A = A} parse front part parts x total is so_far =
-    let one : parse_parts parse (part ∷ parts) ≡ (parse_parts parse parts >>= λ xs. Some (x ∷ xs)) =
-    ap (λ (o : Option A). o >>= λ y. parse_parts parse parts >>= λ xs. Some (y ∷ xs)) is in
+    let one : parse_parts parse (part ∷ parts) ≡ (parse_parts parse parts and_then λ xs. Some (x ∷ xs)) =
+    ap (λ (o : Option A). o and_then λ y. parse_parts parse parts and_then λ xs. Some (y ∷ xs)) is in
     sym (regroup front x (parse_parts parse parts)) ∙ ap (with_front front) (sym one) ∙ so_far
 
 pub part_fails : {A : Type 0} (e : SszFault) (parse : List ℕ → Option A) (front : List A) (part : List ℕ) (parts : List (List ℕ)) (total : Option (List A)) → Fails e (parse part)
@@ -85,7 +85,7 @@ pub part_fails : {A : Type 0} (e : SszFault) (parse : List ℕ → Option A) (fr
 unfolding parse_parts
 part_fails NoMemory parse front part parts total is so_far = tt
 part_fails {A = A} NotAWriting parse front part parts total is so_far =
-    sym so_far ∙ ap (with_front front) (ap (λ (o : Option A). o >>= λ y. parse_parts parse parts >>= λ xs. Some (y ∷ xs)) is)
+    sym so_far ∙ ap (with_front front) (ap (λ (o : Option A). o and_then λ y. parse_parts parse parts and_then λ xs. Some (y ∷ xs)) is)
 
 pub parts_end : {A : Type 0} (parse : List ℕ → Option A) (front : List A) (total : Option (List A)) → with_front front (parse_parts parse []) ≡ total → total ≡ Some front
 unfolding parse_parts

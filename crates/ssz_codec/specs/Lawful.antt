@@ -1,11 +1,10 @@
 -- The law that ties reading to writing (simple-serialize.md, "Deserialization"): bytes read as exactly the value whose
 -- writing they are, so at most one value has a given writing.
 use Rattle.std.specs.Prelude.{◌≡◌, ℕ, ◌<◌, List, [], ◌∷◌, length, Some}
-use Rattle.std.specs.List.{AllByRecursion}
 use Rattle.std.proofs.Common.{get_or}
 use Rattle.ssz_codec.specs.declared.layout.Field.{Field}
 use Rattle.ssz_codec.specs.declared.layout.Field.TheVariants.{Fixed, Variable}
-use Rattle.ssz_codec.specs.Codec.{Codec, Row}
+use Rattle.ssz_codec.specs.Codec.{Codec}
 
 -- each number is a byte
 abbrev pub IsBytes : List ℕ → Type 0
@@ -30,12 +29,7 @@ FitFields (f ∷ fs) (part ∷ parts) = HasSize f part × FitFields fs parts
 
 pub record IsLawful {A : Type 0} (c : Codec A) : Type 0 where
   -- what is read is within the limits, and the bytes are its writing
-  pub sound : (bytes : List ℕ) (v : A) → IsBytes bytes → c.parse bytes ≡ Some v → c.Within v × (bytes ≡ c.writing v)
+  pub sound : (bytes : List ℕ) (v : A) → IsBytes bytes → c.deserialize bytes ≡ Some v → c.Within v × (bytes ≡ c.serialize v)
   -- what is written is read again
-  pub complete : (v : A) → c.Within v → c.parse (c.writing v) ≡ Some v
-  pub size : (v : A) → c.Within v → HasSize c.field (c.writing v)
-
-pub record IsLawfulRow {A : Type 0} (r : Row A) : Type 0 where
-  pub sound : (parts : List (List ℕ)) (v : A) → AllByRecursion IsBytes parts → r.parse parts ≡ Some v → r.Within v × (parts ≡ r.parts v)
-  pub complete : (v : A) → r.Within v → r.parse (r.parts v) ≡ Some v
-  pub sizes : (v : A) → r.Within v → FitFields r.fields (r.parts v)
+  pub complete : (v : A) → c.Within v → c.deserialize (c.serialize v) ≡ Some v
+  pub size : (v : A) → c.Within v → HasSize c.field (c.serialize v)

@@ -10,15 +10,15 @@ Fails NotAWriting reading = reading ≡ None
 Fails NoMemory reading = Unit {0}
 
 -- the answer is this reading, unless memory ran out
-abbrev pub Gives : {A : Type 0} → Result A SszFault → Option A → Type 0
-Gives (Ok x) reading = reading ≡ Some x
-Gives (Err e) reading = Fails e reading
+abbrev pub ReadsAs : {A : Type 0} → Result A SszFault → Option A → Type 0
+ReadsAs (Ok x) reading = reading ≡ Some x
+ReadsAs (Err e) reading = Fails e reading
 
 abbrev pub IsUnread : {A : Type 0} → Codec A → SszFault → List ℕ → Type 0
-IsUnread {A = A} c NotAWriting bytes = (x : A) → c.Within x → bytes ≡ c.writing x → ⊥
+IsUnread {A = A} c NotAWriting bytes = (x : A) → c.Within x → bytes ≡ c.serialize x → ⊥
 IsUnread c NoMemory bytes = Unit {0}
 
 -- Ok: the value is within the limits and the bytes are its writing. NotAWriting: they are no value's writing.
 abbrev pub Reads : {A : Type 0} → Codec A → Result A SszFault → List ℕ → Type 0
-Reads c (Ok x) bytes = c.Within x × (bytes ≡ c.writing x)
+Reads c (Ok x) bytes = c.Within x × (bytes ≡ c.serialize x)
 Reads c (Err e) bytes = IsUnread c e bytes

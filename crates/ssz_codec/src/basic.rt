@@ -1,20 +1,26 @@
 //! Numbers, booleans, and vectors of bytes and bits.
 
-ghost use Rattle.std.specs.Prelude.{◌≡◌, length, nat_lt, ◌^◌, ◌<◌};
+ghost use Rattle.std.specs.Prelude.{◌≡◌, length, nat_lt, ◌^◌, ◌<◌, refl};
 ghost use Rattle.ssz_codec.specs.Codec.{Codec};
-ghost use Rattle.ssz_codec.specs.Basic.{number_of, number_codec, bool_codec, bytes_codec, bytes4_codec, bytes32_codec, bytes48_codec, bytes96_codec, bit_vector_codec, bits_number, number_bits};
-ghost use Rattle.ssz_codec.specs.BasicLaws.{number_lawful, bool_lawful, bytes_lawful, bit_vector_lawful};
-ghost use Rattle.ssz_codec.specs.Reads.{Gives};
+ghost use Rattle.ssz_codec.specs.Basic.{number_of, uint64, boolean, bytes_codec, bytes4, bytes32, bytes48, bytes96, bitvector, number_bits};
+ghost use Rattle.hash_tree.specs.Merkle.{bits_number};
+ghost use Rattle.ssz_codec.specs.laws.Basic.{uint64_lawful, boolean_lawful, bytes_lawful, bytes32_lawful, bytes32_is_fixed, bitvector_lawful};
+ghost use Rattle.ssz_codec.specs.Reads.{ReadsAs};
 
 use crate::fault::SszFault;
-use crate::ssz::Ssz;
+use crate::layout::Field;
+use crate::ssz::{FixedSsz, Ssz};
 use crate::writer::Writer;
 use bc_words::NoMemory;
-use hash_tree::{Root, chunk_root, merkle_bytes};
+use hash_tree::{Leaf, bits_byte};
 use std::alloc::Global;
 
 impl Ssz for u64 {
-    ghost codec = { number_codec };
+    ghost codec = { uint64 };
+
+    fn field() -> Field {
+        Field::Fixed(8)
+    }
 
     #[tactic(auto, unfolding(crate::specs::Basic::number_of))]
     fn parse(_alloc: Global, bytes: &[u8]) -> Result<u64, SszFault> {
@@ -24,20 +30,21 @@ impl Ssz for u64 {
         }
     }
 
-    fn write_to(&self, out: &mut Writer) -> Result<(), NoMemory> {
+    fn append_to(&self, out: &mut Writer) -> Result<(), NoMemory> {
         out.put_u64(*self)
     }
 
-    #[tactic(auto, unfolding(hash_tree::specs::Merkle::u64_bytes))]
-    fn hash_tree_root(&self) -> Root {
-        chunk_root(&self.to_le_bytes())
-    }
+    ghost lawful = { uint64_lawful };
 
-    ghost lawful = { number_lawful };
+    ghost roots = { refl };
 }
 
 impl Ssz for bool {
-    ghost codec = { bool_codec };
+    ghost codec = { boolean };
+
+    fn field() -> Field {
+        Field::Fixed(1)
+    }
 
     fn parse(_alloc: Global, bytes: &[u8]) -> Result<bool, SszFault> {
         match bytes {
@@ -47,20 +54,18 @@ impl Ssz for bool {
         }
     }
 
-    fn write_to(&self, out: &mut Writer) -> Result<(), NoMemory> {
+    fn append_to(&self, out: &mut Writer) -> Result<(), NoMemory> {
         out.put_bool(*self)
     }
 
-    fn hash_tree_root(&self) -> Root {
-        chunk_root(&[u8::from(*self)])
-    }
+    ghost lawful = { boolean_lawful };
 
-    ghost lawful = { bool_lawful };
+    ghost roots = { refl };
 }
 
 /// The vector of N bytes that these are.
 fn byte_vector<const N: usize>(bytes: &[u8]) -> Result<[u8; N], SszFault>
-    ensures { Gives result ((bytes_codec N (λ v. v)).parse bytes.now) }
+    ensures { ReadsAs result ((bytes_codec N).deserialize bytes.now) }
 {
     match <[u8; N]>::try_from(bytes) {
         Ok(vector) => Ok(vector),
@@ -69,87 +74,97 @@ fn byte_vector<const N: usize>(bytes: &[u8]) -> Result<[u8; N], SszFault>
 }
 
 impl Ssz for [u8; 4] {
-    ghost codec = { bytes4_codec };
+    ghost codec = { bytes4 };
+
+    fn field() -> Field {
+        Field::Fixed(4)
+    }
 
     fn parse(_alloc: Global, bytes: &[u8]) -> Result<[u8; 4], SszFault> {
         byte_vector::<4>(bytes)
     }
 
-    fn write_to(&self, out: &mut Writer) -> Result<(), NoMemory> {
+    fn append_to(&self, out: &mut Writer) -> Result<(), NoMemory> {
         out.put_bytes(self)
     }
 
-    fn hash_tree_root(&self) -> Root {
-        chunk_root(self)
-    }
+    ghost lawful = { bytes_lawful 4 };
 
-    ghost lawful = { bytes_lawful 4 bytes4_codec.root };
+    ghost roots = { refl };
 }
 
 impl Ssz for [u8; 32] {
-    ghost codec = { bytes32_codec };
+    ghost codec = { bytes32 };
+
+    fn field() -> Field {
+        Field::Fixed(32)
+    }
 
     fn parse(_alloc: Global, bytes: &[u8]) -> Result<[u8; 32], SszFault> {
         byte_vector::<32>(bytes)
     }
 
-    fn write_to(&self, out: &mut Writer) -> Result<(), NoMemory> {
+    fn append_to(&self, out: &mut Writer) -> Result<(), NoMemory> {
         out.put_bytes(self)
     }
 
-    fn hash_tree_root(&self) -> Root {
-        *self
-    }
+    ghost lawful = { bytes32_lawful };
 
-    ghost lawful = { bytes_lawful 32 bytes32_codec.root };
+    ghost roots = { refl };
+}
+
+impl FixedSsz for [u8; 32] {
+    ghost is_fixed = { bytes32_is_fixed };
+
+    ghost composite = { refl };
 }
 
 impl Ssz for [u8; 48] {
-    ghost codec = { bytes48_codec };
+    ghost codec = { bytes48 };
+
+    fn field() -> Field {
+        Field::Fixed(48)
+    }
 
     fn parse(_alloc: Global, bytes: &[u8]) -> Result<[u8; 48], SszFault> {
         byte_vector::<48>(bytes)
     }
 
-    fn write_to(&self, out: &mut Writer) -> Result<(), NoMemory> {
+    fn append_to(&self, out: &mut Writer) -> Result<(), NoMemory> {
         out.put_bytes(self)
     }
 
-    fn hash_tree_root(&self) -> Root {
-        merkle_bytes(self, 1)
-    }
+    ghost lawful = { bytes_lawful 48 };
 
-    ghost lawful = { bytes_lawful 48 bytes48_codec.root };
+    ghost roots = { refl };
 }
 
 impl Ssz for [u8; 96] {
-    ghost codec = { bytes96_codec };
+    ghost codec = { bytes96 };
+
+    fn field() -> Field {
+        Field::Fixed(96)
+    }
 
     fn parse(_alloc: Global, bytes: &[u8]) -> Result<[u8; 96], SszFault> {
         byte_vector::<96>(bytes)
     }
 
-    fn write_to(&self, out: &mut Writer) -> Result<(), NoMemory> {
+    fn append_to(&self, out: &mut Writer) -> Result<(), NoMemory> {
         out.put_bytes(self)
     }
 
-    fn hash_tree_root(&self) -> Root {
-        merkle_bytes(self, 2)
-    }
+    ghost lawful = { bytes_lawful 96 };
 
-    ghost lawful = { bytes_lawful 96 bytes96_codec.root };
-}
-
-/// The byte of four bits, the lowest first.
-fn bits_byte(bits: &[bool; 4]) -> u8
-    ensures { result ≡ bits_number bits.now }
-{
-    let [a, b, c, d] = *bits;
-    u8::from(a) + 2 * (u8::from(b) + 2 * (u8::from(c) + 2 * u8::from(d)))
+    ghost roots = { refl };
 }
 
 impl Ssz for [bool; 4] {
-    ghost codec = { bit_vector_codec 4 };
+    ghost codec = { bitvector 4 };
+
+    fn field() -> Field {
+        Field::Fixed(1)
+    }
 
     fn parse(_alloc: Global, bytes: &[u8]) -> Result<[bool; 4], SszFault> {
         match bytes {
@@ -163,13 +178,11 @@ impl Ssz for [bool; 4] {
         }
     }
 
-    fn write_to(&self, out: &mut Writer) -> Result<(), NoMemory> {
+    fn append_to(&self, out: &mut Writer) -> Result<(), NoMemory> {
         out.put_bytes(&[bits_byte(self)])
     }
 
-    fn hash_tree_root(&self) -> Root {
-        chunk_root(&[bits_byte(self)])
-    }
+    ghost lawful = { bitvector_lawful 4 };
 
-    ghost lawful = { bit_vector_lawful 4 };
+    ghost roots = { refl };
 }

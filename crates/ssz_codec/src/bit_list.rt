@@ -2,17 +2,17 @@
 //!
 //! Bytes come from containers; bits go to those who look up which members attested, and roots to the containers.
 
-ghost use Rattle.std.specs.Prelude.{◌≡◌, ℕ, ◌+◌, ◌*◌, ◌/◌, ◌^◌, ◌<◌, ◌≤◌, List, Bool, length, slice_get, OnOk, IfOk, Some, ◌++◌, ◌==◌};
-ghost use Rattle.hash_tree.specs.Merkle.{byte_chunks};
+ghost use Rattle.std.specs.Prelude.{◌≡◌, ℕ, ◌+◌, ◌*◌, ◌/◌, ◌^◌, ◌<◌, ◌≤◌, List, Bool, length, slice_get, take, OnOk, OnErr, IfOk, Some, ◌++◌, ◌==◌};
+ghost use Rattle.hash_tree.specs.Merkle.{byte_chunks, bit_chunk_count};
 ghost use Rattle.ssz_codec.specs.Basic.{number_bits};
-ghost use Rattle.ssz_codec.specs.BitLists.{parse_bit_list, bit_list_writing, bit_list_root, bit_list_codec};
-ghost use Rattle.ssz_codec.specs.BitListLaws.{whole_bits};
-ghost use Rattle.ssz_codec.specs.Reads.{Gives, Reads};
+ghost use Rattle.ssz_codec.specs.BitLists.{parse_bit_list, bit_list_bytes, bitlist};
+ghost use Rattle.ssz_codec.specs.laws.BitLists.{whole_bits};
+ghost use Rattle.ssz_codec.specs.Reads.{ReadsAs, Reads};
 
 use crate::fault::SszFault;
 use crate::writer::Writer;
 use bc_words::NoMemory;
-use hash_tree::{Root, merkle_bytes, mix_in_length};
+use hash_tree::{Root, depth_of, merkle_bytes, mix_in_length};
 use std::alloc::{AllocError, Global};
 use std::marker::Model;
 
@@ -29,11 +29,20 @@ impl Model for BitList {
 
     ghost Value = { List Bool };
 
-    ghost use Rattle.ssz_codec.specs.HeldBits.{held_bits, IsHeld};
+    ghost use Rattle.ssz_codec.specs.inside.HeldBits.{held_bits, IsHeld};
 
     ghost view = { held_bits };
 
     ghost invariant = { IsHeld };
+}
+
+/// The chunks of so many bits.
+fn bit_chunks(bits: u64) -> u64
+    requires { bits ≤ 2 ^ 40 }
+    ensures exact { result ≡ bit_chunk_count bits }
+    ensures low { result ≤ 2 ^ 40 }
+{
+    (bits + 255) / 256
 }
 
 impl BitList {
@@ -51,20 +60,21 @@ impl BitList {
         self.len == 0
     }
 
-    /// The bit at a place. None exactly where the place is not below the length.
-    pub fn get(&self, place: u64) -> Option<bool>
-        ensures { result ≡ slice_get self.now place }
+    /// The bit at an index. None exactly where the index is not below the length.
+    pub fn get(&self, index: u64) -> Option<bool>
+        ensures { result ≡ slice_get self.now index }
     {
-        if self.len <= place {
+        if self.len <= index {
             return None;
         }
-        let byte = self.bytes[(place / 8) as usize];
-        Some(byte >> (place % 8) & 1 == 1)
+        let byte = self.bytes[(index / 8) as usize];
+        Some(byte >> (index % 8) & 1 == 1)
     }
 
     /// The writing, behind what is written already. Where memory is refused, a part of it may stand there.
-    pub fn write_to(&self, out: &mut Writer) -> Result<(), NoMemory>
-        ensures { OnOk result (out.new ≡ out.old ++ bit_list_writing self.now) }
+    fn append_to(&self, out: &mut Writer) -> Result<(), NoMemory>
+        ensures ok { OnOk result (out.new ≡ out.old ++ bit_list_bytes self.now) }
+        ensures err { OnErr result (take (length out.old) out.new ≡ out.old) }
     {
         let used = self.len % 8;
         if used == 0 {
@@ -80,28 +90,53 @@ impl BitList {
         Ok(())
     }
 
-    /// The root, over as many chunks as the tree of the depth has (simple-serialize.md, "Merkleization").
-    #[tactic(auto, unfolding(crate::specs::BitLists::bit_list_root))]
-    pub fn root(&self, depth: u32) -> Root
-        requires low { depth ≤ 40 }
-        requires fits { length self.now ≤ 256 * 2 ^ depth }
-        ensures { result ≡ bit_list_root depth self.now }
+    /// The writing, behind what is written already. Where memory is refused, the writer is as before.
+    pub fn write_to(&self, out: &mut Writer) -> Result<(), NoMemory>
+        ensures ok { OnOk result (out.new ≡ out.old ++ bit_list_bytes self.now) }
+        ensures err { OnErr result (out.new ≡ out.old) }
     {
+        let start = out.len();
+        match self.append_to(out) {
+            Ok(()) => Ok(()),
+            Err(refused) => {
+                out.cut_back(start);
+                Err(refused)
+            }
+        }
+    }
+
+    /// The writing (simple-serialize.md, "Bitlist[N]").
+    pub fn write(&self, alloc: Global) -> Result<Vec<u8>, NoMemory>
+        ensures { IfOk result (λ bytes. bytes.items ≡ bit_list_bytes self.now) }
+    {
+        let mut out = Writer::new(alloc);
+        self.write_to(&mut out)?;
+        Ok(out.finish())
+    }
+
+    /// The root, as a list of at most so many bits (simple-serialize.md, "Merkleization").
+    #[tactic(auto, unfolding(hash_tree::specs::Merkle::merkleize))]
+    pub fn root(&self, limit: u64) -> Root
+        requires low { limit ≤ 2 ^ 40 }
+        requires fits { length self.now ≤ limit }
+        ensures { result ≡ (bitlist limit).hash_tree_root self.now }
+    {
+        let depth = depth_of(bit_chunks(limit));
         mix_in_length(&merkle_bytes(&self.bytes, depth), self.len)
     }
 
     /// Reads exactly the bytes that are the writing of a list of at most so many bits (simple-serialize.md,
     /// "Deserialization").
     pub fn read(alloc: Global, bytes: &[u8], limit: u64) -> Result<BitList, SszFault>
-        ensures parses { Gives result (parse_bit_list limit bytes.now) }
-        ensures reads { (depth : ℕ) → Reads (bit_list_codec limit depth) result bytes.now }
+        ensures parses { ReadsAs result (parse_bit_list limit bytes.now) }
+        ensures reads { Reads (bitlist limit) result bytes.now }
     {
         BitList::parse(alloc, bytes, limit)
     }
 
     /// The bits below the highest 1 of the last byte.
     fn parse(alloc: Global, bytes: &[u8], limit: u64) -> Result<BitList, SszFault>
-        ensures { Gives result (parse_bit_list limit bytes.now) }
+        ensures { ReadsAs result (parse_bit_list limit bytes.now) }
     {
         let Some((last, front)) = bytes.split_last() else {
             return Err(SszFault::NotAWriting);
@@ -146,15 +181,15 @@ fn before_delimiter(
 }
 
 /// A list of bits that was written is read again.
-#[tactic(auto, using(crate::specs::BitListLaws::bit_list_complete))]
+#[tactic(auto, using(crate::specs::laws::BitLists::bit_list_complete))]
 pub fn bits_read_back()
-    ensures { (limit : ℕ) (bits : List Bool) → length bits ≤ limit → parse_bit_list limit (bit_list_writing bits) ≡ Some bits }
+    ensures { (limit : ℕ) (bits : List Bool) → length bits ≤ limit → parse_bit_list limit (bit_list_bytes bits) ≡ Some bits }
 {}
 
 /// Two lists of bits never share a writing.
-#[tactic(auto, using(crate::specs::BitListLaws::one_bit_list))]
+#[tactic(auto, using(crate::specs::laws::BitLists::one_bit_list))]
 pub fn one_writing_of_bits()
-    ensures { (a b : List Bool) → bit_list_writing a ≡ bit_list_writing b → a ≡ b }
+    ensures { (a b : List Bool) → bit_list_bytes a ≡ bit_list_bytes b → a ≡ b }
 {}
 
 #[cfg(test)]
@@ -181,7 +216,7 @@ mod tests {
         assert_eq!(rt; one.len(), 1);
         assert_eq!(rt; one.get(0), Some(true));
         assert_eq!(rt; one.get(1), None);
-        assert_eq!(rt; one.root(3), ONE_BIT_ROOT);
+        assert_eq!(rt; one.root(2048), ONE_BIT_ROOT);
         let long = [b"\x00\x01".as_slice(), b"\xff\x80", b"\x02\x03\x05"];
         for bytes in long.iter() {
             let bits = BitList::read(rt.alloc(), bytes, 2048)?;

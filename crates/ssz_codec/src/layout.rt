@@ -2,8 +2,8 @@
 //! fields.
 
 ghost use Rattle.std.specs.Prelude.{◌≡◌, ◌+◌, ◌*◌, ◌<◌, ◌≤◌, ◌^◌, length, take, drop, map};
-ghost use Rattle.ssz_codec.specs.Layout.{head_len, heads_len, offset_of, cut};
-ghost use Rattle.ssz_codec.specs.Cutting.{GivesParts};
+ghost use Rattle.ssz_codec.specs.Layout.{field_length, fixed_length, offset_of, cut};
+ghost use Rattle.ssz_codec.specs.inside.Cutting.{GivesParts};
 
 use crate::fault::SszFault;
 
@@ -18,8 +18,8 @@ pub enum Field {
 
 impl Field {
     /// How many bytes the field takes in the fixed part.
-    fn head_len(&self) -> usize
-        ensures { result ≡ head_len self.now }
+    fn field_length(&self) -> usize
+        ensures { result ≡ field_length self.now }
     {
         match self {
             Field::Fixed(n) => *n,
@@ -30,12 +30,12 @@ impl Field {
 
 /// The bytes of the fixed part.
 fn fixed_len(fields: &[Field]) -> usize
-    requires { heads_len fields.now < 2 ^ 32 }
-    ensures { result ≡ heads_len fields.now }
+    requires { fixed_length fields.now < 2 ^ 32 }
+    ensures { result ≡ fixed_length fields.now }
 {
     let mut len = 0;
     for field in fields {
-        len += field.head_len();
+        len += field.field_length();
     }
     len
 }
@@ -56,7 +56,7 @@ pub(crate) fn offset_at(bytes: &[u8], at: usize) -> usize
 /// It takes no memory, so its fault is always `NotAWriting`.
 pub fn cut<'a>(bytes: &'a [u8], fields: &[Field], parts: &mut [&'a [u8]]) -> Result<(), SszFault>
     requires same { length parts.old ≡ length fields.now }
-    requires room { heads_len fields.now < 2 ^ 32 }
+    requires room { fixed_length fields.now < 2 ^ 32 }
     ensures { GivesParts result (map (λ part. part.now) parts.new) (cut fields.now bytes.now) }
 {
     let head = fixed_len(fields);

@@ -6,11 +6,13 @@
 
 mod basic;
 mod bit_list;
+mod containers;
 mod fault;
 mod items;
 mod layout;
 mod lists;
 mod pieces;
+mod roots;
 mod ssz;
 mod writer;
 
@@ -20,7 +22,8 @@ pub use items::Items;
 pub use layout::{Field, cut};
 pub use lists::{read_items, read_list, read_variable_list};
 pub use pieces::{Cut, Parts};
-pub use ssz::{Ssz, one_writing, reads_back};
+pub use roots::{list_root, number_list_root, number_vector_root, variable_list_root, vector_root};
+pub use ssz::{FixedSsz, Ssz, one_writing, reads_back};
 pub use writer::Writer;
 
 #[cfg(test)]

@@ -4,7 +4,7 @@ ghost use Rattle.std.specs.Prelude.{◌≡◌, ◌<◌, ◌≤◌, ◌*◌, ◌/
 ghost use Rattle.ssz_codec.specs.declared.layout.Field.TheVariants.{Variable};
 ghost use Rattle.ssz_codec.specs.Lists.{parse_items, parse_list, parse_parts, parse_variable_list};
 ghost use Rattle.ssz_codec.specs.Layout.{cut};
-ghost use Rattle.ssz_codec.specs.Reads.{Gives, Fails};
+ghost use Rattle.ssz_codec.specs.Reads.{ReadsAs, Fails};
 
 use crate::fault::SszFault;
 use crate::items::Items;
@@ -19,7 +19,7 @@ pub fn read_items<T: Ssz>(
     size: usize,
     count: usize,
 ) -> Result<Items<T>, SszFault>
-    ensures { Gives result (parse_items T.codec.parse size count bytes.now) }
+    ensures { ReadsAs result (parse_items T.codec.deserialize size count bytes.now) }
 {
     let mut values = Vec::with_capacity(alloc, count)?;
     let mut rest = bytes;
@@ -47,7 +47,7 @@ pub fn read_list<T: Ssz>(
     limit: u64,
 ) -> Result<Items<T>, SszFault>
     requires { 0 < size }
-    ensures { Gives result (parse_list T.codec.parse size limit bytes.now) }
+    ensures { ReadsAs result (parse_list T.codec.deserialize size limit bytes.now) }
 {
     let count = bytes.len() / size;
     if count as u64 > limit {
@@ -58,7 +58,7 @@ pub fn read_list<T: Ssz>(
 
 /// Reads one value of each part.
 fn read_parts<T: Ssz>(alloc: Global, parts: &[&[u8]]) -> Result<Items<T>, SszFault>
-    ensures { Gives result (parse_parts T.codec.parse (map (λ part. part.now) parts.now)) }
+    ensures { ReadsAs result (parse_parts T.codec.deserialize (map (λ part. part.now) parts.now)) }
 {
     let mut values = Vec::with_capacity(alloc, parts.len())?;
     for part in parts {
@@ -69,7 +69,7 @@ fn read_parts<T: Ssz>(alloc: Global, parts: &[&[u8]]) -> Result<Items<T>, SszFau
 }
 
 /// Cuts a list of so many variable parts.
-#[tactic(auto, using(crate::specs::ListLaws::variable_heads))]
+#[tactic(auto, using(crate::specs::laws::Lists::variable_heads))]
 fn cut_list(alloc: Global, bytes: &[u8], count: usize) -> Result<Vec<&[u8]>, SszFault>
     requires { 4 * count < 2 ^ 32 }
     ensures { MatchResult result (λ parts. cut (replicate count Variable) bytes.now ≡ Some (map (λ part. part.now) parts.items)) (λ e. Fails e (cut (replicate count Variable) bytes.now)) }
@@ -86,7 +86,7 @@ pub fn read_variable_list<T: Ssz>(
     bytes: &[u8],
     limit: u64,
 ) -> Result<Items<T>, SszFault>
-    ensures { Gives result (parse_variable_list T.codec.parse limit bytes.now) }
+    ensures { ReadsAs result (parse_variable_list T.codec.deserialize limit bytes.now) }
 {
     if bytes.is_empty() {
         return Ok(Items::new(alloc));

@@ -1,10 +1,9 @@
 //! Bytes that are being written: the writers of containers put their fields here, and what is finished goes to files
 //! and hashes.
 
-ghost use Rattle.std.specs.Prelude.{◌≡◌, ◌<◌, ◌^◌, [], ◌++◌, OnOk, OnErr};
-ghost use Rattle.hash_tree.specs.Merkle.{u64_bytes};
+ghost use Rattle.std.specs.Prelude.{◌≡◌, ◌<◌, ◌^◌, [], ◌++◌, ◌==◌, length, take, OnOk, OnErr};
+ghost use Rattle.hash_tree.specs.Merkle.{u64_bytes, bool_bytes};
 ghost use Rattle.ssz_codec.specs.Layout.{offset_bytes};
-ghost use Rattle.ssz_codec.specs.Basic.{bool_bytes};
 
 use bc_words::NoMemory;
 use std::alloc::Global;
@@ -68,6 +67,27 @@ impl Writer {
     {
         self.bytes.extend_from_slice(bytes)?;
         Ok(())
+    }
+
+    /// How many bytes are written.
+    pub fn len(&self) -> usize
+        ensures { result ≡ length self.now }
+    {
+        self.bytes.len()
+    }
+
+    /// Whether nothing is written.
+    pub fn is_empty(&self) -> bool
+        ensures { result ≡ (length self.now == 0) }
+    {
+        self.bytes.is_empty()
+    }
+
+    /// Takes away what was written behind so many bytes.
+    pub(crate) fn cut_back(&mut self, len: usize)
+        ensures { self.new ≡ take len self.old }
+    {
+        self.bytes.truncate(len);
     }
 
     /// The pieces, joined.

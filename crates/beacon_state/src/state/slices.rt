@@ -2,7 +2,7 @@
 
 ghost use Rattle.std.specs.Prelude.{◌≡◌, ◌≤◌, length};
 ghost use Rattle.std.specs.List.{AllByRecursion};
-ghost use Rattle.ssz_codec.specs.Basic.{number_codec, bytes32_codec};
+ghost use Rattle.ssz_codec.specs.Basic.{uint64, bytes32};
 ghost use Rattle.beacon_types.specs.Containers.{validator_codec, eth1_data_codec, pending_attestation_codec};
 ghost use Rattle.spec_state.specs.States.{votes_limit, attestations_limit};
 
@@ -14,7 +14,7 @@ impl State {
     /// The roots of the latest blocks.
     pub(crate) fn block_roots(&self) -> &[Root]
         ensures same { result.now ≡ self.now.block_roots }
-        ensures within { AllByRecursion bytes32_codec.Within self.now.block_roots }
+        ensures within { AllByRecursion bytes32.Within self.now.block_roots }
         ensures limit { length self.now.block_roots ≡ self.now.preset.slots_per_historical_root }
     {
         self.block_roots.as_slice()
@@ -23,7 +23,7 @@ impl State {
     /// The roots of the latest states.
     pub(crate) fn state_roots(&self) -> &[Root]
         ensures same { result.now ≡ self.now.state_roots }
-        ensures within { AllByRecursion bytes32_codec.Within self.now.state_roots }
+        ensures within { AllByRecursion bytes32.Within self.now.state_roots }
         ensures limit { length self.now.state_roots ≡ self.now.preset.slots_per_historical_root }
     {
         self.state_roots.as_slice()
@@ -32,7 +32,7 @@ impl State {
     /// The roots of older batches.
     pub(crate) fn historical_roots(&self) -> &[Root]
         ensures same { result.now ≡ self.now.historical_roots }
-        ensures within { AllByRecursion bytes32_codec.Within self.now.historical_roots }
+        ensures within { AllByRecursion bytes32.Within self.now.historical_roots }
         ensures limit { length self.now.historical_roots ≤ self.now.preset.historical_roots_limit }
     {
         self.historical_roots.as_slice()
@@ -59,7 +59,7 @@ impl State {
     /// The balances.
     pub(crate) fn balances(&self) -> &[u64]
         ensures same { result.now ≡ self.now.balances }
-        ensures within { AllByRecursion number_codec.Within self.now.balances }
+        ensures within { AllByRecursion uint64.Within self.now.balances }
         ensures limit { length self.now.balances ≤ self.now.preset.validator_registry_limit }
     {
         self.balances.as_slice()
@@ -68,7 +68,7 @@ impl State {
     /// The mixes.
     pub(crate) fn randao_mixes(&self) -> &[Root]
         ensures same { result.now ≡ self.now.randao_mixes }
-        ensures within { AllByRecursion bytes32_codec.Within self.now.randao_mixes }
+        ensures within { AllByRecursion bytes32.Within self.now.randao_mixes }
         ensures limit { length self.now.randao_mixes ≡ self.now.preset.epochs_per_historical_vector }
     {
         self.randao_mixes.as_slice()
@@ -77,7 +77,7 @@ impl State {
     /// The slashed balances.
     pub(crate) fn slashings(&self) -> &[u64]
         ensures same { result.now ≡ self.now.slashings }
-        ensures within { AllByRecursion number_codec.Within self.now.slashings }
+        ensures within { AllByRecursion uint64.Within self.now.slashings }
         ensures limit { length self.now.slashings ≡ self.now.preset.epochs_per_slashings_vector }
     {
         self.slashings.as_slice()

@@ -1,6 +1,6 @@
 use Rattle.std.proofs.Common.{◌≡◌, ◌+◌, take, drop, map, ◌-◌, ◌∷◌, arith, ap, ◌∙◌, sym, subst, Some}
 use Rattle.ssz_codec.specs.declared.layout.Field.TheVariants.{Fixed, Variable}
-use Rattle.ssz_codec.specs.Layout.{heads_len, cut_from}
+use Rattle.ssz_codec.specs.Layout.{fixed_length, cut_from}
 use Rattle.ssz_codec.proofs.Cutting.{cuts, cut_short, cut_start, heads_end, heads_here, heads_le, behind, cut_fixed, cut_offset, cut_falls, cut_gap, cut_whole, set_part}
 use Rattle.ssz_codec.proofs.layout.cut.Goals as goal
 
@@ -62,7 +62,7 @@ returns-then-start-end c =
     let two = heads_le c.args.fields.now j in
     let h = behind (λ part. part.now) c.args.fields.now c.loop-i.parts c.loop-i.i j c.loop-i.at c.loop-i.end c.args.bytes.now (omega arith) c.loop-i.invariant.so_far in
     let e : c.loop-i.i ≡ j + 1 = omega arith in
-    let place : c.loop-i.at + heads_len (drop (j + 1) c.args.fields.now) ≡ heads_len c.args.fields.now = subst (λ n. c.loop-i.at + heads_len (drop n c.args.fields.now) ≡ heads_len c.args.fields.now) e c.loop-i.invariant.place in
+    let place : c.loop-i.at + fixed_length (drop (j + 1) c.args.fields.now) ≡ fixed_length c.args.fields.now = subst (λ n. c.loop-i.at + fixed_length (drop n c.args.fields.now) ≡ fixed_length c.args.fields.now) e c.loop-i.invariant.place in
     cut_falls c.args.fields.now j (c.loop-i.at - 4) c.loop-i.at c.offset_at-start.result c.loop-i.end c.args.bytes.now _ (omega arith) c.in-Variable.is (omega arith) c.offset_at-start.ensures.value (omega arith) place h
 
 pub loop-i-preserved : goal.loop-i-preserved
@@ -82,13 +82,13 @@ loop-i-preserved c =
 pub returns-then-end-head : goal.returns-then-end-head
 returns-then-end-head c =
     let none : c.loop-i.i ≡ 0 = omega arith in
-    let place : c.loop-i.at + heads_len c.args.fields.now ≡ heads_len c.args.fields.now = subst (λ n. c.loop-i.at + heads_len (drop n c.args.fields.now) ≡ heads_len c.args.fields.now) none c.loop-i.invariant.place in
+    let place : c.loop-i.at + fixed_length c.args.fields.now ≡ fixed_length c.args.fields.now = subst (λ n. c.loop-i.at + fixed_length (drop n c.args.fields.now) ≡ fixed_length c.args.fields.now) none c.loop-i.invariant.place in
     let h = subst (λ n. cut_from (drop n c.args.fields.now) (drop c.loop-i.at c.args.bytes.now) c.args.bytes.now ≡ Some (cuts (map (λ part. part.now) (drop n c.loop-i.parts)) c.loop-i.end)) none c.loop-i.invariant.so_far in
     cut_gap c.args.fields.now c.args.bytes.now _ c.loop-i.end c.loop-i.at (omega arith) (omega arith) (λ e. omega arith) h
 
 pub returns : goal.returns
 returns c =
     let none : c.loop-i.i ≡ 0 = omega arith in
-    let place : c.loop-i.at + heads_len c.args.fields.now ≡ heads_len c.args.fields.now = subst (λ n. c.loop-i.at + heads_len (drop n c.args.fields.now) ≡ heads_len c.args.fields.now) none c.loop-i.invariant.place in
+    let place : c.loop-i.at + fixed_length c.args.fields.now ≡ fixed_length c.args.fields.now = subst (λ n. c.loop-i.at + fixed_length (drop n c.args.fields.now) ≡ fixed_length c.args.fields.now) none c.loop-i.invariant.place in
     let h = subst (λ n. cut_from (drop n c.args.fields.now) (drop c.loop-i.at c.args.bytes.now) c.args.bytes.now ≡ Some (cuts (map (λ part. part.now) (drop n c.loop-i.parts)) c.loop-i.end)) none c.loop-i.invariant.so_far in
     cut_whole c.args.fields.now c.args.bytes.now _ c.loop-i.end c.loop-i.at (omega arith) (omega arith) (omega arith) h

@@ -5,4 +5,4 @@ use Rattle.ssz_codec.proofs.lists.read_items.Given as goal
 
 abbrev pub invariant-loop : goal.invariant-loop
 invariant-loop g l =
-    with_front l.values.items (parse_items g.T.Ssz.codec.parse l.size (l.count - l.counter) l.rest) ≡ parse_items g.T.Ssz.codec.parse l.size l.count l.bytes
+    with_front l.values.items (parse_items g.T.Ssz.codec.deserialize l.size (l.count - l.counter) l.rest) ≡ parse_items g.T.Ssz.codec.deserialize l.size l.count l.bytes

@@ -5,5 +5,5 @@ use Rattle.ssz_codec.proofs.lists.read_parts.Given as goal
 
 abbrev pub invariant-loop-part : goal.invariant-loop-part
 invariant-loop-part g l =
-    with_front l.values.items (parse_parts g.T.Ssz.codec.parse (map (λ part. part.now) (drop l.part-index l.parts)))
-    ≡ parse_parts g.T.Ssz.codec.parse (map (λ part. part.now) l.parts)
+    with_front l.values.items (parse_parts g.T.Ssz.codec.deserialize (map (λ part. part.now) (drop l.part-index l.parts)))
+    ≡ parse_parts g.T.Ssz.codec.deserialize (map (λ part. part.now) l.parts)

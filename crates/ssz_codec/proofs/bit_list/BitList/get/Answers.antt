@@ -1,6 +1,6 @@
 use Rattle.std.proofs.Common.{◌≡◌, ◌+◌, ◌/◌, length, ap, ◌∙◌, sym, arith, slice_get}
-use Rattle.ssz_codec.specs.BitListLaws.{bits_bytes_len}
-use Rattle.ssz_codec.specs.HeldBits.{held_bits, IsHeld}
+use Rattle.ssz_codec.specs.laws.BitLists.{bits_bytes_len}
+use Rattle.ssz_codec.specs.inside.HeldBits.{held_bits, IsHeld}
 use Rattle.ssz_codec.specs.declared.bit_list.BitList.TheInside.{Inside}
 use Rattle.ssz_codec.proofs.HeldBits.{held_bit}
 use Rattle.ssz_codec.proofs.bit_list.BitList.get.Goals as goal
@@ -14,5 +14,5 @@ index-byte-requires c = omega (arith, held_len c.self.inside c.self.invariant)
 pub returns : goal.returns
 returns c =
     let b = c.self.inside in
-    held_bit b.bytes.items b.len c.args.place c.index-byte.result.now c.if-self-place.false c.self.invariant.count (omega (arith, held_len b c.self.invariant)) c.index-byte.ensures
-    ∙ ap (λ bits. slice_get bits c.args.place) c.self.view_is
+    held_bit b.bytes.items b.len c.args.index c.index-byte.result.now c.if-self-index.false c.self.invariant.count (omega (arith, held_len b c.self.invariant)) c.index-byte.ensures
+    ∙ ap (λ bits. slice_get bits c.args.index) c.self.view_is

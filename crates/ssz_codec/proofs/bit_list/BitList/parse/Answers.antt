@@ -1,5 +1,5 @@
 use Rattle.std.proofs.Common.{Some, List, Bool, ap, ◌∙◌, sym, arith}
-use Rattle.ssz_codec.specs.BitListLaws.{reads_no_bytes, reads_no_delimiter, reads_too_long, reads_bits}
+use Rattle.ssz_codec.specs.laws.BitLists.{reads_no_bytes, reads_no_delimiter, reads_too_long, reads_bits}
 use Rattle.ssz_codec.proofs.bit_list.BitList.parse.Goals as goal
 
 pub returns-in_default : goal.returns-in_default

@@ -1,12 +1,13 @@
 -- The codecs of basic values keep the law. Proofs, not definitions.
-use Rattle.std.proofs.Common.{◌≡◌, ℕ, zero, suc, ◌+◌, ◌*◌, ◌/◌, ◌%◌, ◌^◌, ◌<◌, Bool, true, false, cond, List, [], ◌∷◌, length, Some, None, refl, sym, ap, subst, ◌∙◌, arith}
-use Rattle.std.specs.Prelude.{nat_lt, ◌==◌}
+use Rattle.std.proofs.Common.{◌≡◌, ℕ, zero, suc, ◌+◌, ◌-◌, ◌*◌, ◌/◌, ◌%◌, ◌^◌, ◌<◌, Bool, true, false, cond, List, [], ◌∷◌, ◌++◌, length, Some, None, refl, sym, ap, subst, ◌∙◌, arith}
+use Rattle.std.specs.Prelude.{nat_lt, ◌==◌, replicate}
+use Rattle.std.proofs.lemmas.List.{take_all, append-nil}
 use Rattle.std.proofs.lemmas.Bool.{ltb-true, lt-ltb, eqb-true, eqb-false, eq-eqb, ne_eqb}
 use Rattle.std.proofs.lemmas.Nat.{le_bytes_8, from_le_bytes-to_le_bytes_8}
-use Rattle.hash_tree.specs.Merkle.{u64_bytes}
-use Rattle.ssz_codec.specs.Basic.{number_of, number_codec, bool_bytes, parse_bool, bool_codec, bytes_codec, bits_number, number_bits, parse_bits, bit_vector_codec}
-use Rattle.ssz_codec.specs.Lawful.{IsBytes, IsLawful}
-use Rattle.ssz_codec.specs.LayoutLaws.{when_some, some_is}
+use Rattle.hash_tree.specs.Merkle.{u64_bytes, bool_bytes, bits_number, merkle_root, merkleize, depth_of, depth_from, chunk_count, chunks_of, byte_chunks, padded_chunk}
+use Rattle.ssz_codec.specs.Basic.{number_of, uint64, parse_bool, boolean, bytes_codec, bytes32, number_bits, parse_bits, bitvector}
+use Rattle.ssz_codec.specs.Lawful.{IsBytes, IsLawful, IsFixed}
+use Rattle.ssz_codec.specs.laws.Layout.{when_some, some_is}
 
 number_back : (bytes : List ℕ) → length bytes ≡ 8 → IsBytes bytes → u64_bytes (number_of bytes) ≡ bytes
 unfolding u64_bytes number_of
@@ -24,8 +25,8 @@ pub number_len : (n : ℕ) → length (u64_bytes n) ≡ 8
 unfolding u64_bytes
 number_len n = refl
 
-pub number_lawful : IsLawful number_codec
-number_lawful = record {
+pub uint64_lawful : IsLawful uint64
+uint64_lawful = record {
   sound = λ bytes v fits e.
       let w = when_some (length bytes == 8) (Some (number_of bytes)) v e in
       let v-is : number_of bytes ≡ v = some_is _ _ w.1 in
@@ -46,15 +47,15 @@ bool_complete : (v : Bool) → parse_bool (bool_bytes v) ≡ Some v
 bool_complete true = refl
 bool_complete false = refl
 
-pub bool_lawful : IsLawful bool_codec
-bool_lawful = record {
+pub boolean_lawful : IsLawful boolean
+boolean_lawful = record {
   sound = λ bytes v fits e. (tt, bool_sound bytes v e);
   complete = λ v within. bool_complete v;
   size = λ v within. refl;
 }
 
-pub bytes_lawful : (n : ℕ) (root : List ℕ → List ℕ) → IsLawful (bytes_codec n root)
-bytes_lawful n root = record {
+pub bytes_lawful : (n : ℕ) → IsLawful (bytes_codec n)
+bytes_lawful n = record {
   sound = λ bytes v fits e.
       let w = when_some (length bytes == n) (Some bytes) v e in
       let v-is : bytes ≡ v = some_is _ _ w.1 in
@@ -62,6 +63,26 @@ bytes_lawful n root = record {
   complete = λ v within. ap (λ b. cond b (Some v) None) (eq-eqb _ _ within);
   size = λ v within. within;
 }
+
+pub bytes32_lawful : IsLawful bytes32
+bytes32_lawful =
+    let law = bytes_lawful 32 in
+    record { sound = law.sound; complete = law.complete; size = law.size }
+
+pub bytes32_is_fixed : IsFixed bytes32.field
+bytes32_is_fixed = omega arith
+
+one_chunk : (v : List ℕ) → length v ≡ 32 → merkleize (byte_chunks v) (chunk_count 32) ≡ v
+unfolding merkleize depth_of depth_from merkle_root chunks_of padded_chunk
+one_chunk v e =
+    ap (λ n. merkleize (chunks_of ((n + 31) / 32) v) (chunk_count 32)) e
+    ∙ ap padded_chunk (take_all 32 v (omega arith))
+    ∙ ap (λ n. v ++ replicate (32 - n) 0) e
+    ∙ append-nil v
+
+-- the root of 32 bytes by the rule of all vectors of bytes
+pub bytes32_root : (v : List ℕ) → length v ≡ 32 → bytes32.hash_tree_root v ≡ (bytes_codec 32).hash_tree_root v
+bytes32_root v e = sym (one_chunk v e)
 
 -- ---- bits
 
@@ -114,8 +135,8 @@ bits_sound count (n ∷ []) v e =
     let P : List Bool → Type 0 = λ l. (length l ≡ count) × (n ∷ [] ≡ bits_number l ∷ []) in
     subst P v-is (number_bits_len count n, ap (λ k. k ∷ []) (sym (bits_of_number count n (ltb-true _ _ w.0))))
 
-pub bit_vector_lawful : (count : ℕ) → IsLawful (bit_vector_codec count)
-bit_vector_lawful count = record {
+pub bitvector_lawful : (count : ℕ) → IsLawful (bitvector count)
+bitvector_lawful count = record {
   sound = λ bytes v fits e. bits_sound count bytes v e;
   complete = λ v within.
       let below : bits_number v < 2 ^ count = subst (λ k. bits_number v < 2 ^ k) within (bits_below v) in

@@ -2,7 +2,7 @@
 use Rattle.std.specs.Prelude.{◌≡◌, List, Bool, length, take}
 use Rattle.ssz_codec.specs.declared.bit_list.BitList.TheInside.{Inside}
 use Rattle.ssz_codec.specs.BitLists.{bits_bytes}
-use Rattle.ssz_codec.specs.BitListLaws.{whole_bits}
+use Rattle.ssz_codec.specs.laws.BitLists.{whole_bits}
 
 -- so many of the bits of the bytes
 abbrev pub held_bits : Inside → List Bool

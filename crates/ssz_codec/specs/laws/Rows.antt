@@ -1,17 +1,20 @@
 -- Each combinator of codecs keeps the law. Proofs, not definitions.
-use Rattle.std.proofs.Common.{◌≡◌, ℕ, zero, suc, ◌+◌, List, [], ◌∷◌, ◌++◌, length, take, drop, Option, Some, refl, sym, ap, subst, ◌∙◌, arith}
+use Rattle.std.proofs.Common.{◌≡◌, ℕ, zero, suc, List, [], ◌∷◌, ◌++◌, length, take, drop, Option, Some, refl, sym, ap, subst, ◌∙◌}
 use Rattle.std.specs.List.{AllByRecursion}
-use Rattle.std.proofs.lemmas.List.{take_at, drop_at, take-append-drop, length-append}
+use Rattle.std.proofs.lemmas.List.{take_at, drop_at, take-append-drop}
 use Rattle.ssz_codec.specs.declared.layout.Field.{Field}
-use Rattle.ssz_codec.specs.declared.layout.Field.TheVariants.{Fixed, Variable}
-use Rattle.ssz_codec.specs.Layout.{◌>>=◌, heads_len, heads, bodies, joined, OffsetsFit, cut}
-use Rattle.ssz_codec.specs.Codec.{Codec, Row, ◌⊗◌, pair, only, ◌&◌, ◌⊕◌, map_row, map_row_where, and_fixed, field_of, container, sized, variable}
-use Rattle.ssz_codec.specs.Lawful.{IsBytes, HasSize, FitFields, IsLawful, IsLawfulRow}
-use Rattle.ssz_codec.specs.LayoutLaws.{bind_some, some_is, cut_is_joined, joined_is_cut, heads_is_long}
+use Rattle.ssz_codec.specs.Layout.{◌and_then◌, fixed_length, joined, OffsetsFit, cut}
+use Rattle.ssz_codec.specs.Codec.{Codec}
+use Rattle.ssz_codec.specs.Containers.{◌⊗◌, pair}
+use Rattle.ssz_codec.specs.Rows.{Row, only, ◌&◌, ◌⊕◌, map_row, map_row_where, container}
+use Rattle.ssz_codec.specs.laws.Containers.{parts_size}
+use Rattle.ssz_codec.specs.Lawful.{IsBytes, FitFields, IsLawful}
+use Rattle.ssz_codec.specs.Rows.{IsLawfulRow}
+use Rattle.ssz_codec.specs.laws.Layout.{bind_some, some_is, cut_is_joined, joined_is_cut}
 
 -- ---- rows
 
-only_sound : {A : Type 0} (c : Codec A) → IsLawful c → (parts : List (List ℕ)) (v : A) → AllByRecursion IsBytes parts → (only c).parse parts ≡ Some v → c.Within v × (parts ≡ c.writing v ∷ [])
+only_sound : {A : Type 0} (c : Codec A) → IsLawful c → (parts : List (List ℕ)) (v : A) → AllByRecursion IsBytes parts → (only c).deserialize parts ≡ Some v → c.Within v × (parts ≡ c.serialize v ∷ [])
 only_sound c law [] v each e = absurd cc
 only_sound c law (p ∷ []) v each e =
     let h = law.sound p v each.0 e in
@@ -25,23 +28,23 @@ only_lawful c law = record {
   sizes = λ v within. (law.size v within, tt);
 }
 
-and_sound : {A B : Type 0} (c : Codec A) (r : Row B) → IsLawful c → IsLawfulRow r → (parts : List (List ℕ)) (v : A ⊗ B) → AllByRecursion IsBytes parts → (c & r).parse parts ≡ Some v
+and_sound : {A B : Type 0} (c : Codec A) (r : Row B) → IsLawful c → IsLawfulRow r → (parts : List (List ℕ)) (v : A ⊗ B) → AllByRecursion IsBytes parts → (c & r).deserialize parts ≡ Some v
     → (c & r).Within v × (parts ≡ (c & r).parts v)
 and_sound c r law laws [] v each e = absurd cc
 and_sound {A = A} {B = B} c r law laws (p ∷ parts) v each e =
-    let a = bind_some (c.parse p) (λ x. r.parse parts >>= λ y. Some (pair x y)) v e in
-    let b = bind_some (r.parse parts) (λ y. Some (pair a.0 y)) v a.2 in
+    let a = bind_some (c.deserialize p) (λ x. r.deserialize parts and_then λ y. Some (pair x y)) v e in
+    let b = bind_some (r.deserialize parts) (λ y. Some (pair a.0 y)) v a.2 in
     let h = law.sound p a.0 each.0 a.1 in
     let k = laws.sound parts b.0 each.1 b.1 in
     let P : A ⊗ B → Type 0 = λ w. (c & r).Within w × (p ∷ parts ≡ (c & r).parts w) in
-    subst P (some_is _ v b.2) ((h.0, k.0), ap (λ (q : List ℕ). q ∷ parts) h.1 ∙ ap (λ (qs : List (List ℕ)). c.writing a.0 ∷ qs) k.1)
+    subst P (some_is _ v b.2) ((h.0, k.0), ap (λ (q : List ℕ). q ∷ parts) h.1 ∙ ap (λ (qs : List (List ℕ)). c.serialize a.0 ∷ qs) k.1)
 
 pub and_lawful : {A B : Type 0} (c : Codec A) (r : Row B) → IsLawful c → IsLawfulRow r → IsLawfulRow (c & r)
 and_lawful {A = A} {B = B} c r law laws = record {
   sound = and_sound c r law laws;
   complete = λ v within.
-      ap (λ (o : Option A). o >>= λ x. r.parse (r.parts v.rest) >>= λ y. Some (pair x y)) (law.complete v.first within.0)
-      ∙ ap (λ (o : Option B). o >>= λ y. Some (pair v.first y)) (laws.complete v.rest within.1);
+      ap (λ (o : Option A). o and_then λ x. r.deserialize (r.parts v.rest) and_then λ y. Some (pair x y)) (law.complete v.first within.0)
+      ∙ ap (λ (o : Option B). o and_then λ y. Some (pair v.first y)) (laws.complete v.rest within.1);
   sizes = λ v within. (law.size v.first within.0, laws.sizes v.rest within.1);
 }
 
@@ -72,8 +75,8 @@ rows_lawful {A = A} {B = B} q r law laws =
     let n = length q.fields in
     record {
       sound = λ parts v each e.
-          let a = bind_some (q.parse (take n parts)) (λ x. r.parse (drop n parts) >>= λ y. Some (pair x y)) v e in
-          let b = bind_some (r.parse (drop n parts)) (λ y. Some (pair a.0 y)) v a.2 in
+          let a = bind_some (q.deserialize (take n parts)) (λ x. r.deserialize (drop n parts) and_then λ y. Some (pair x y)) v e in
+          let b = bind_some (r.deserialize (drop n parts)) (λ y. Some (pair a.0 y)) v a.2 in
           let h = law.sound (take n parts) a.0 (All-take n parts each) a.1 in
           let k = laws.sound (drop n parts) b.0 (All-drop n parts each) b.1 in
           let P : A ⊗ B → Type 0 = λ w. (q ⊕ r).Within w × (parts ≡ (q ⊕ r).parts w) in
@@ -83,82 +86,49 @@ rows_lawful {A = A} {B = B} q r law laws =
           let all = q.parts v.first ++ r.parts v.rest in
           let front-is : take n all ≡ q.parts v.first = take_at (q.parts v.first) (r.parts v.rest) n len in
           let rest-is : drop n all ≡ r.parts v.rest = drop_at (q.parts v.first) (r.parts v.rest) n len in
-          ap (λ (o : Option A). o >>= λ x. r.parse (drop n all) >>= λ y. Some (pair x y)) (ap q.parse front-is ∙ law.complete v.first within.0)
-          ∙ ap (λ (o : Option B). o >>= λ y. Some (pair v.first y)) (ap r.parse rest-is ∙ laws.complete v.rest within.1);
+          ap (λ (o : Option A). o and_then λ x. r.deserialize (drop n all) and_then λ y. Some (pair x y)) (ap q.deserialize front-is ∙ law.complete v.first within.0)
+          ∙ ap (λ (o : Option B). o and_then λ y. Some (pair v.first y)) (ap r.deserialize rest-is ∙ laws.complete v.rest within.1);
       sizes = λ v within. fit-append q.fields r.fields (q.parts v.first) (r.parts v.rest) (law.sizes v.first within.0) (laws.sizes v.rest within.1);
     }
 
 pub map_lawful : {A B : Type 0} (r : Row A) (make : A → B) (fields : B → A) → ((b : B) → make (fields b) ≡ b) → ((a : A) → fields (make a) ≡ a) → IsLawfulRow r → IsLawfulRow (map_row r make fields)
 map_lawful {A = A} {B = B} r make fields there back law = record {
   sound = λ parts v each e.
-      let a = bind_some (r.parse parts) (λ x. Some (make x)) v e in
+      let a = bind_some (r.deserialize parts) (λ x. Some (make x)) v e in
       let h = law.sound parts a.0 each a.1 in
       let P : B → Type 0 = λ w. r.Within (fields w) × (parts ≡ r.parts (fields w)) in
       let Q : A → Type 0 = λ w. r.Within w × (parts ≡ r.parts w) in
       subst P (some_is _ v a.2) (subst Q (sym (back a.0)) h);
   complete = λ v within.
-      ap (λ (o : Option A). o >>= λ x. Some (make x)) (law.complete (fields v) within) ∙ ap (λ (b : B). Some b) (there v);
+      ap (λ (o : Option A). o and_then λ x. Some (make x)) (law.complete (fields v) within) ∙ ap (λ (b : B). Some b) (there v);
   sizes = λ v within. law.sizes (fields v) within;
 }
 
 pub map_where_lawful : {A B : Type 0} (Made : B → Type 0) (r : Row A) (make : A → B) (fields : B → A) → ((b : B) → Made b → make (fields b) ≡ b) → ((a : A) → Made (make a)) → ((a : A) → fields (make a) ≡ a) → IsLawfulRow r → IsLawfulRow (map_row_where Made r make fields)
 map_where_lawful {A = A} {B = B} Made r make fields there made back law = record {
   sound = λ parts v each e.
-      let a = bind_some (r.parse parts) (λ x. Some (make x)) v e in
+      let a = bind_some (r.deserialize parts) (λ x. Some (make x)) v e in
       let h = law.sound parts a.0 each a.1 in
       let P : B → Type 0 = λ w. (Made w × r.Within (fields w)) × (parts ≡ r.parts (fields w)) in
       let Q : A → Type 0 = λ w. r.Within w × (parts ≡ r.parts w) in
       let k = subst Q (sym (back a.0)) h in
       subst P (some_is _ v a.2) ((made a.0, k.0), k.1);
   complete = λ v within.
-      ap (λ (o : Option A). o >>= λ x. Some (make x)) (law.complete (fields v) within.1) ∙ ap (λ (b : B). Some b) (there v within.0);
+      ap (λ (o : Option A). o and_then λ x. Some (make x)) (law.complete (fields v) within.1) ∙ ap (λ (b : B). Some b) (there v within.0);
   sizes = λ v within. law.sizes (fields v) within.1;
 }
 
 -- ---- containers
 
-abbrev AllFixed : Field → List Field → List (List ℕ) → Type 0
-AllFixed (Fixed n) fs parts = (bodies fs parts ≡ []) × (heads_len fs ≡ n)
-AllFixed Variable fs parts = Unit {0}
-
-fixed_more : (n : ℕ) (f : Field) (fs : List Field) (p : List ℕ) (parts : List (List ℕ)) → AllFixed f fs parts → AllFixed (and_fixed n f) (Fixed n ∷ fs) (p ∷ parts)
-unfolding bodies
-fixed_more n (Fixed m) fs p parts h = (h.0, ap (λ k. n + k) h.1)
-fixed_more n Variable fs p parts h = tt
-
-are_fixed : (fs : List Field) (parts : List (List ℕ)) → FitFields fs parts → AllFixed (field_of fs) fs parts
-unfolding bodies
-are_fixed [] [] fit = (refl, refl)
-are_fixed [] (p ∷ parts) fit = elim fit [ ]
-are_fixed (f ∷ fs) [] fit = elim fit [ ]
-are_fixed (Fixed n ∷ fs) (p ∷ parts) fit = fixed_more n (field_of fs) fs p parts (are_fixed fs parts fit.1)
-are_fixed (Variable ∷ fs) (p ∷ parts) fit = tt
-
-size_from : (f : Field) (fs : List Field) (parts : List (List ℕ)) → FitFields fs parts → AllFixed f fs parts → HasSize f (joined fs parts)
-unfolding joined
-size_from (Fixed n) fs parts fit h =
-    omega (arith, length-append (heads fs parts (heads_len fs)) (bodies fs parts), heads_is_long fs parts (heads_len fs) fit, ap length h.0, h.1)
-size_from Variable fs parts fit h = tt
-
-pub container_lawful : {A : Type 0} (depth : ℕ) (r : Row A) → IsLawfulRow r → IsLawful (container depth r)
-container_lawful depth r law = record {
+pub container_lawful : {A : Type 0} (r : Row A) → IsLawfulRow r → IsLawful (container r)
+container_lawful r law = record {
   sound = λ bytes v fits e.
-      let b = bind_some (cut r.fields bytes) (λ parts. r.parse parts) v e in
+      let b = bind_some (cut r.fields bytes) (λ parts. r.deserialize parts) v e in
       let h = cut_is_joined r.fields bytes b.0 fits b.1 in
       let k = law.sound b.0 v h.each b.2 in
-      ((k.0, subst (λ parts. OffsetsFit r.fields parts (heads_len r.fields)) k.1 h.offsets), h.whole ∙ ap (joined r.fields) k.1);
+      ((k.0, subst (λ parts. OffsetsFit r.fields parts (fixed_length r.fields)) k.1 h.offsets), h.whole ∙ ap (joined r.fields) k.1);
   complete = λ v within.
-      ap (λ (o : Option (List (List ℕ))). o >>= λ parts. r.parse parts) (joined_is_cut r.fields (r.parts v) (law.sizes v within.0) within.1)
+      ap (λ (o : Option (List (List ℕ))). o and_then λ parts. r.deserialize parts) (joined_is_cut r.fields (r.parts v) (law.sizes v within.0) within.1)
       ∙ law.complete v within.0;
-  size = λ v within. size_from (field_of r.fields) r.fields (r.parts v) (law.sizes v within.0) (are_fixed r.fields (r.parts v) (law.sizes v within.0));
+  size = λ v within. parts_size r.fields (r.parts v) (law.sizes v within.0);
 }
-
-pub sized_lawful : {A : Type 0} (n : ℕ) (c : Codec A) → c.field ≡ Fixed n → IsLawful c → IsLawful (sized n c)
-sized_lawful n c is law = record {
-  sound = law.sound;
-  complete = law.complete;
-  size = λ v within. subst (λ f. HasSize f (c.writing v)) is (law.size v within);
-}
-
-pub variable_lawful : {A : Type 0} (c : Codec A) → IsLawful c → IsLawful (variable c)
-variable_lawful c law = record { sound = law.sound; complete = law.complete; size = λ v within. tt }

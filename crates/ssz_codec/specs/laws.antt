@@ -1,0 +1,6 @@
+pub mod Layout
+pub mod Basic
+pub mod BitLists
+pub mod Lists
+pub mod Containers
+pub mod Rows
