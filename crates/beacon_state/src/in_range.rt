@@ -1,10 +1,13 @@
 //! What a list of the state holds: values that are within the limits of their codec by their type, and can be copied.
 
 ghost use Rattle.std.specs.Prelude.{◌≡◌, IfOk};
-ghost use Rattle.beacon_types.specs.Containers.{eth1_data_codec, validator_codec, attestation_data_codec, checkpoint_codec, pending_attestation_codec};
+ghost use Rattle.ssz_codec.specs.Basic.{bytes32, bitvector};
+ghost use Rattle.beacon_types.specs.Containers.{fork_codec, block_header_codec, eth1_data_codec, validator_codec, attestation_data_codec, checkpoint_codec, pending_attestation_codec};
 
 use bc_words::NoMemory;
-use beacon_types::{AttestationData, Checkpoint, Eth1Data, PendingAttestation, Validator};
+use beacon_types::{
+    AttestationData, BeaconBlockHeader, Checkpoint, Eth1Data, Fork, PendingAttestation, Validator,
+};
 use hash_tree::Root;
 use ssz_codec::{Ssz, reads_back};
 use std::alloc::Global;
@@ -95,7 +98,7 @@ fn copy_of(alloc: Global, attestation: &PendingAttestation) -> Result<PendingAtt
 }
 
 #[tactic(auto, unfolding(ssz_codec::specs::Layout::OffsetsFit))]
-fn eth1_data_in_range(eth1: &Eth1Data)
+pub(crate) fn eth1_data_in_range(eth1: &Eth1Data)
     ensures { eth1_data_codec.Within eth1.now }
 {
     let _root = eth1.deposit_root;
@@ -117,7 +120,7 @@ fn validator_in_range(validator: &Validator)
 }
 
 #[tactic(auto, unfolding(ssz_codec::specs::Layout::OffsetsFit))]
-fn checkpoint_in_range(checkpoint: &Checkpoint)
+pub(crate) fn checkpoint_in_range(checkpoint: &Checkpoint)
     ensures { checkpoint_codec.Within checkpoint.now }
 {
     let _epoch = checkpoint.epoch;
@@ -143,4 +146,36 @@ fn attestation_in_range(attestation: &PendingAttestation)
     attestation_data_in_range(&attestation.content);
     let _delay = attestation.inclusion_delay;
     let _proposer = attestation.proposer_index;
+}
+
+#[tactic(auto, unfolding(ssz_codec::specs::Layout::OffsetsFit))]
+pub(crate) fn fork_in_range(fork: &Fork)
+    ensures { fork_codec.Within fork.now }
+{
+    let _previous = fork.previous_version;
+    let _current = fork.current_version;
+    let _epoch = fork.epoch;
+}
+
+#[tactic(auto, unfolding(ssz_codec::specs::Layout::OffsetsFit))]
+pub(crate) fn header_in_range(header: &BeaconBlockHeader)
+    ensures { block_header_codec.Within header.now }
+{
+    let _slot = header.slot;
+    let _proposer = header.proposer_index;
+    let _parent = header.parent_root;
+    let _state = header.state_root;
+    let _body = header.body_root;
+}
+
+pub(crate) fn root_in_range(root: &Root)
+    ensures { bytes32.Within root.now }
+{
+    let _root = *root;
+}
+
+pub(crate) fn bits_in_range(bits: &[bool; 4])
+    ensures { (bitvector 4).Within bits.now }
+{
+    let _bits = *bits;
 }

@@ -7,9 +7,7 @@ ghost use Rattle.spec_state.specs.Genesis.{header_root_of};
 use crate::groups::{attestations_limit_of, votes_limit_of};
 use crate::state::State;
 use hash_tree::{Leaf, Root, fields_root};
-use ssz_codec::{
-    list_root, number_list_root, number_vector_root, variable_list_root, vector_root,
-};
+use ssz_codec::{list_root, number_list_root, number_vector_root, variable_list_root, vector_root};
 
 impl State {
     /// The root of the state (simple-serialize.md, "Merkleization"). It takes no memory.

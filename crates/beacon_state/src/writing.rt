@@ -122,12 +122,16 @@ fn write_plain(alloc: Global, s: &State) -> Result<Vec<u8>, NoMemory>
 }
 
 impl State {
-    /// The writing of the state, which must have one: each of its offsets fits in four bytes.
+    /// The writing of the state, which must have one: each of its offsets fits in four bytes. It is read as this state.
+    #[tactic(auto, using(crate::proofs::Writings::written_again))]
     pub fn write(&self, alloc: Global) -> Result<Vec<u8>, NoMemory>
         requires { HasWriting self.now }
-        ensures { IfOk result (λ bytes. bytes.items ≡ (state_codec self.now.preset).serialize self.now) }
+        ensures writing { IfOk result (λ bytes. bytes.items ≡ (state_codec self.now.preset).serialize self.now) }
+        ensures reads_back { IfOk result (λ bytes. (state_codec self.now.preset).deserialize bytes.items ≡ Some self.now) }
     {
-        write_plain(alloc, self)
+        self.in_range();
+        let bytes = write_plain(alloc, self)?;
+        Ok(bytes)
     }
 }
 

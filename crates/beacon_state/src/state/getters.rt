@@ -179,7 +179,8 @@ impl State {
         self.balances.len()
     }
 
-    /// The balance of a validator, in Gwei. None exactly where the place is not below the length.
+    /// The balance of a validator, in Gwei. None exactly where the
+    /// place is not below the length.
     pub fn balances_at(&self, i: u64) -> Option<u64>
         ensures { result ≡ slice_get self.now.balances i }
     {
@@ -209,7 +210,8 @@ impl State {
         self.slashings.len()
     }
 
-    /// The balance that was slashed in the latest epoch that has this place, in Gwei. None exactly where the place is not below the length.
+    /// The balance that was slashed in the latest epoch that has this place, in Gwei. None exactly where the
+    /// place is not below the length.
     pub fn slashings_at(&self, i: u64) -> Option<u64>
         ensures { result ≡ slice_get self.now.slashings i }
     {

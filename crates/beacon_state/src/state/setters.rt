@@ -117,8 +117,8 @@ impl State {
         self.historical_roots.set(i, root)
     }
 
-    /// Appends one more root of a batch. Full exactly where there are as many as the limit; the state is then as before, as it is
-    /// where memory is refused.
+    /// Appends one more root of a batch. Full exactly where there are as many as the limit. On an error the
+    /// state is as before.
     pub fn push_historical_roots(&mut self, root: Root) -> Result<(), PushStop>
         ensures { Pushes result self.old self.new (bind (checked_push self.old.preset.historical_roots_limit self.old.historical_roots root) (λ items. done (record self.old { historical_roots = items }))) }
     {
@@ -134,8 +134,8 @@ impl State {
         self.eth1_data_votes.set(i, vote)
     }
 
-    /// Appends one more vote. Full exactly where there are as many as the limit; the state is then as before, as it is
-    /// where memory is refused.
+    /// Appends one more vote. Full exactly where there are as many as the limit. On an error the
+    /// state is as before.
     pub fn push_eth1_data_votes(&mut self, vote: Eth1Data) -> Result<(), PushStop>
         ensures { Pushes result self.old self.new (bind (checked_push (votes_limit self.old.preset) self.old.eth1_data_votes vote) (λ items. done (record self.old { eth1_data_votes = items }))) }
     {
@@ -151,8 +151,8 @@ impl State {
         self.validators.set(i, validator)
     }
 
-    /// Appends one more validator. Full exactly where there are as many as the limit; the state is then as before, as it is
-    /// where memory is refused.
+    /// Appends one more validator. Full exactly where there are as many as the limit. On an error the
+    /// state is as before.
     pub fn push_validators(&mut self, validator: Validator) -> Result<(), PushStop>
         ensures { Pushes result self.old self.new (bind (checked_push self.old.preset.validator_registry_limit self.old.validators validator) (λ items. done (record self.old { validators = items }))) }
     {
@@ -168,8 +168,8 @@ impl State {
         self.balances.set(i, balance)
     }
 
-    /// Appends one more balance. Full exactly where there are as many as the limit; the state is then as before, as it is
-    /// where memory is refused.
+    /// Appends one more balance. Full exactly where there are as many as the limit. On an error the
+    /// state is as before.
     pub fn push_balances(&mut self, balance: u64) -> Result<(), PushStop>
         ensures { Pushes result self.old self.new (bind (checked_push self.old.preset.validator_registry_limit self.old.balances balance) (λ items. done (record self.old { balances = items }))) }
     {
@@ -205,8 +205,8 @@ impl State {
         self.previous_epoch_attestations.set(i, attestation)
     }
 
-    /// Appends one more attestation. Full exactly where there are as many as the limit; the state is then as before, as it is
-    /// where memory is refused.
+    /// Appends one more attestation. Full exactly where there are as many as the limit. On an error the
+    /// state is as before.
     pub fn push_previous_epoch_attestations(
         &mut self,
         attestation: PendingAttestation,
@@ -229,8 +229,8 @@ impl State {
         self.current_epoch_attestations.set(i, attestation)
     }
 
-    /// Appends one more attestation. Full exactly where there are as many as the limit; the state is then as before, as it is
-    /// where memory is refused.
+    /// Appends one more attestation. Full exactly where there are as many as the limit. On an error the
+    /// state is as before.
     pub fn push_current_epoch_attestations(
         &mut self,
         attestation: PendingAttestation,

@@ -5,8 +5,13 @@ ghost use Rattle.std.specs.List.{AllByRecursion};
 ghost use Rattle.ssz_codec.specs.Basic.{uint64, bytes32};
 ghost use Rattle.beacon_types.specs.Containers.{validator_codec, eth1_data_codec, pending_attestation_codec};
 ghost use Rattle.spec_state.specs.States.{votes_limit, attestations_limit};
+ghost use Rattle.spec_state.specs.Limits.{IsState, IsInRange};
 
 use super::State;
+use crate::in_range::{
+    bits_in_range, checkpoint_in_range, eth1_data_in_range, fork_in_range, header_in_range,
+    root_in_range,
+};
 use beacon_types::{Eth1Data, PendingAttestation, Validator};
 use hash_tree::Root;
 
@@ -99,5 +104,34 @@ impl State {
         ensures limit { length self.now.current_epoch_attestations ≤ attestations_limit self.now.preset }
     {
         self.current_epoch_attestations.as_slice()
+    }
+
+    /// The state is within the limits of its preset, and so is each value. It does nothing when it runs.
+    pub(crate) fn in_range(&self)
+        ensures state { IsState self.now }
+        ensures range { IsInRange self.now }
+    {
+        let _preset = &self.preset;
+        let _time = self.genesis_time;
+        let _slot = self.slot;
+        let _index = self.eth1_deposit_index;
+        root_in_range(&self.genesis_validators_root);
+        bits_in_range(&self.justification_bits);
+        fork_in_range(&self.fork);
+        header_in_range(&self.latest_block_header);
+        eth1_data_in_range(&self.eth1_data);
+        checkpoint_in_range(&self.previous_justified_checkpoint);
+        checkpoint_in_range(&self.current_justified_checkpoint);
+        checkpoint_in_range(&self.finalized_checkpoint);
+        let _block_roots = self.block_roots();
+        let _state_roots = self.state_roots();
+        let _historical_roots = self.historical_roots();
+        let _votes = self.eth1_data_votes();
+        let _validators = self.validators();
+        let _balances = self.balances();
+        let _mixes = self.randao_mixes();
+        let _slashings = self.slashings();
+        let _previous = self.previous_epoch_attestations();
+        let _current = self.current_epoch_attestations();
     }
 }
