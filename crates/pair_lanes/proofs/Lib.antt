@@ -1,0 +1,4 @@
+pub mod Lanes
+pub mod Schedules
+pub mod Padding
+pub mod Hashes

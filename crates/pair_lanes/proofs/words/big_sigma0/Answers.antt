@@ -1,0 +1,5 @@
+use Rattle.std.proofs.Common.{refl}
+use Rattle.pair_lanes.proofs.words.big_sigma0.Goals as goal
+
+pub returns : goal.returns
+returns c j h = rw (c.xor-2.ensures j h, c.xor.ensures j h, c.turn.ensures j h, c.turn-2.ensures j h, c.turn-3.ensures j h) refl

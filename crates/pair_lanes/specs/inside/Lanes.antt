@@ -1,0 +1,21 @@
+-- Eight messages side by side: each word is a vector, with one lane for each message.
+use Rattle.std.specs.Prelude.{ℕ, List, [], ◌∷◌, map, slice_index, slice_index_or}
+use Rattle.sha2.specs.Sha256.{padding}
+
+-- lane j of each vector
+abbrev pub lane : ℕ → List (List ℕ) → List ℕ
+lane j words = map (λ word. slice_index word j) words
+
+-- lane j of vector k
+abbrev pub lane_at : List (List ℕ) → ℕ → ℕ → ℕ
+lane_at words k j = slice_index (slice_index_or words k []) j
+
+-- the eight working variables of message j
+abbrev pub variables : ℕ → List (List ℕ) → List ℕ
+variables j v =
+    lane_at v 0 j ∷ lane_at v 1 j ∷ lane_at v 2 j ∷ lane_at v 3 j
+    ∷ lane_at v 4 j ∷ lane_at v 5 j ∷ lane_at v 6 j ∷ lane_at v 7 j ∷ []
+
+-- the block behind a message of 64 bytes
+unfoldable pub padding_block : List ℕ
+padding_block = padding 64

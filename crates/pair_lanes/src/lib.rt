@@ -1,0 +1,16 @@
+//! Hashes of pairs of roots, eight at a time.
+//!
+//! `sha2` says what a hash is; here it is computed on vectors of eight words, one lane for each message. Pairs come from
+//! the layers of trees above, and their hashes go back there.
+#![tactic(auto)]
+
+mod constants;
+mod eight;
+mod pairs;
+mod rounds;
+mod words;
+
+pub use pairs::hash_pairs;
+
+#[cfg(test)]
+mod tests;

@@ -1,0 +1,174 @@
+//! The block function of SHA-256 (FIPS 180-4, 6.2.2), on eight blocks at a time.
+
+ghost use Rattle.std.specs.Prelude.{◌≡◌, ℕ, ◌+◌, ◌*◌, ◌<◌, ◌≤◌, List, slice_index};
+ghost use Rattle.sha2.specs.Sha256.{add_state, compress, initial_hash_256, next_word, round, round_constants, rounds, schedule, word_at};
+ghost use Rattle.pair_lanes.specs.inside.Lanes.{lane, lane_at, variables, padding_block};
+
+use crate::constants::{PADDING_WORDS, ROUND_CONSTANTS};
+use crate::words::{add, big_sigma0, big_sigma1, choose, majority, small_sigma0, small_sigma1};
+use std::simd::u32x8;
+
+/// The hash value before the first block (FIPS 180-4, 5.3.3), in each lane.
+#[inline(always)]
+pub(crate) fn initial() -> [u32x8; 8]
+    ensures { (j : ℕ) → j < 8 → variables j result ≡ initial_hash_256 }
+{
+    [
+        u32x8::splat(0x6a09_e667),
+        u32x8::splat(0xbb67_ae85),
+        u32x8::splat(0x3c6e_f372),
+        u32x8::splat(0xa54f_f53a),
+        u32x8::splat(0x510e_527f),
+        u32x8::splat(0x9b05_688c),
+        u32x8::splat(0x1f83_d9ab),
+        u32x8::splat(0x5be0_cd19),
+    ]
+}
+
+/// The word at a place of the schedule, from the words before it.
+#[inline(always)]
+fn following(w: &[u32x8; 64], t: usize) -> u32x8
+    requires low { 16 ≤ t }
+    requires high { t < 64 }
+    ensures { (j : ℕ) → j < 8 → slice_index result j ≡ next_word (lane j w.now) t }
+{
+    let near = add(small_sigma1(w[t - 2]), w[t - 7]);
+    add(add(near, small_sigma0(w[t - 15])), w[t - 16])
+}
+
+/// Fills the schedule behind the words of the block.
+#[inline(always)]
+pub(crate) fn expand(w: &mut [u32x8; 64])
+    ensures { (j : ℕ) (b : List ℕ) → j < 8 → ((k : ℕ) → k < 16 → lane_at w.old k j ≡ word_at b (4 * k))
+        → (k : ℕ) → k < 64 → lane_at w.new k j ≡ slice_index (schedule b 48) k }
+{
+    'words: for t in 16..64 {
+        w[t] = following(w, t);
+    }
+}
+
+/// One round.
+#[inline(always)]
+fn round(v: [u32x8; 8], constant: u32, word: u32x8) -> [u32x8; 8]
+    ensures { (j : ℕ) → j < 8 → variables j result ≡ round (variables j v) constant (slice_index word j) }
+{
+    let [a, b, c, d, e, f, g, h] = v;
+    let chosen = add(add(h, big_sigma1(e)), choose(e, f, g));
+    let first = add(add(chosen, u32x8::splat(constant)), word);
+    let second = add(big_sigma0(a), majority(a, b, c));
+    [add(first, second), a, b, c, add(d, first), e, f, g]
+}
+
+/// The round with a word of a schedule.
+#[inline(always)]
+fn step(w: &[u32x8; 64], v: [u32x8; 8], t: usize) -> [u32x8; 8]
+    requires { t < 64 }
+    ensures { (j : ℕ) (h words : List ℕ) → j < 8 → lane_at w.now t j ≡ slice_index words t → variables j v ≡ rounds h words t
+        → variables j result ≡ rounds h words (t + 1) }
+{
+    round(v, ROUND_CONSTANTS[t], w[t])
+}
+
+/// Four rounds.
+#[inline(always)]
+fn four_steps(w: &[u32x8; 64], v: [u32x8; 8], t: usize) -> [u32x8; 8]
+    requires { t + 4 ≤ 64 }
+    ensures { (j : ℕ) (h words : List ℕ) → j < 8 → ((k : ℕ) → k < 64 → lane_at w.now k j ≡ slice_index words k) → variables j v ≡ rounds h words t
+        → variables j result ≡ rounds h words (t + 4) }
+{
+    let v = step(w, v, t);
+    let v = step(w, v, t + 1);
+    let v = step(w, v, t + 2);
+    step(w, v, t + 3)
+}
+
+/// Sixteen rounds.
+#[inline(always)]
+fn sixteen_steps(w: &[u32x8; 64], v: [u32x8; 8], t: usize) -> [u32x8; 8]
+    requires { t + 16 ≤ 64 }
+    ensures { (j : ℕ) (h words : List ℕ) → j < 8 → ((k : ℕ) → k < 64 → lane_at w.now k j ≡ slice_index words k) → variables j v ≡ rounds h words t
+        → variables j result ≡ rounds h words (t + 16) }
+{
+    let v = four_steps(w, v, t);
+    let v = four_steps(w, v, t + 4);
+    let v = four_steps(w, v, t + 8);
+    four_steps(w, v, t + 12)
+}
+
+/// The sums of two hash values.
+#[inline(always)]
+fn add_all(h: [u32x8; 8], v: [u32x8; 8]) -> [u32x8; 8]
+    ensures { (j : ℕ) → j < 8 → variables j result ≡ add_state (variables j h) (variables j v) }
+{
+    [
+        add(h[0], v[0]),
+        add(h[1], v[1]),
+        add(h[2], v[2]),
+        add(h[3], v[3]),
+        add(h[4], v[4]),
+        add(h[5], v[5]),
+        add(h[6], v[6]),
+        add(h[7], v[7]),
+    ]
+}
+
+/// The hash value behind a block with this schedule.
+#[inline(always)]
+pub(crate) fn compress(h: [u32x8; 8], w: &[u32x8; 64]) -> [u32x8; 8]
+    ensures { (j : ℕ) (b : List ℕ) → j < 8 → ((k : ℕ) → k < 64 → lane_at w.now k j ≡ slice_index (schedule b 48) k)
+        → variables j result ≡ compress (variables j h) b }
+{
+    let v = sixteen_steps(w, h, 0);
+    let v = sixteen_steps(w, v, 16);
+    let v = sixteen_steps(w, v, 32);
+    let v = sixteen_steps(w, v, 48);
+    add_all(h, v)
+}
+
+/// The round with a word of the padding's schedule.
+#[inline(always)]
+fn padding_step(v: [u32x8; 8], t: usize) -> [u32x8; 8]
+    requires { t < 64 }
+    ensures { (j : ℕ) (h : List ℕ) → j < 8 → variables j v ≡ rounds h (schedule padding_block 48) t
+        → variables j result ≡ rounds h (schedule padding_block 48) (t + 1) }
+{
+    round(v, ROUND_CONSTANTS[t], u32x8::splat(PADDING_WORDS[t]))
+}
+
+/// Four such rounds.
+#[inline(always)]
+fn four_padding_steps(v: [u32x8; 8], t: usize) -> [u32x8; 8]
+    requires { t + 4 ≤ 64 }
+    ensures { (j : ℕ) (h : List ℕ) → j < 8 → variables j v ≡ rounds h (schedule padding_block 48) t
+        → variables j result ≡ rounds h (schedule padding_block 48) (t + 4) }
+{
+    let v = padding_step(v, t);
+    let v = padding_step(v, t + 1);
+    let v = padding_step(v, t + 2);
+    padding_step(v, t + 3)
+}
+
+/// Sixteen such rounds.
+#[inline(always)]
+fn sixteen_padding_steps(v: [u32x8; 8], t: usize) -> [u32x8; 8]
+    requires { t + 16 ≤ 64 }
+    ensures { (j : ℕ) (h : List ℕ) → j < 8 → variables j v ≡ rounds h (schedule padding_block 48) t
+        → variables j result ≡ rounds h (schedule padding_block 48) (t + 16) }
+{
+    let v = four_padding_steps(v, t);
+    let v = four_padding_steps(v, t + 4);
+    let v = four_padding_steps(v, t + 8);
+    four_padding_steps(v, t + 12)
+}
+
+/// The hash value behind the block of padding.
+#[inline(always)]
+pub(crate) fn compress_padding(h: [u32x8; 8]) -> [u32x8; 8]
+    ensures { (j : ℕ) → j < 8 → variables j result ≡ compress (variables j h) padding_block }
+{
+    let v = sixteen_padding_steps(h, 0);
+    let v = sixteen_padding_steps(v, 16);
+    let v = sixteen_padding_steps(v, 32);
+    let v = sixteen_padding_steps(v, 48);
+    add_all(h, v)
+}

@@ -1,0 +1,105 @@
+//! The functions of SHA-256 on words (FIPS 180-4, 4.1.2), on eight words at a time.
+
+ghost use Rattle.std.specs.Prelude.{◌≡◌, ℕ, ◌^◌, ◌/◌, ◌<◌, bit_and, bit_xor, slice_index};
+ghost use Rattle.std.specs.Int.{w32, bit_not, rotate_right};
+ghost use Rattle.sha2.specs.Sha256.{add32, big_sigma0, big_sigma1, ch, maj, small_sigma0, small_sigma1};
+
+use std::simd::u32x8;
+
+/// The sums of words, without their carries.
+#[inline(always)]
+pub(crate) fn add(a: u32x8, b: u32x8) -> u32x8
+    ensures { (j : ℕ) → j < 8 → slice_index result j ≡ add32 (slice_index a j) (slice_index b j) }
+{
+    a + b
+}
+
+/// Words with the bits of one or the other.
+#[inline(always)]
+fn xor(a: u32x8, b: u32x8) -> u32x8
+    ensures { (j : ℕ) → j < 8 → slice_index result j ≡ bit_xor (slice_index a j) (slice_index b j) }
+{
+    a ^ b
+}
+
+/// Words turned right by so many bits.
+#[inline(always)]
+fn turn(x: u32x8, bits: u32) -> u32x8
+    requires { (0 < bits) × (bits < 32) }
+    ensures { (j : ℕ) → j < 8 → slice_index result j ≡ rotate_right w32 (slice_index x j) bits }
+{
+    (x >> u32x8::splat(bits)) | (x << u32x8::splat(32 - bits))
+}
+
+/// Words shifted right by so many bits.
+#[inline(always)]
+fn shift(x: u32x8, bits: u32) -> u32x8
+    requires { bits < 32 }
+    ensures { (j : ℕ) → j < 8 → slice_index result j ≡ slice_index x j / 2 ^ bits }
+{
+    x >> u32x8::splat(bits)
+}
+
+/// Words with the bits of both.
+#[inline(always)]
+fn and(a: u32x8, b: u32x8) -> u32x8
+    ensures { (j : ℕ) → j < 8 → slice_index result j ≡ bit_and (slice_index a j) (slice_index b j) }
+{
+    a & b
+}
+
+/// Words with the bits of the second that the first lacks.
+#[inline(always)]
+fn without(a: u32x8, b: u32x8) -> u32x8
+    ensures { (j : ℕ) → j < 8 → slice_index result j ≡ bit_and (bit_not w32 (slice_index a j)) (slice_index b j) }
+{
+    !a & b
+}
+
+/// Ch.
+#[inline(always)]
+pub(crate) fn choose(x: u32x8, y: u32x8, z: u32x8) -> u32x8
+    ensures { (j : ℕ) → j < 8 → slice_index result j ≡ ch (slice_index x j) (slice_index y j) (slice_index z j) }
+{
+    xor(and(x, y), without(x, z))
+}
+
+/// Maj.
+#[inline(always)]
+pub(crate) fn majority(x: u32x8, y: u32x8, z: u32x8) -> u32x8
+    ensures { (j : ℕ) → j < 8 → slice_index result j ≡ maj (slice_index x j) (slice_index y j) (slice_index z j) }
+{
+    xor(xor(and(x, y), and(x, z)), and(y, z))
+}
+
+/// The upper case Σ 0.
+#[inline(always)]
+pub(crate) fn big_sigma0(x: u32x8) -> u32x8
+    ensures { (j : ℕ) → j < 8 → slice_index result j ≡ big_sigma0 (slice_index x j) }
+{
+    xor(xor(turn(x, 2), turn(x, 13)), turn(x, 22))
+}
+
+/// The upper case Σ 1.
+#[inline(always)]
+pub(crate) fn big_sigma1(x: u32x8) -> u32x8
+    ensures { (j : ℕ) → j < 8 → slice_index result j ≡ big_sigma1 (slice_index x j) }
+{
+    xor(xor(turn(x, 6), turn(x, 11)), turn(x, 25))
+}
+
+/// The lower case σ 0.
+#[inline(always)]
+pub(crate) fn small_sigma0(x: u32x8) -> u32x8
+    ensures { (j : ℕ) → j < 8 → slice_index result j ≡ small_sigma0 (slice_index x j) }
+{
+    xor(xor(turn(x, 7), turn(x, 18)), shift(x, 3))
+}
+
+/// The lower case σ 1.
+#[inline(always)]
+pub(crate) fn small_sigma1(x: u32x8) -> u32x8
+    ensures { (j : ℕ) → j < 8 → slice_index result j ≡ small_sigma1 (slice_index x j) }
+{
+    xor(xor(turn(x, 17), turn(x, 19)), shift(x, 10))
+}
