@@ -2,3 +2,4 @@ pub mod Chunks
 pub mod Depths
 pub mod Halves
 pub mod Zeros
+pub mod Layers

@@ -1,12 +1,14 @@
 //! The Merkle root of a row of chunks, by halves, down to single chunks.
 //!
 //! Rows come from `rows`, and hold borrowed slices, so that nothing is copied. What a row lacks up to the tree's
-//! width is taken from the table of zero roots, whole subtrees at a time.
+//! width is taken from the table of zero roots, whole subtrees at a time. A subtree of 64 chunks is hashed layer by layer,
+//! eight pairs at a time.
 
-ghost use Rattle.std.specs.Prelude.{◌≡◌, ℕ, ◌-◌, ◌^◌, ◌<◌, ◌≤◌, List, length, get_or, take, drop};
+ghost use Rattle.std.specs.Prelude.{◌≡◌, ℕ, ◌-◌, ◌^◌, ◌<◌, ◌≤◌, List, [], length, get_or, take, drop};
 ghost use Rattle.hash_tree.specs.Merkle.{merkle_root};
 
 use crate::{Root, hash_pair, zero_hash};
+use pair_lanes::hash_layer;
 
 /// A row of chunks that is cut in two without copying it.
 pub trait Row: Copy {
@@ -29,6 +31,39 @@ pub trait Row: Copy {
         ensures back { chunks result.1 ≡ drop at (chunks self.now) };
 }
 
+/// A chunk of a row.
+fn nth<R: Row>(row: &R, index: usize) -> Root
+    requires { index < length (R.chunks row.now) }
+    ensures { result ≡ get_or (R.chunks row.now) index [] }
+{
+    row.cut(index).1.first()
+}
+
+/// The depth of a tree whose layers are hashed whole, where each of its leaves is a chunk.
+const WHOLE_DEPTH: u32 = 6;
+
+/// The root of so many chunks, layer by layer.
+fn whole_root<R: Row>(row: &R) -> Root
+    requires { length (R.chunks row.now) ≡ 64 }
+    ensures { result ≡ merkle_root 6 (R.chunks row.now) }
+{
+    let mut leaves = [[0; 32]; 64];
+    'leaves: for i in 0..64 {
+        leaves[i] = nth(row, i);
+    }
+    let mut fifth = [[0; 32]; 32];
+    hash_layer(&leaves, &mut fifth);
+    let mut fourth = [[0; 32]; 16];
+    hash_layer(&fifth, &mut fourth);
+    let mut third = [[0; 32]; 8];
+    hash_layer(&fourth, &mut third);
+    let mut second = [[0; 32]; 4];
+    hash_layer(&third, &mut second);
+    let mut first = [[0; 32]; 2];
+    hash_layer(&second, &mut first);
+    hash_pair(&first[0], &first[1])
+}
+
 /// How many chunks one half of a tree holds.
 fn half_width(depth: u32) -> usize
     requires inner { 0 < depth }
@@ -49,6 +84,9 @@ pub fn merkle_of<R: Row>(row: &R, depth: u32) -> Root
     }
     if depth == 0 {
         return row.first();
+    }
+    if depth == WHOLE_DEPTH && row.count() == 64 {
+        return whole_root(row);
     }
     let half = half_width(depth);
     if row.count() <= half {

@@ -2,3 +2,4 @@ pub mod Lanes
 pub mod Schedules
 pub mod Padding
 pub mod Hashes
+pub mod Layers

@@ -10,7 +10,7 @@ mod pairs;
 mod rounds;
 mod words;
 
-pub use pairs::hash_pairs;
+pub use pairs::{hash_layer, hash_pairs};
 
 #[cfg(test)]
 mod tests;

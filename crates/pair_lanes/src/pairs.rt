@@ -2,7 +2,7 @@
 
 ghost use Rattle.std.specs.Prelude.{◌≡◌, ℕ, ◌+◌, ◌*◌, ◌<◌, ◌≤◌, [], length, slice_index_or};
 ghost use Rattle.sha2.specs.Sha256.{sha256};
-ghost use Rattle.pair_lanes.specs.Pairs.{message, hashes_of};
+ghost use Rattle.pair_lanes.specs.Pairs.{message, hashes_of, parents};
 
 use crate::eight::hash_eight;
 use sha2::{Digest, Sha256};
@@ -30,4 +30,14 @@ pub fn hash_pairs(pairs: &[[[u8; 32]; 2]], out: &mut [[u8; 32]])
     'rest: for k in 8 * whole..pairs.len() {
         out[k] = hash_one(&pairs[k]);
     }
+}
+
+/// Writes the parents of a layer of nodes. It takes no memory.
+#[tactic(auto, using(crate::proofs::Layers::pairs_of))]
+pub fn hash_layer(nodes: &[[u8; 32]], out: &mut [[u8; 32]])
+    requires { length nodes.now ≡ 2 * length out.old }
+    ensures { out.new ≡ parents nodes.now }
+{
+    let (pairs, _) = nodes.as_chunks::<2>();
+    hash_pairs(pairs, out);
 }
