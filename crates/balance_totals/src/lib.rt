@@ -1,12 +1,14 @@
-//! Active validators and total balances (beacon-chain.md, "Beacon state accessors").
+//! Active validators, total balances and the committees of an epoch (beacon-chain.md, "Beacon state accessors").
 //!
-//! They read the registry of a state; committees, justification and rewards take what they give.
+//! They read the registry and the mixes of a state; the steps of blocks and epochs take what they give.
 #![tactic(auto)]
 
+mod epoch;
 mod totals;
 mod validators;
 
-pub use totals::{active, total_active, total_of};
+pub use epoch::committees_of_epoch;
+pub use totals::{active, active_are_indices, total_active, total_of};
 
 #[cfg(test)]
 mod tests;

@@ -2,7 +2,7 @@
 
 ghost use Rattle.std.specs.Prelude.{◌<◌, ◌^◌};
 
-use crate::{active, total_active, total_of};
+use crate::{active, committees_of_epoch, total_active, total_of};
 use bc_preset::Preset;
 use beacon_state::State;
 use std::alloc::{AllocError, Global};
@@ -57,6 +57,12 @@ fn totals_are(rt: &impl Abort, alloc: Global, state: &State) -> Result<(), Fail>
     assert_eq!(rt; total_of(state, &[3, 63])?, 64_000_000_000);
     assert_eq!(rt; active(alloc, state, 4)?.len(), 64);
     assert_eq!(rt; active(alloc, state, 5)?.last().copied(), Some(62));
+    let committees = committees_of_epoch(alloc, state, 0)?;
+    assert_eq!(rt; committees.per_slot(), 2);
+    assert_eq!(rt;
+        committees.committee(15, 1).map(|members| members.len()),
+        Some(4)
+    );
     Ok(())
 }
 

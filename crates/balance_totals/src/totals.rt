@@ -1,13 +1,15 @@
 //! The list of active validators, and the total balance of a set.
 
-ghost use Rattle.std.specs.Prelude.{◌≡◌, ℕ, max, IfOk};
+ghost use Rattle.std.specs.Prelude.{◌≡◌, ◌<◌, ◌≤◌, ◌^◌, ℕ, max, length, slice_index, IfOk};
 ghost use Rattle.bc_words.specs.Outcome.{GivesExactly, checked_sum_by};
+ghost use Rattle.committees.specs.Committees.{IsWithoutRepeats};
 ghost use Rattle.spec_state.specs.Misc.{effective_balance};
 ghost use Rattle.spec_state.specs.Accessors.{get_active_validator_indices, get_total_balance};
 
 use crate::validators::{effective_at, is_active_at};
 use bc_words::{NoMemory, Stop, checked_add};
 use beacon_state::State;
+use committees::Lookup;
 use std::alloc::Global;
 
 /// The indices of the validators that are active at the epoch, in order (beacon-chain.md,
@@ -24,6 +26,17 @@ pub fn active(alloc: Global, state: &State, epoch: u64) -> Result<Vec<u64>, NoMe
         indices.push(index)?;
     }
     Ok(indices)
+}
+
+/// The law that the active validators of an epoch are at most 2^40 indices of the registry, none twice. It does nothing
+/// when it runs.
+pub fn active_are_indices(state: &State, epoch: u64)
+    ensures fits { length (get_active_validator_indices state.now epoch) ≤ 2 ^ 40 }
+    ensures in_registry { (k : ℕ) → k < length (get_active_validator_indices state.now epoch) → slice_index (get_active_validator_indices state.now epoch) k < length state.now.validators }
+    ensures without_repeats { IsWithoutRepeats (get_active_validator_indices state.now epoch) }
+{
+    Lookup::preset(state).bounds();
+    let _count = state.validators_len();
 }
 
 /// The sum of the effective balances of the validators with these indices, in Gwei.

@@ -2,7 +2,7 @@
 use Rattle.std.proofs.Common.{refl, subst, sym, lit≤, inl, inr}
 use Rattle.bc_preset.specs.declared.presets.Preset.{Preset}
 use Rattle.bc_preset.specs.Presets.{mainnet, minimal, IsPreset}
-use Rattle.bc_preset.specs.Bounds.{HasPresetBounds}
+use Rattle.bc_preset.specs.laws.Bounds.{HasPresetBounds}
 
 pub mainnet_bounds : HasPresetBounds mainnet
 mainnet_bounds =

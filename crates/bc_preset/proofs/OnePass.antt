@@ -12,7 +12,7 @@ use Rattle.bc_preset.specs.Keys.{row_of}
 use Rattle.bc_preset.specs.Numbers.{number_of}
 use Rattle.bc_preset.specs.Lines.{Line, skipped, other, setting, faulty, line_of}
 use Rattle.bc_preset.specs.Configs.{◌>>=◌, or_fault, preset_named, sets, is_value, bad_value, line_fault, first_fault, unless, checked, first_some, number_from, preset_from, values_of, all_in_range, config_of}
-use Rattle.bc_preset.specs.OnePass.{is_set, set_key, after_line, after_lines, all_set, one_pass}
+use Rattle.bc_preset.specs.inside.OnePass.{is_set, set_key, after_line, after_lines, all_set, one_pass}
 
 -- the values that lines give
 abbrev settings_of : List Line → Settings

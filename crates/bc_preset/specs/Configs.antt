@@ -132,11 +132,15 @@ all_in_range values = do
   boost ← in_range ProposerScoreBoost values.proposer_score_boost
   Ok values
 
+-- how many bytes a configuration may have
+abbrev pub max_config_len : ℕ
+max_config_len = 65536
+
 -- the configuration that the bytes write, or the first thing that is wrong with them. `lines` cuts them at each line
 -- feed, drops one carriage return before a line feed, and takes no line from an empty rest behind the last line feed
 unfoldable pub config_of : List ℕ → Result ConfigValues ConfigFault
 config_of bytes =
-    if nat_lt 65536 (length bytes) then Err TooLong else (do
+    if nat_lt max_config_len (length bytes) then Err TooLong else (do
       all ← checked (map line_of (lines bytes))
       values ← values_of all
       all_in_range values)

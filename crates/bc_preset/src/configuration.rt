@@ -2,7 +2,7 @@
 
 ghost use Rattle.std.specs.Prelude.{◌≡◌, ◌<◌, ◌≤◌, ◌^◌, true, IfOk, OnOk};
 ghost use Rattle.bc_preset.specs.Presets.{IsPreset};
-ghost use Rattle.bc_preset.specs.Bounds.{HasPresetBounds};
+ghost use Rattle.bc_preset.specs.laws.Bounds.{HasPresetBounds};
 
 use crate::faults::ConfigFault;
 use crate::keys::Key;
@@ -53,10 +53,10 @@ impl Model for Config {
 }
 
 impl Settings {
-    ghost use Rattle.bc_preset.specs.OnePass.{all_set};
+    ghost use Rattle.bc_preset.specs.inside.OnePass.{all_set};
 
     /// The value of each key, or the first key of the table that has none.
-    #[tactic(auto, unfolding(crate::specs::OnePass::all_set))]
+    #[tactic(auto, unfolding(crate::specs::inside::OnePass::all_set))]
     fn all_set(&self) -> Result<ConfigValues, ConfigFault>
         ensures exact { result ≡ all_set self.now }
         ensures preset { IfOk result (λ v. IsPreset v.preset) }
@@ -138,7 +138,7 @@ impl ConfigValues {
 impl Config {
     ghost use Rattle.bc_preset.specs.Configs.{IsConfig};
     ghost use Rattle.bc_preset.specs.Configs.{config_of};
-    ghost use Rattle.bc_preset.specs.OnePass.{one_pass};
+    ghost use Rattle.bc_preset.specs.inside.OnePass.{one_pass};
 
     /// The configuration that the bytes write, or the first thing that is wrong with them.
     #[tactic(auto, using(crate::proofs::OnePass::one_pass_is))]
@@ -148,7 +148,7 @@ impl Config {
         Config::read_in_one_pass(bytes)
     }
 
-    #[tactic(auto, unfolding(crate::specs::OnePass::one_pass))]
+    #[tactic(auto, unfolding(crate::specs::inside::OnePass::one_pass))]
     fn read_in_one_pass(bytes: &[u8]) -> Result<Config, ConfigFault>
         ensures { result ≡ one_pass bytes.now }
     {

@@ -6,7 +6,7 @@ ghost use Rattle.std.specs.List.{prefix_len, suffix_len};
 ghost use Rattle.std.specs.Option.{option_map};
 ghost use Rattle.bc_preset.specs.Lines.{is_blank, is_key_byte, is_quote, begins_comment, skip_while, trim_end, is_empty_or_comment, is_skipped, before_comment, quoted, value_from, value_of, keyed, begins_value, key_line, line_of};
 ghost use Rattle.bc_preset.specs.Keys.{key_named};
-ghost use Rattle.bc_preset.specs.LineViews.{as_line};
+ghost use Rattle.bc_preset.specs.inside.LineViews.{as_line};
 
 use crate::keys::Key;
 

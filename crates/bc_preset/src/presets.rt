@@ -78,7 +78,7 @@ pub struct Preset {
 
 impl Preset {
     ghost use Rattle.bc_preset.specs.Presets.{mainnet, minimal, IsPreset};
-    ghost use Rattle.bc_preset.specs.Bounds.{HasPresetBounds};
+    ghost use Rattle.bc_preset.specs.laws.Bounds.{HasPresetBounds};
 
     /// The preset of the main network (`presets/mainnet/phase0.yaml`).
     #[tactic(auto, unfolding(crate::specs::Presets::IsPreset), using(crate::proofs::Bounds::mainnet_bounds))]

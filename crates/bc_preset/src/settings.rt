@@ -7,7 +7,7 @@ ghost use Rattle.bc_preset.specs.Presets.{IsPreset};
 ghost use Rattle.bc_preset.specs.Numbers.{number_of};
 ghost use Rattle.bc_preset.specs.Lines.{line_of};
 ghost use Rattle.bc_preset.specs.Configs.{or_fault, preset_named, preset_of};
-ghost use Rattle.bc_preset.specs.OnePass.{nothing_set, is_set, set_key, after_line, after_lines};
+ghost use Rattle.bc_preset.specs.inside.OnePass.{nothing_set, is_set, set_key, after_line, after_lines};
 
 use crate::faults::ConfigFault;
 use crate::keys::Key;
@@ -92,7 +92,7 @@ impl Settings {
         }
     }
 
-    #[tactic(auto, unfolding(crate::specs::OnePass::is_set))]
+    #[tactic(auto, unfolding(crate::specs::inside::OnePass::is_set))]
     fn is_set(self, key: Key) -> bool
         ensures { result ≡ is_set self key }
     {
@@ -111,7 +111,7 @@ impl Settings {
     }
 
     /// Sets the key to the value that the line's text writes.
-    #[tactic(auto, unfolding(crate::specs::OnePass::set_key))]
+    #[tactic(auto, unfolding(crate::specs::inside::OnePass::set_key))]
     fn set_key(self, line: u64, key: Key, text: &[u8]) -> Result<Settings, ConfigFault>
         ensures { result ≡ set_key self line key text.now }
     {
@@ -135,7 +135,7 @@ impl Settings {
         Ok(settings)
     }
 
-    #[tactic(auto, unfolding(crate::specs::OnePass::after_line))]
+    #[tactic(auto, unfolding(crate::specs::inside::OnePass::after_line))]
     fn after_line(self, number: u64, line: &[u8]) -> Result<Settings, ConfigFault>
         ensures { result ≡ after_line self number (line_of line.now) }
     {
@@ -182,7 +182,7 @@ fn first_line(bytes: &[u8]) -> (&[u8], &[u8])
 }
 
 /// The settings behind all lines, or the first line's fault.
-#[tactic(auto, unfolding(crate::specs::OnePass::after_lines))]
+#[tactic(auto, unfolding(crate::specs::inside::OnePass::after_lines))]
 pub fn settings_of(bytes: &[u8]) -> Result<Settings, ConfigFault>
     requires { length bytes.now ≤ 65536 }
     ensures { result ≡ after_lines nothing_set 1 (lines bytes.now) }

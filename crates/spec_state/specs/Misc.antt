@@ -1,7 +1,7 @@
 -- Epochs and proposers (beacon-chain.md, "Misc"). What the published text takes from its preset stands first, then its
 -- arguments in their order. compute_shuffled_index and compute_committee stand in the crates that compute them.
-use Rattle.std.specs.Prelude.{ℕ, zero, suc, ◌+◌, ◌*◌, ◌/◌, List, [], ◌∷◌}
-use Rattle.bc_words.specs.Outcome.{Outcome, done, bind, ◌>>=◌, checked_add}
+use Rattle.std.specs.Prelude.{ℕ, zero, suc, ◌*◌, ◌/◌, List, [], ◌∷◌}
+use Rattle.bc_words.specs.Outcome.{Outcome, ◌>>=◌, checked_add}
 use Rattle.bc_preset.specs.declared.presets.Preset.{Preset}
 use Rattle.beacon_types.specs.declared.validator.Validator.{Validator}
 use Rattle.committees.specs.Proposers.{proposer_below}

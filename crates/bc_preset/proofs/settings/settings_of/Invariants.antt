@@ -1,6 +1,6 @@
 use Rattle.std.proofs.Common.{◌≡◌, ◌+◌, ◌≤◌, length}
 use Rattle.std.specs.Str.Lines.{lines}
-use Rattle.bc_preset.specs.OnePass.{after_lines, nothing_set}
+use Rattle.bc_preset.specs.inside.OnePass.{after_lines, nothing_set}
 use Rattle.bc_preset.proofs.settings.settings_of.Given as goal
 
 -- what the rest gives is what all lines give

@@ -7,7 +7,7 @@ use Rattle.bc_preset.specs.declared.faults.ConfigFault.{ConfigFault}
 use Rattle.bc_preset.specs.declared.faults.ConfigFault.TheVariants.{TooLong, BadLine, Twice, BadNumber, BadPreset, Missing}
 use Rattle.bc_preset.specs.declared.settings.Settings.{Settings}
 use Rattle.bc_preset.specs.declared.configuration.ConfigValues.{ConfigValues}
-use Rattle.bc_preset.specs.Configs.{◌>>=◌, or_fault, preset_named, preset_of, all_in_range}
+use Rattle.bc_preset.specs.Configs.{◌>>=◌, or_fault, preset_named, preset_of, all_in_range, max_config_len}
 use Rattle.bc_preset.specs.Numbers.{number_of}
 use Rattle.bc_preset.specs.Lines.{Line, skipped, other, setting, faulty, line_of}
 
@@ -102,7 +102,7 @@ all_set s = do
 -- the same in one pass
 unfoldable pub one_pass : List ℕ → Result ConfigValues ConfigFault
 one_pass bytes =
-    if nat_lt 65536 (length bytes) then Err TooLong else (do
+    if nat_lt max_config_len (length bytes) then Err TooLong else (do
       settings ← after_lines nothing_set 1 (lines bytes)
       values ← all_set settings
       all_in_range values)

@@ -1,0 +1,32 @@
+//! The committees of an epoch of a state.
+
+ghost use Rattle.std.specs.Prelude.{◌≡◌, ◌<◌, ◌≤◌, ◌^◌, ℕ, IfOk, Some};
+ghost use Rattle.committees.specs.Committees.{committee_at};
+ghost use Rattle.spec_state.specs.Misc.{compute_epoch_at_slot};
+ghost use Rattle.spec_state.specs.Accessors.{epoch_committees, get_beacon_committee, get_committee_count_per_slot};
+
+use crate::totals::{active, active_are_indices};
+use bc_words::NoMemory;
+use beacon_state::State;
+use committees::{DOMAIN_BEACON_ATTESTER, EpochCommittees, Lookup, seed_of};
+use std::alloc::Global;
+
+/// The committees of an epoch of the state, which is at most 2^61: for each slot of it and each index below
+/// `get_committee_count_per_slot`, the one that `get_beacon_committee` gives (beacon-chain.md).
+#[tactic(auto, using(spec_state::proofs::BeaconCommittees::count_is_published, spec_state::proofs::BeaconCommittees::committee_is_published))]
+pub fn committees_of_epoch(
+    alloc: Global,
+    state: &State,
+    epoch: u64,
+) -> Result<EpochCommittees, NoMemory>
+    requires { epoch ≤ 2 ^ 61 }
+    ensures exact { IfOk result (λ committees. committees ≡ epoch_committees state.now epoch) }
+    ensures per_slot { IfOk result (λ committees. committees.per_slot ≡ get_committee_count_per_slot state.now epoch) }
+    ensures published { IfOk result (λ committees. (slot index : ℕ) → compute_epoch_at_slot state.now.preset slot ≡ epoch → index < get_committee_count_per_slot state.now epoch → committee_at committees slot index ≡ Some (get_beacon_committee state.now slot index)) }
+{
+    let preset = Lookup::preset(state);
+    let seed = seed_of(state, epoch, DOMAIN_BEACON_ATTESTER);
+    let active = active(alloc, state, epoch)?;
+    active_are_indices(state, epoch);
+    EpochCommittees::new(alloc, active, &seed, preset)
+}

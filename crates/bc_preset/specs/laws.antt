@@ -1,0 +1,2 @@
+-- Laws that contracts cite.
+pub mod Bounds
