@@ -1,7 +1,7 @@
 -- The active validators from an index on: what a loop over the registry has still to do.
 use Rattle.std.proofs.Common.{◌≡◌, ℕ, zero, suc, ◌+◌, ◌<◌, ◌≤◌, Bool, true, false, cond, List, [], ◌∷◌, ◌++◌, length, drop, refl, sym, ap, ◌∙◌, arith, append_assoc}
 use Rattle.std.proofs.lemmas.List.{append-nil}
-use Rattle.bc_words.specs.Outcome.{Outcome, done, bind, checked_add, checked_sum_by, checked_sum_from, StopsExactly}
+use Rattle.bc_words.specs.Outcome.{done, checked_add, checked_sum_from, StopsExactly}
 use Rattle.bc_words.specs.declared.stop.Stop.{Stop}
 use Rattle.bc_words.proofs.Sums.{sum_takes, sum_refuses, sum_of_nothing}
 use Rattle.beacon_types.specs.declared.validator.Validator.{Validator}

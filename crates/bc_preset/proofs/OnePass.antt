@@ -11,7 +11,7 @@ use Rattle.bc_preset.specs.declared.settings.Settings.{Settings}
 use Rattle.bc_preset.specs.Keys.{row_of}
 use Rattle.bc_preset.specs.Numbers.{number_of}
 use Rattle.bc_preset.specs.Lines.{Line, skipped, other, setting, faulty, line_of}
-use Rattle.bc_preset.specs.Configs.{◌>>=◌, or_fault, preset_named, sets, is_value, bad_value, line_fault, first_fault, unless, checked, first_some, number_from, preset_from, values_of, all_in_range, config_of}
+use Rattle.bc_preset.specs.Configs.{◌then_read◌, or_fault, preset_named, sets, is_value, bad_value, line_fault, first_fault, unless, checked, first_some, number_from, preset_from, values_of, all_in_range, config_of}
 use Rattle.bc_preset.specs.inside.OnePass.{is_set, set_key, after_line, after_lines, all_set, one_pass}
 
 -- the values that lines give
@@ -110,7 +110,7 @@ with_value s MinPerEpochChurnLimit text = record s { min_per_epoch_churn_limit =
 with_value s ChurnLimitQuotient text = record s { churn_limit_quotient = number_of text }
 with_value s ProposerScoreBoost text = record s { proposer_score_boost = number_of text }
 
-value_or : {A : Type 0} (o : Option A) (fault : ConfigFault) (f : Option A → Settings) → (or_fault fault o >>= (λ x. Ok (f (Some x)))) ≡ unless (f o) (cond (is_some o) None (Some fault))
+value_or : {A : Type 0} (o : Option A) (fault : ConfigFault) (f : Option A → Settings) → (or_fault fault o then_read (λ x. Ok (f (Some x)))) ≡ unless (f o) (cond (is_some o) None (Some fault))
 value_or None fault f = refl
 value_or (Some x) fault f = refl
 
@@ -178,16 +178,16 @@ run earlier h number [] = ap (λ all. Ok (settings_of all)) (sym (append-nil ear
 run earlier h number (first ∷ rest) =
     let line = line_of first in
     let others = map line_of rest in
-    ap (λ r. r >>= (λ t. after_lines t (number + 1) rest)) (step earlier h number line)
+    ap (λ r. r then_read (λ t. after_lines t (number + 1) rest)) (step earlier h number line)
     ∙ (elim (line_fault earlier number line) as (λ o. line_fault earlier number line ≡ o
-    → (unless (settings_of (earlier ++ line ∷ [])) o >>= (λ t. after_lines t (number + 1) rest))
+    → (unless (settings_of (earlier ++ line ∷ [])) o then_read (λ t. after_lines t (number + 1) rest))
     ≡ unless (settings_of (earlier ++ (line ∷ others))) (option_or o (first_fault (earlier ++ line ∷ []) (number + 1) others))) [
       | None ↦ λ e. run (earlier ++ line ∷ []) (HaveValues-push earlier line h (kept earlier number line e)) (number + 1) rest
           ∙ ap (λ all. unless (settings_of all) (first_fault (earlier ++ line ∷ []) (number + 1) others)) (append_assoc earlier (line ∷ []) others)
       | Some fault ↦ λ e. refl
     ] refl)
 
-values_same : (all : List Line) (o : Option ConfigFault) → (unless (settings_of all) o >>= (λ s. all_set s >>= all_in_range)) ≡ (unless all o >>= (λ lines. values_of lines >>= all_in_range))
+values_same : (all : List Line) (o : Option ConfigFault) → (unless (settings_of all) o then_read (λ s. all_set s then_read all_in_range)) ≡ (unless all o then_read (λ lines. values_of lines then_read all_in_range))
 unfolding all_set values_of
 values_same all None = refl
 values_same all (Some fault) = refl
@@ -197,5 +197,5 @@ unfolding one_pass config_of checked
 one_pass_is bytes =
     let all = map line_of (lines bytes) in
     let read = run [] tt 1 (lines bytes) in
-    ap (λ r. cond (nat_lt 65536 (length bytes)) (Err TooLong) (r >>= (λ s. all_set s >>= all_in_range))) read
+    ap (λ r. cond (nat_lt 65536 (length bytes)) (Err TooLong) (r then_read (λ s. all_set s then_read all_in_range))) read
     ∙ ap (λ r. cond (nat_lt 65536 (length bytes)) (Err TooLong) r) (values_same all (first_fault [] 1 all))

@@ -19,10 +19,10 @@ use Rattle.bc_preset.specs.Numbers.{number_of}
 use Rattle.bc_preset.specs.Lines.{Line, skipped, other, setting, faulty, line_of}
 
 -- the first fault ends the reading
-infixl 10 ◌>>=◌
-abbrev pub ◌>>=◌ : {A B : Type 0} → Result A ConfigFault → (A → Result B ConfigFault) → Result B ConfigFault
-(Ok x) >>= f = f x
-(Err fault) >>= f = Err fault
+infixl 10 ◌then_read◌
+abbrev pub ◌then_read◌ : {A B : Type 0} → Result A ConfigFault → (A → Result B ConfigFault) → Result B ConfigFault
+(Ok x) then_read f = f x
+(Err fault) then_read f = Err fault
 
 -- a value that is there, or this fault
 abbrev pub or_fault : {A : Type 0} → ConfigFault → Option A → Result A ConfigFault
@@ -96,25 +96,25 @@ preset_from (setting k text) = if row_of k == row_of PresetBase then preset_name
 
 -- each key's value, or the first key of the table that is missing
 unfoldable pub values_of : List Line → Result ConfigValues ConfigFault
-values_of all = do
-  name ← or_fault (Missing PresetBase) (first_some preset_from all)
-  seconds ← or_fault (Missing SecondsPerSlot) (first_some (number_from SecondsPerSlot) all)
-  delay ← or_fault (Missing MinValidatorWithdrawabilityDelay) (first_some (number_from MinValidatorWithdrawabilityDelay) all)
-  period ← or_fault (Missing ShardCommitteePeriod) (first_some (number_from ShardCommitteePeriod) all)
-  ejection ← or_fault (Missing EjectionBalance) (first_some (number_from EjectionBalance) all)
-  churn ← or_fault (Missing MinPerEpochChurnLimit) (first_some (number_from MinPerEpochChurnLimit) all)
-  quotient ← or_fault (Missing ChurnLimitQuotient) (first_some (number_from ChurnLimitQuotient) all)
-  boost ← or_fault (Missing ProposerScoreBoost) (first_some (number_from ProposerScoreBoost) all)
-  Ok (record {
-    preset = preset_of name;
-    seconds_per_slot = seconds;
-    min_validator_withdrawability_delay = delay;
-    shard_committee_period = period;
-    ejection_balance = ejection;
-    min_per_epoch_churn_limit = churn;
-    churn_limit_quotient = quotient;
-    proposer_score_boost = boost;
-  })
+values_of all =
+    or_fault (Missing PresetBase) (first_some preset_from all) then_read λ name.
+    or_fault (Missing SecondsPerSlot) (first_some (number_from SecondsPerSlot) all) then_read λ seconds.
+    or_fault (Missing MinValidatorWithdrawabilityDelay) (first_some (number_from MinValidatorWithdrawabilityDelay) all) then_read λ delay.
+    or_fault (Missing ShardCommitteePeriod) (first_some (number_from ShardCommitteePeriod) all) then_read λ period.
+    or_fault (Missing EjectionBalance) (first_some (number_from EjectionBalance) all) then_read λ ejection.
+    or_fault (Missing MinPerEpochChurnLimit) (first_some (number_from MinPerEpochChurnLimit) all) then_read λ churn.
+    or_fault (Missing ChurnLimitQuotient) (first_some (number_from ChurnLimitQuotient) all) then_read λ quotient.
+    or_fault (Missing ProposerScoreBoost) (first_some (number_from ProposerScoreBoost) all) then_read λ boost.
+    Ok (record {
+      preset = preset_of name;
+      seconds_per_slot = seconds;
+      min_validator_withdrawability_delay = delay;
+      shard_committee_period = period;
+      ejection_balance = ejection;
+      min_per_epoch_churn_limit = churn;
+      churn_limit_quotient = quotient;
+      proposer_score_boost = boost;
+    })
 
 -- the value, if the key may have it
 unfoldable pub in_range : Key → ℕ → Result ℕ ConfigFault
@@ -122,15 +122,15 @@ in_range key value = if allows key value then Ok value else Err (OutOfRange key)
 
 -- each value is in its key's range, or the first of the table is out of its range
 unfoldable pub all_in_range : ConfigValues → Result ConfigValues ConfigFault
-all_in_range values = do
-  seconds ← in_range SecondsPerSlot values.seconds_per_slot
-  delay ← in_range MinValidatorWithdrawabilityDelay values.min_validator_withdrawability_delay
-  period ← in_range ShardCommitteePeriod values.shard_committee_period
-  ejection ← in_range EjectionBalance values.ejection_balance
-  churn ← in_range MinPerEpochChurnLimit values.min_per_epoch_churn_limit
-  quotient ← in_range ChurnLimitQuotient values.churn_limit_quotient
-  boost ← in_range ProposerScoreBoost values.proposer_score_boost
-  Ok values
+all_in_range values =
+    in_range SecondsPerSlot values.seconds_per_slot then_read λ seconds.
+    in_range MinValidatorWithdrawabilityDelay values.min_validator_withdrawability_delay then_read λ delay.
+    in_range ShardCommitteePeriod values.shard_committee_period then_read λ period.
+    in_range EjectionBalance values.ejection_balance then_read λ ejection.
+    in_range MinPerEpochChurnLimit values.min_per_epoch_churn_limit then_read λ churn.
+    in_range ChurnLimitQuotient values.churn_limit_quotient then_read λ quotient.
+    in_range ProposerScoreBoost values.proposer_score_boost then_read λ boost.
+    Ok values
 
 -- how many bytes a configuration may have
 abbrev pub max_config_len : ℕ
@@ -140,10 +140,10 @@ max_config_len = 65536
 -- feed, drops one carriage return before a line feed, and takes no line from an empty rest behind the last line feed
 unfoldable pub config_of : List ℕ → Result ConfigValues ConfigFault
 config_of bytes =
-    if nat_lt max_config_len (length bytes) then Err TooLong else (do
-      all ← checked (map line_of (lines bytes))
-      values ← values_of all
-      all_in_range values)
+    if nat_lt max_config_len (length bytes) then Err TooLong else (
+    checked (map line_of (lines bytes)) then_read λ all.
+    values_of all then_read λ values.
+    all_in_range values)
 
 -- a preset, and each value in its key's range; an ejection balance has none
 pub record IsConfig (c : ConfigValues) : Type 0 where

@@ -7,7 +7,7 @@ use Rattle.bc_preset.specs.declared.faults.ConfigFault.{ConfigFault}
 use Rattle.bc_preset.specs.declared.faults.ConfigFault.TheVariants.{TooLong, BadLine, Twice, BadNumber, BadPreset, Missing}
 use Rattle.bc_preset.specs.declared.settings.Settings.{Settings}
 use Rattle.bc_preset.specs.declared.configuration.ConfigValues.{ConfigValues}
-use Rattle.bc_preset.specs.Configs.{◌>>=◌, or_fault, preset_named, preset_of, all_in_range, max_config_len}
+use Rattle.bc_preset.specs.Configs.{◌then_read◌, or_fault, preset_named, preset_of, all_in_range, max_config_len}
 use Rattle.bc_preset.specs.Numbers.{number_of}
 use Rattle.bc_preset.specs.Lines.{Line, skipped, other, setting, faulty, line_of}
 
@@ -38,30 +38,30 @@ is_set s ProposerScoreBoost = is_some s.proposer_score_boost
 
 -- the settings with this key set to the value that the text of this line writes
 unfoldable pub set_key : Settings → ℕ → Key → List ℕ → Result Settings ConfigFault
-set_key s line PresetBase text = do
-  name ← or_fault (BadPreset line) (preset_named text)
-  Ok (record s { preset_base = Some name })
-set_key s line SecondsPerSlot text = do
-  value ← or_fault (BadNumber line) (number_of text)
-  Ok (record s { seconds_per_slot = Some value })
-set_key s line MinValidatorWithdrawabilityDelay text = do
-  value ← or_fault (BadNumber line) (number_of text)
-  Ok (record s { min_validator_withdrawability_delay = Some value })
-set_key s line ShardCommitteePeriod text = do
-  value ← or_fault (BadNumber line) (number_of text)
-  Ok (record s { shard_committee_period = Some value })
-set_key s line EjectionBalance text = do
-  value ← or_fault (BadNumber line) (number_of text)
-  Ok (record s { ejection_balance = Some value })
-set_key s line MinPerEpochChurnLimit text = do
-  value ← or_fault (BadNumber line) (number_of text)
-  Ok (record s { min_per_epoch_churn_limit = Some value })
-set_key s line ChurnLimitQuotient text = do
-  value ← or_fault (BadNumber line) (number_of text)
-  Ok (record s { churn_limit_quotient = Some value })
-set_key s line ProposerScoreBoost text = do
-  value ← or_fault (BadNumber line) (number_of text)
-  Ok (record s { proposer_score_boost = Some value })
+set_key s line PresetBase text =
+    or_fault (BadPreset line) (preset_named text) then_read λ name.
+    Ok (record s { preset_base = Some name })
+set_key s line SecondsPerSlot text =
+    or_fault (BadNumber line) (number_of text) then_read λ value.
+    Ok (record s { seconds_per_slot = Some value })
+set_key s line MinValidatorWithdrawabilityDelay text =
+    or_fault (BadNumber line) (number_of text) then_read λ value.
+    Ok (record s { min_validator_withdrawability_delay = Some value })
+set_key s line ShardCommitteePeriod text =
+    or_fault (BadNumber line) (number_of text) then_read λ value.
+    Ok (record s { shard_committee_period = Some value })
+set_key s line EjectionBalance text =
+    or_fault (BadNumber line) (number_of text) then_read λ value.
+    Ok (record s { ejection_balance = Some value })
+set_key s line MinPerEpochChurnLimit text =
+    or_fault (BadNumber line) (number_of text) then_read λ value.
+    Ok (record s { min_per_epoch_churn_limit = Some value })
+set_key s line ChurnLimitQuotient text =
+    or_fault (BadNumber line) (number_of text) then_read λ value.
+    Ok (record s { churn_limit_quotient = Some value })
+set_key s line ProposerScoreBoost text =
+    or_fault (BadNumber line) (number_of text) then_read λ value.
+    Ok (record s { proposer_score_boost = Some value })
 
 -- the settings behind a line, whose number counts from 1
 unfoldable pub after_line : Settings → ℕ → Line → Result Settings ConfigFault
@@ -73,36 +73,36 @@ after_line s line (setting key text) = if is_set s key then Err (Twice line) els
 -- the settings behind all lines, the first of which has this number
 unfoldable pub after_lines : Settings → ℕ → List (List ℕ) → Result Settings ConfigFault
 after_lines s line [] = Ok s
-after_lines s line (first ∷ others) = do
-  t ← after_line s line (line_of first)
-  after_lines t (line + 1) others
+after_lines s line (first ∷ others) =
+    after_line s line (line_of first) then_read λ t.
+    after_lines t (line + 1) others
 
 -- each key has a value, or the first of the table that has none is missing
 unfoldable pub all_set : Settings → Result ConfigValues ConfigFault
-all_set s = do
-  name ← or_fault (Missing PresetBase) s.preset_base
-  seconds ← or_fault (Missing SecondsPerSlot) s.seconds_per_slot
-  delay ← or_fault (Missing MinValidatorWithdrawabilityDelay) s.min_validator_withdrawability_delay
-  period ← or_fault (Missing ShardCommitteePeriod) s.shard_committee_period
-  ejection ← or_fault (Missing EjectionBalance) s.ejection_balance
-  churn ← or_fault (Missing MinPerEpochChurnLimit) s.min_per_epoch_churn_limit
-  quotient ← or_fault (Missing ChurnLimitQuotient) s.churn_limit_quotient
-  boost ← or_fault (Missing ProposerScoreBoost) s.proposer_score_boost
-  Ok (record {
-    preset = preset_of name;
-    seconds_per_slot = seconds;
-    min_validator_withdrawability_delay = delay;
-    shard_committee_period = period;
-    ejection_balance = ejection;
-    min_per_epoch_churn_limit = churn;
-    churn_limit_quotient = quotient;
-    proposer_score_boost = boost;
-  })
+all_set s =
+    or_fault (Missing PresetBase) s.preset_base then_read λ name.
+    or_fault (Missing SecondsPerSlot) s.seconds_per_slot then_read λ seconds.
+    or_fault (Missing MinValidatorWithdrawabilityDelay) s.min_validator_withdrawability_delay then_read λ delay.
+    or_fault (Missing ShardCommitteePeriod) s.shard_committee_period then_read λ period.
+    or_fault (Missing EjectionBalance) s.ejection_balance then_read λ ejection.
+    or_fault (Missing MinPerEpochChurnLimit) s.min_per_epoch_churn_limit then_read λ churn.
+    or_fault (Missing ChurnLimitQuotient) s.churn_limit_quotient then_read λ quotient.
+    or_fault (Missing ProposerScoreBoost) s.proposer_score_boost then_read λ boost.
+    Ok (record {
+      preset = preset_of name;
+      seconds_per_slot = seconds;
+      min_validator_withdrawability_delay = delay;
+      shard_committee_period = period;
+      ejection_balance = ejection;
+      min_per_epoch_churn_limit = churn;
+      churn_limit_quotient = quotient;
+      proposer_score_boost = boost;
+    })
 
 -- the same in one pass
 unfoldable pub one_pass : List ℕ → Result ConfigValues ConfigFault
 one_pass bytes =
-    if nat_lt max_config_len (length bytes) then Err TooLong else (do
-      settings ← after_lines nothing_set 1 (lines bytes)
-      values ← all_set settings
-      all_in_range values)
+    if nat_lt max_config_len (length bytes) then Err TooLong else (
+    after_lines nothing_set 1 (lines bytes) then_read λ settings.
+    all_set settings then_read λ values.
+    all_in_range values)
