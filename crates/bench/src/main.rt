@@ -1,8 +1,9 @@
 //! Measures what has to be fast, each against the hashes that it can't do without, in one run.
 //!
-//! The word behind the program's name says what to measure: `shuffle` or `state`. Without a word nothing is measured.
+//! The word behind the program's name says what to measure: `pairs`, `shuffle` or `state`. Without a word nothing is measured.
 #![tactic(auto)]
 
+mod pairs;
 mod ratio;
 mod shuffle;
 mod state;
@@ -11,12 +12,13 @@ use anyhow::Result;
 use std::env;
 
 /// What is printed where no word names a measurement.
-const USAGE: &str = "name what to measure: shuffle or state";
+const USAGE: &str = "name what to measure: pairs, shuffle or state";
 
 fn main(rt: HostRuntime) -> Result<()> {
     let mut words = env::args(&rt)?;
     let _program = words.next();
     match words.next() {
+        Some(word) if word.as_str() == "pairs" => pairs::measure(&rt)?,
         Some(word) if word.as_str() == "shuffle" => shuffle::measure(&rt)?,
         Some(word) if word.as_str() == "state" => state::measure(&rt)?,
         _ => println!(rt; "{USAGE}")?,

@@ -1,0 +1,80 @@
+//! The parents of 4,096 pairs of nodes in lanes, against as many calls of `sha2`.
+
+use crate::ratio::Ratio;
+use anyhow::Result;
+use pair_lanes::hash_pairs;
+use sha2::{Digest, Sha256};
+use std::alloc::{AllocError, Global};
+use std::time::CpuClock;
+
+/// How many pairs are hashed at a time.
+const PAIRS: u64 = 4096;
+
+/// How often they are hashed.
+const TIMES: u64 = 50;
+
+/// A pair without a pattern.
+fn pair_of(number: u64) -> [[u8; 32]; 2] {
+    let first = Sha256::digest(number.to_le_bytes());
+    [first, Sha256::digest(first)]
+}
+
+/// Pairs to hash.
+fn pairs(alloc: Global) -> Result<Vec<[[u8; 32]; 2]>, AllocError> {
+    let mut pairs = Vec::new(alloc);
+    for number in 0..PAIRS {
+        pairs.push(pair_of(number))?;
+    }
+    Ok(pairs)
+}
+
+/// One hash through sha2.
+fn hash_one(pair: &[[u8; 32]; 2]) -> u8 {
+    let mut hasher = Sha256::new();
+    hasher.update(&pair[0]);
+    hasher.update(&pair[1]);
+    let hash = hasher.finalize();
+    hash[0]
+}
+
+/// The pairs' hashes one by one, joined so that none is left out.
+fn hash_all(pairs: &[[[u8; 32]; 2]]) -> u8 {
+    let mut joined = 0;
+    for pair in pairs {
+        joined ^= hash_one(pair);
+    }
+    joined
+}
+
+/// Room for the hashes.
+fn room(alloc: Global) -> Result<Vec<[u8; 32]>, AllocError> {
+    let mut out = Vec::new(alloc);
+    for _ in 0..PAIRS {
+        out.push([0; 32])?;
+    }
+    Ok(out)
+}
+
+/// Hashes both ways, and prints both times.
+pub fn measure(rt: &(impl AllocGlobal + Print + CpuClock)) -> Result<()> {
+    let pairs = pairs(rt.alloc())?;
+    let mut out = room(rt.alloc())?;
+    let begin = rt.process_cpu_time()?;
+    for _ in 0..TIMES {
+        if out.len() == pairs.len() {
+            hash_pairs(&pairs, &mut out);
+        }
+    }
+    let middle = rt.process_cpu_time()?;
+    let mut joined = 0;
+    for _ in 0..TIMES {
+        joined ^= hash_all(&pairs);
+    }
+    let end = rt.process_cpu_time()?;
+    let ratio = Ratio {
+        whole: middle.saturating_sub(begin),
+        hashes: end.saturating_sub(middle),
+    };
+    println!(rt; "{PAIRS} pairs, {TIMES} times, in lanes: {ratio} (joined {joined})")?;
+    Ok(())
+}
