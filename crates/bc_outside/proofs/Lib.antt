@@ -1,4 +1,5 @@
-pub mod Takes
-pub mod Wrote
+pub mod Keeping
+pub mod Taking
 pub mod Held
 pub mod Shelved
+pub mod Onto

@@ -1,4 +1,4 @@
 pub mod Told
 pub mod Calls
 pub mod Memory
-pub mod Disk
+pub mod inside

@@ -1,53 +1,61 @@
--- What a shelf of files tells of itself, as plain data. A file's name is the list of its bytes.
-use Rattle.std.specs.Prelude.{ℕ, zero, suc, ◌+◌, List, [], ◌∷◌, ◌++◌, drop, Option, Some, None}
+-- What a shelf of files and a sink tell of themselves, as plain data: what they handed out and what they took. A file's
+-- name is the list of its bytes.
+use Rattle.std.specs.Prelude.{◌≡◌, ℕ, zero, suc, Bool, true, false, ◌||◌, ◌&&◌, List, [], ◌∷◌, ◌++◌, length, drop, Option, Some, None, IsSome}
 
--- A file that was opened: all its bytes, and how many of them were taken so far.
-pub record FileTold : Type 0 where
+-- A file that was opened: the name that was asked for, the bytes that were handed out, whether its end was met, and
+-- whether bytes came behind the end.
+pub record FileHanded : Type 0 where
+  pub name : List ℕ
   pub bytes : List ℕ
-  pub taken : ℕ
+  pub ended : Bool
+  pub grew : Bool
 
--- What a shelf tells: the bytes that each name holds, the files that were opened, in order, and the names that were
--- asked for, in order, those that could not be opened included.
-pub record Told : Type 0 where
-  pub contents : List ℕ → Option (List ℕ)
-  pub files : List FileTold
+-- What a shelf tells: the files that were opened, in order; the names that were asked for, in order, those that could
+-- not be opened included; how many faults it counted; what the names hold, where that is known beforehand; and whether
+-- it has no cause to fail but a name that holds nothing.
+pub record ShelfTold : Type 0 where
+  pub files : List FileHanded
   pub asked : List (List ℕ)
+  pub faults : ℕ
+  pub contents : Option (List ℕ → Option (List ℕ))
+  pub reliable : Bool
 
--- the file of these bytes, of which nothing is taken yet, or no file
-abbrev pub file_of : Option (List ℕ) → List FileTold
-file_of None = []
-file_of (Some bytes) = record { bytes = bytes; taken = 0 } ∷ []
+-- What a sink tells: the bytes that it took, in order; how many faults it counted; and whether it has no cause to fail.
+pub record SinkTold : Type 0 where
+  pub taken : List ℕ
+  pub faults : ℕ
+  pub reliable : Bool
 
--- n more bytes are taken of the file with this number
-unfoldable pub with_taken : List FileTold → ℕ → ℕ → List FileTold
-with_taken [] file n = []
-with_taken (f ∷ files) zero n = record { bytes = f.bytes; taken = f.taken + n } ∷ files
-with_taken (f ∷ files) (suc file) n = f ∷ with_taken files file n
+-- whether there is a byte
+abbrev pub any_byte : List ℕ → Bool
+any_byte [] = false
+any_byte (_ ∷ _) = true
 
--- the bytes of the file with this number that were not taken yet
-unfoldable pub left_in : List FileTold → ℕ → Option (List ℕ)
-left_in [] file = None
-left_in (f ∷ files) zero = Some (drop f.taken f.bytes)
-left_in (f ∷ files) (suc file) = left_in files file
+-- a file that is just opened
+abbrev pub opened_file : List ℕ → FileHanded
+opened_file name = record { name = name; bytes = []; ended = false; grew = false }
 
--- A name was asked for and nothing was opened.
-abbrev pub asking : List ℕ → Told → Told
-asking name told = record { contents = told.contents; files = told.files; asked = told.asked ++ name ∷ [] }
+-- these bytes more are handed out of a file, and its end is met or not
+abbrev pub more_of : FileHanded → List ℕ → Bool → FileHanded
+more_of f bytes met = record { name = f.name; bytes = f.bytes ++ bytes; ended = f.ended || met; grew = f.grew || (f.ended && any_byte bytes) }
 
--- A name was asked for and its file was opened.
-abbrev pub opening : List ℕ → Told → Told
-opening name told = record { contents = told.contents; files = told.files ++ file_of (told.contents name); asked = told.asked ++ name ∷ [] }
+-- the same of the file with this number
+unfoldable pub with_more : List FileHanded → ℕ → List ℕ → Bool → List FileHanded
+with_more [] file bytes met = []
+with_more (f ∷ files) zero bytes met = more_of f bytes met ∷ files
+with_more (f ∷ files) (suc file) bytes met = f ∷ with_more files file bytes met
 
--- n bytes of a file were taken.
-abbrev pub taking : ℕ → ℕ → Told → Told
-taking file n told = record { contents = told.contents; files = with_taken told.files file n; asked = told.asked }
+-- What was handed out of a file is the front of what its name holds, and all of it where the end was met.
+abbrev pub FileAgrees : Option (List ℕ) → FileHanded → Type 0
+FileAgrees None f = ⊥
+FileAgrees (Some whole) f = (whole ≡ f.bytes ++ drop (length f.bytes) whole) × (f.grew ≡ false) × (f.ended ≡ true → whole ≡ f.bytes)
 
--- the bytes of a file that were not taken yet, where the shelf tells them
-abbrev pub left_of : Option Told → ℕ → Option (List ℕ)
-left_of None file = None
-left_of (Some told) file = left_in told.files file
+-- What the names hold agrees with all that was handed out.
+abbrev pub Agrees : (List ℕ → Option (List ℕ)) → List FileHanded → Type 0
+Agrees contents [] = Unit {0}
+Agrees contents (f ∷ files) = FileAgrees (contents f.name) f × Agrees contents files
 
--- the bytes that a name holds, where the shelf tells them and has the name
-abbrev pub held_by : Option Told → List ℕ → Option (List ℕ)
-held_by None name = None
-held_by (Some told) name = told.contents name
+-- each name holds bytes
+abbrev pub AllThere : (List ℕ → Option (List ℕ)) → List (List ℕ) → Type 0
+AllThere contents [] = Unit {0}
+AllThere contents (name ∷ names) = IsSome (contents name) × AllThere contents names

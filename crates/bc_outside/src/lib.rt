@@ -1,15 +1,17 @@
 //! The outside of the program: files that bytes are read from, and a place that bytes are written to.
 //!
-//! A [`Shelf`] hands out files by name and a [`Sink`] takes bytes; both count their faults, so that a caller's answer
-//! 'reading failed' or 'writing failed' can be tied to a fault that really happened. Over memory they tell all that
-//! they hold. Over the disk and standard output they tell nothing of content. The readers of configuration, genesis
-//! and record stand above.
+//! A [`Shelf`] hands out files by name and a [`Sink`] takes bytes. Each tells what it handed out or took, over memory as
+//! over the operating system, and counts its faults, so that a caller's answer 'reading failed' or 'writing failed' can
+//! be tied to a fault that really happened. The readers of configuration, genesis and record stand above.
 #![tactic(auto)]
 
 mod disk;
+mod faults;
 mod memory_shelf;
 mod memory_sink;
+mod names;
 mod patience;
+mod seen;
 mod shelf;
 mod sink;
 #[cfg(test)]
@@ -18,8 +20,9 @@ mod trouble;
 mod whole;
 
 pub use disk::{DiskShelf, StdSink};
-pub use memory_shelf::{AskedName, MemoryFile, MemoryShelf};
+pub use memory_shelf::{MemoryFile, MemoryShelf};
 pub use memory_sink::MemorySink;
+pub use names::AskedName;
 pub use shelf::Shelf;
 pub use sink::Sink;
 pub use trouble::Trouble;

@@ -1,11 +1,13 @@
 //! A shelf whose files lie in memory. It tells everything, and fails where it is told to.
 
-ghost use Rattle.std.specs.Prelude.{◌≡◌, ◌<◌, ◌≤◌, min, ◌+◌, ◌^◌, ◌++◌, ℕ, List, [], ◌∷◌, Bool, true, false, length, take, drop, Option, Some, None, IfSome, IsSome, option_map, string_bytes, IfOk, IfErr, IsErr};
-ghost use Rattle.bc_outside.specs.Told.{FileTold, left_in, with_taken};
-ghost use Rattle.bc_outside.specs.Calls.{FailsOnlyBy, Opens, Reads};
+ghost use Rattle.std.specs.Prelude.{◌≡◌, ◌<◌, ◌≤◌, min, ◌+◌, ◌^◌, ◌++◌, List, [], ◌∷◌, true, false, ◌||◌, length, map, take, drop, Some, IfSome, option_map, string_bytes, IfOk, IfErr, IsErr};
+ghost use Rattle.bc_outside.specs.Told.{with_more};
+ghost use Rattle.bc_outside.specs.Calls.{FailsOnlyBy, Opens, Reads, ShelfKeeps, meets_end};
 ghost use Rattle.bc_outside.specs.declared.trouble.Trouble.TheVariants.{Failed, NoMemory};
-ghost use Rattle.bc_outside.specs.Memory.{counted, is_failing, NamedFile, MemoryFiles, held_in, is_listed, is_reliable, told_by, unopened, OpensIn, ReadsIn};
+ghost use Rattle.bc_outside.specs.Memory.{counted, is_failing, NamedFile, OpenedFile, MemoryFiles, held_in, handed_of, is_listed, left_in, with_taken, told_by, unopened, OpensIn, ReadsIn};
+ghost use Rattle.bc_outside.specs.inside.Held.{AreHeld};
 
+use crate::names::AskedName;
 use crate::{Shelf, Trouble};
 use std::alloc::{AllocError, Global};
 use std::marker::Model;
@@ -44,69 +46,50 @@ impl MemoryFile {
     }
 }
 
-/// The name of a file that was asked for.
-#[derive(Debug, Drop)]
-pub struct AskedName {
-    bytes: Vec<u8>,
-}
-
-impl Model for AskedName {
-    ghost Value = { List ℕ };
-
-    ghost view = { λ name. name.bytes.items };
-}
-
-impl AskedName {
-    fn new(alloc: Global, name: &str) -> Result<Self, AllocError>
-        ensures { IfOk result (λ asked. asked ≡ name.now) }
-    {
-        let bytes = Vec::from_slice(alloc, name.as_bytes())?;
-        Ok(AskedName { bytes })
-    }
-
-    /// The bytes of the name.
-    pub fn as_bytes(&self) -> &[u8]
-        ensures { result.now ≡ self.now }
-    {
-        &self.bytes
-    }
-}
-
 // A file that was opened, with its place.
 #[derive(Debug, Drop)]
 struct OpenFile {
+    name: AskedName,
     bytes: Vec<u8>,
     taken: usize,
+    ended: bool,
 }
 
 impl Model for OpenFile {
-    ghost Value = { FileTold };
+    ghost Value = { OpenedFile };
 
-    ghost view = { λ file. record { bytes = file.bytes.items; taken = file.taken } };
+    ghost view = { λ file. record { name = file.name; bytes = file.bytes.items; taken = file.taken; ended = file.ended } };
 
-    ghost invariant = { λ file. file.taken ≤ length file.bytes.items };
+    ghost invariant = { λ file. (file.taken ≤ length file.bytes.items) × (file.ended ≡ true → file.taken ≡ length file.bytes.items) };
 }
 
 impl OpenFile {
-    fn new(alloc: Global, bytes: &[u8]) -> Result<Self, AllocError>
-        ensures { IfOk result (λ file. file ≡ record { bytes = bytes.now; taken = 0 }) }
+    fn new(alloc: Global, name: &str, bytes: &[u8]) -> Result<Self, AllocError>
+        ensures { IfOk result (λ file. file ≡ record { name = name.now; bytes = bytes.now; taken = 0; ended = false }) }
     {
         Ok(OpenFile {
+            name: AskedName::new(alloc, name)?,
             bytes: Vec::from_slice(alloc, bytes)?,
             taken: 0,
+            ended: false,
         })
     }
 
     // Takes the next bytes into the front of a piece, at most `greatest`.
     fn take_into(&mut self, into: &mut [u8], greatest: usize) -> usize
-        ensures file { self.new ≡ record self.old { taken = self.old.taken + result } }
+        requires { 1 ≤ greatest }
+        ensures file { self.new ≡ record self.old { taken = self.old.taken + result; ended = self.old.ended || meets_end into.old result } }
         ensures count { result ≡ min (min greatest (length into.old)) (length (drop self.old.taken self.old.bytes)) }
         ensures bytes { into.new ≡ take result (drop self.old.taken self.old.bytes) ++ drop result into.old }
+        ensures at_end { self.old.ended ≡ true → result ≡ 0 }
+        ensures all { self.new.ended ≡ true → self.new.taken ≡ length self.new.bytes }
     {
         let left = &self.bytes[self.taken..];
         let n = greatest.min(into.len()).min(left.len());
+        let met = n == 0 && !into.is_empty();
         into[..n].copy_from_slice(&left[..n]);
         self.taken += n;
+        self.ended = self.ended || met;
         n
     }
 }
@@ -155,7 +138,7 @@ impl Model for MemoryShelf {
 
     ghost view = { λ shelf. record { files = shelf.files.items; opened = shelf.opened.items; asked = shelf.asked.items; failing = shelf.failing.items; greatest = shelf.greatest; calls = shelf.calls; faults = shelf.faults } };
 
-    ghost invariant = { λ shelf. 1 ≤ shelf.greatest };
+    ghost invariant = { λ shelf. (1 ≤ shelf.greatest) × AreHeld shelf.files.items shelf.opened.items };
 }
 
 impl MemoryShelf {
@@ -227,7 +210,9 @@ impl MemoryShelf {
 
     // Opens a file with these bytes.
     fn admit(&mut self, name: &str, file: OpenFile) -> Result<u32, Trouble>
-        requires { length self.old.opened < 2 ^ 32 }
+        requires room { length self.old.opened < 2 ^ 32 }
+        requires held { held_in self.old.files file.name ≡ Some file.bytes }
+        requires start { file.ended ≡ false }
         ensures ok { IfOk result (λ n. (n ≡ length self.old.opened) × (self.new ≡ record self.old { opened = self.old.opened ++ file ∷ []; asked = self.old.asked ++ name.now ∷ []; calls = counted self.old.calls })) }
         ensures err { IfErr result (λ trouble. (trouble ≡ NoMemory) × (self.new ≡ self.old)) }
     {
@@ -245,6 +230,7 @@ impl MemoryShelf {
     fn open_file(&mut self, name: &str) -> Result<u32, Trouble>
         requires { length self.old.opened < 2 ^ 32 }
         ensures exact { OpensIn name.now result self.old self.new }
+        ensures held { AreHeld self.old.files self.old.opened }
         ensures fits { self.old.faults < 2 ^ 64 }
     {
         let _faults = self.faults;
@@ -253,7 +239,7 @@ impl MemoryShelf {
         }
         match find(&self.files, name) {
             Some(bytes) => {
-                let file = OpenFile::new(self.alloc, bytes)?;
+                let file = OpenFile::new(self.alloc, name, bytes)?;
                 self.admit(name, file)
             }
             None => self.refuse(name),
@@ -264,8 +250,9 @@ impl MemoryShelf {
     fn read_file(&mut self, file: u32, into: &mut [u8]) -> Result<usize, Trouble>
         requires { file < length self.old.opened }
         ensures exact { IfSome (left_in self.old.opened file) (λ left. ReadsIn file into.old into.new result left self.old self.new) }
+        ensures reads { Reads file into.old into.new result (told_by self.old) (told_by self.new) }
+        ensures held { AreHeld self.old.files self.old.opened × AreHeld self.new.files self.new.opened }
         ensures fits { self.old.faults < 2 ^ 64 }
-        ensures greatest { 1 ≤ self.old.greatest }
     {
         let _faults = self.faults;
         if self.is_failing() {
@@ -279,33 +266,24 @@ impl MemoryShelf {
 }
 
 impl Shelf for MemoryShelf {
-    ghost opened = { λ shelf. length shelf.opened };
-
-    ghost faults = { λ shelf. shelf.faults };
-
-    ghost told = { λ shelf. Some (told_by shelf) };
-
-    ghost reliable = { λ shelf. is_reliable shelf.failing };
+    ghost told = { told_by };
 
     fn open(&mut self, name: &str) -> Result<u32, Trouble>
-        requires { length self.old.opened < 2 ^ 32 }
+        requires { length (map handed_of self.old.opened) < 2 ^ 32 }
         ensures exact { OpensIn name.now result self.old self.new }
-        ensures opens { Opens name.now result (length self.old.opened) (length self.new.opened) (Some (told_by self.old)) (Some (told_by self.new)) }
-        ensures faults { FailsOnlyBy result self.old.faults self.new.faults }
-        ensures reliable { is_reliable self.new.failing ≡ is_reliable self.old.failing }
-        ensures steady { is_reliable self.old.failing ≡ true → IsSome (held_in self.old.files name.now) → self.new.faults ≡ self.old.faults }
+        ensures opens { Opens name.now result (told_by self.old) (told_by self.new) }
+        ensures causes { FailsOnlyBy result self.old.faults self.new.faults }
+        ensures keeps { ShelfKeeps (name.now ∷ []) (told_by self.old) (told_by self.new) }
     {
         self.open_file(name)
     }
 
     fn read(&mut self, file: u32, into: &mut [u8]) -> Result<usize, Trouble>
-        requires { file < length self.old.opened }
+        requires { file < length (map handed_of self.old.opened) }
         ensures exact { IfSome (left_in self.old.opened file) (λ left. ReadsIn file into.old into.new result left self.old self.new) }
-        ensures reads { Reads file into.old into.new result (Some (told_by self.old)) (Some (told_by self.new)) }
-        ensures opened { length self.new.opened ≡ length self.old.opened }
-        ensures faults { FailsOnlyBy result self.old.faults self.new.faults }
-        ensures reliable { is_reliable self.new.failing ≡ is_reliable self.old.failing }
-        ensures steady { is_reliable self.old.failing ≡ true → self.new.faults ≡ self.old.faults }
+        ensures reads { Reads file into.old into.new result (told_by self.old) (told_by self.new) }
+        ensures causes { FailsOnlyBy result self.old.faults self.new.faults }
+        ensures keeps { ShelfKeeps [] (told_by self.old) (told_by self.new) }
     {
         self.read_file(file, into)
     }
@@ -313,9 +291,13 @@ impl Shelf for MemoryShelf {
 
 // Takes the next bytes of an opened file into the front of a piece, at most `greatest`.
 fn take_from(opened: &mut Vec<OpenFile>, file: usize, into: &mut [u8], greatest: usize) -> usize
-    requires { file < length opened.old.items }
-    ensures files { opened.new.items ≡ with_taken opened.old.items file result }
+    requires opened { file < length opened.old.items }
+    requires some { 1 ≤ greatest }
+    ensures within { result ≤ length into.old }
+    ensures files { opened.new.items ≡ with_taken opened.old.items file result (meets_end into.old result) }
     ensures taken { IfSome (left_in opened.old.items file) (λ left. (result ≡ min (min greatest (length into.old)) (length left)) × (into.new ≡ take result left ++ drop result into.old)) }
+    ensures told { map handed_of opened.new.items ≡ with_more (map handed_of opened.old.items) file (take result into.new) (meets_end into.old result) }
+    ensures held { (files : List NamedFile) → AreHeld files opened.old.items → AreHeld files opened.new.items }
 {
     opened[file].take_into(into, greatest)
 }

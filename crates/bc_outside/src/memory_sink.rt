@@ -1,8 +1,8 @@
 //! A sink that keeps in memory what is written. It tells everything, and fails where it is told to.
 
 ghost use Rattle.std.specs.Prelude.{◌≡◌, ◌<◌, ◌≤◌, ◌^◌, ℕ, true, length, Some};
-ghost use Rattle.bc_outside.specs.Calls.{FailsOnlyBy, Writes};
-ghost use Rattle.bc_outside.specs.Memory.{MemoryBytes, is_failing, is_reliable, counted, unwritten, WritesIn};
+ghost use Rattle.bc_outside.specs.Calls.{FailsOnlyBy, SinkKeeps, Writes};
+ghost use Rattle.bc_outside.specs.Memory.{MemoryBytes, sink_told_by, unwritten, WritesIn};
 
 use crate::memory_shelf::is_listed;
 use crate::{Sink, Trouble};
@@ -87,19 +87,14 @@ impl MemorySink {
 }
 
 impl Sink for MemorySink {
-    ghost faults = { λ sink. sink.faults };
-
-    ghost told = { λ sink. Some sink.written };
-
-    ghost reliable = { λ sink. is_reliable sink.failing };
+    ghost told = { sink_told_by };
 
     fn write(&mut self, piece: &[u8]) -> Result<usize, Trouble>
         requires { 0 < length piece.now }
         ensures exact { WritesIn piece.now result self.old self.new }
-        ensures writes { Writes piece.now result (Some self.old.written) (Some self.new.written) }
-        ensures faults { FailsOnlyBy result self.old.faults self.new.faults }
-        ensures reliable { is_reliable self.new.failing ≡ is_reliable self.old.failing }
-        ensures steady { is_reliable self.old.failing ≡ true → self.new.faults ≡ self.old.faults }
+        ensures writes { Writes piece.now result (sink_told_by self.old) (sink_told_by self.new) }
+        ensures causes { FailsOnlyBy result self.old.faults self.new.faults }
+        ensures keeps { SinkKeeps (sink_told_by self.old) (sink_told_by self.new) }
     {
         self.write_some(piece)
     }

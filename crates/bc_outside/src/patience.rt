@@ -1,39 +1,35 @@
 //! Calls to the operating system, made again where they were interrupted.
 
-ghost use Rattle.std.specs.Prelude.{◌≡◌, ◌<◌, ◌≤◌, length, IfOk};
-ghost use Rattle.bc_outside.specs.Calls.{FailsOnlyBy, Rose};
+ghost use Rattle.std.specs.Prelude.{◌≡◌, ◌<◌, ◌≤◌, length, IfOk, IfErr};
+ghost use Rattle.std.specs.Io.KnownBytes.{ReadConsumes, WriteAppends};
+ghost use Rattle.bc_outside.specs.declared.trouble.Trouble.TheVariants.{Failed};
+ghost use Rattle.bc_outside.specs.inside.Tries.{Tries};
 
 use crate::Trouble;
+use crate::faults::FaultCounts;
 use std::fs;
-use std::io::{Error, ErrorKind, Read, Write};
+use std::io::{Error, Read, Write};
 use std::rt::Files;
 
 /// How often a call is made while it is interrupted.
 const PATIENCE: u32 = 1_000;
 
-// Counts a fault, and says whether the call is to be made again.
-fn is_interrupted(error: &Error, faults: &mut u64) -> bool
-    ensures rose { Rose faults.old faults.new }
-    ensures later { faults.old ≤ faults.new }
-{
-    *faults = faults.saturating_add(1);
-    error.kind() == ErrorKind::Interrupted
-}
-
 /// Opens a file to be read, and keeps the last cause why it didn't.
 pub fn open<R: Files>(
     files: &R,
     name: &str,
-    faults: &mut u64,
+    faults: &mut FaultCounts,
     cause: &mut Option<Error>,
 ) -> Result<R::File, Trouble>
-    ensures { FailsOnlyBy result faults.old faults.new }
+    ensures failed { IfErr result (λ trouble. trouble ≡ Failed) }
+    ensures tries { Tries result faults.old faults.new }
 {
+    let _ = faults.interrupted();
     for _ in 0..PATIENCE {
         match fs::open(files, name) {
             Ok(file) => return Ok(file),
             Err(error) => {
-                let again = is_interrupted(&error, faults);
+                let again = faults.count(&error);
                 *cause = Some(error);
                 if !again {
                     return Err(Trouble::Failed);
@@ -48,17 +44,19 @@ pub fn open<R: Files>(
 pub fn read<R: Read>(
     reader: &mut R,
     into: &mut [u8],
-    faults: &mut u64,
+    faults: &mut FaultCounts,
     cause: &mut Option<Error>,
 ) -> Result<usize, Trouble>
     ensures within { IfOk result (λ n. n ≤ length into.old) }
-    ensures faults { FailsOnlyBy result faults.old faults.new }
+    ensures bytes { ReadConsumes (R.remaining reader.old) (R.remaining reader.new) result into.new }
+    ensures tries { Tries result faults.old faults.new }
 {
+    let _ = faults.interrupted();
     for _ in 0..PATIENCE {
         match reader.read(into) {
             Ok(n) => return Ok(n),
             Err(error) => {
-                let again = is_interrupted(&error, faults);
+                let again = faults.count(&error);
                 *cause = Some(error);
                 if !again {
                     return Err(Trouble::Failed);
@@ -69,21 +67,32 @@ pub fn read<R: Read>(
     Err(Trouble::Failed)
 }
 
-/// Writes once, from the front of a piece. A writer that takes nothing has failed.
-pub fn write<W: Write>(writer: &mut W, piece: &[u8], faults: &mut u64) -> Result<usize, Trouble>
+/// Writes once, from the front of a piece, and keeps the last cause why it didn't. A writer that takes nothing has
+/// failed, without a cause.
+pub fn write<W: Write>(
+    writer: &mut W,
+    piece: &[u8],
+    faults: &mut FaultCounts,
+    cause: &mut Option<Error>,
+) -> Result<usize, Trouble>
     ensures some { IfOk result (λ n. 1 ≤ n) }
     ensures within { IfOk result (λ n. n ≤ length piece.now) }
-    ensures faults { FailsOnlyBy result faults.old faults.new }
+    ensures bytes { WriteAppends (W.contents writer.old) (W.contents writer.new) result piece.now }
+    ensures tries { Tries result faults.old faults.new }
 {
+    let _ = faults.interrupted();
     for _ in 0..PATIENCE {
         match writer.write(piece) {
             Ok(0) => {
-                *faults = faults.saturating_add(1);
+                faults.count_other();
+                *cause = None;
                 return Err(Trouble::Failed);
             }
             Ok(n) => return Ok(n),
             Err(error) => {
-                if !is_interrupted(&error, faults) {
+                let again = faults.count(&error);
+                *cause = Some(error);
+                if !again {
                     return Err(Trouble::Failed);
                 }
             }

@@ -87,7 +87,7 @@ fn disk(rt: HostRuntime) -> Result<(), Fail> {
 
 #[test]
 fn standard_output(rt: HostRuntime) -> Result<(), Fail> {
-    let mut sink = StdSink::new(io::writer(&rt));
+    let mut sink = StdSink::new(rt.alloc(), io::writer(&rt));
     write_all(&mut sink, TEXT.as_slice())?;
     Ok(())
 }

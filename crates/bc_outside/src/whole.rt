@@ -1,8 +1,7 @@
 //! Reading a whole file and writing all of a piece, over any shelf and any sink, however they cut it.
 
-ghost use Rattle.std.specs.Prelude.{◌≡◌, ◌<◌, ◌≤◌, ◌++◌, ℕ, true, List, [], length, take, IfSome, IfOk, OnErr};
-ghost use Rattle.bc_outside.specs.Told.{left_of};
-ghost use Rattle.bc_outside.specs.Calls.{HasCause, Takes, TakesSome, ReadsUpTo, WritesAll};
+ghost use Rattle.std.specs.Prelude.{◌≡◌, ◌<◌, ◌≤◌, ◌++◌, [], length, take, IfOk, OnErr};
+ghost use Rattle.bc_outside.specs.Calls.{HasCause, ShelfKeeps, SinkKeeps, Stays, Takes, TakesSome, ReadsUpTo, WritesAll, meets_end};
 
 use crate::{Shelf, Sink, Trouble};
 use std::alloc::{AllocError, Global};
@@ -17,17 +16,15 @@ fn read_more<F: Shelf>(
     piece: &mut [u8],
     bytes: &mut Vec<u8>,
 ) -> Result<usize, Trouble>
-    requires { file < F.opened shelf.old }
+    requires { file < length (F.told shelf.old).files }
     ensures within { IfOk result (λ n. n ≤ length piece.old) }
     ensures bytes { IfOk result (λ n. bytes.new.items ≡ bytes.old.items ++ take n piece.new) }
-    ensures taken { IfOk result (λ n. Takes file (take n piece.new) (F.told shelf.old) (F.told shelf.new)) }
-    ensures ends { IfOk result (λ n. 0 < length piece.old → n ≡ 0 → IfSome (left_of (F.told shelf.old) file) (λ left. left ≡ [])) }
+    ensures taken { IfOk result (λ n. Takes file (take n piece.new) (meets_end piece.old n) (F.told shelf.old) (F.told shelf.new)) }
     ensures err { OnErr result (TakesSome (length piece.old) file (F.told shelf.old) (F.told shelf.new)) }
-    ensures opened { F.opened shelf.new ≡ F.opened shelf.old }
-    ensures faults { HasCause result (F.faults shelf.old) (F.faults shelf.new) }
-    ensures reliable { F.reliable shelf.new ≡ F.reliable shelf.old }
-    ensures steady { F.reliable shelf.old ≡ true → F.faults shelf.new ≡ F.faults shelf.old }
+    ensures causes { HasCause result (F.told shelf.old).faults (F.told shelf.new).faults }
+    ensures keeps { ShelfKeeps [] (F.told shelf.old) (F.told shelf.new) }
 {
+    bytes.reserve(piece.len())?;
     let n = shelf.read(file, piece)?;
     bytes.extend_from_slice(&piece[..n])?;
     Ok(n)
@@ -48,12 +45,10 @@ pub fn read_at_most<F: Shelf>(
     file: u32,
     limit: usize,
 ) -> Result<Vec<u8>, Trouble>
-    requires { file < F.opened shelf.old }
+    requires { file < length (F.told shelf.old).files }
     ensures reads { ReadsUpTo (λ bytes. bytes.items) limit file result (F.told shelf.old) (F.told shelf.new) }
-    ensures opened { F.opened shelf.new ≡ F.opened shelf.old }
-    ensures faults { HasCause result (F.faults shelf.old) (F.faults shelf.new) }
-    ensures reliable { F.reliable shelf.new ≡ F.reliable shelf.old }
-    ensures steady { F.reliable shelf.old ≡ true → F.faults shelf.new ≡ F.faults shelf.old }
+    ensures causes { HasCause result (F.told shelf.old).faults (F.told shelf.new).faults }
+    ensures keeps { ShelfKeeps [] (F.told shelf.old) (F.told shelf.new) }
 {
     let mut bytes = Vec::new(alloc);
     let mut buffer = buffer_of(alloc, PIECE)?;
@@ -70,9 +65,8 @@ pub fn read_at_most<F: Shelf>(
 /// Writes all of the bytes.
 pub fn write_all<O: Sink>(sink: &mut O, bytes: &[u8]) -> Result<(), Trouble>
     ensures writes { WritesAll bytes.now result (O.told sink.old) (O.told sink.new) }
-    ensures faults { HasCause result (O.faults sink.old) (O.faults sink.new) }
-    ensures reliable { O.reliable sink.new ≡ O.reliable sink.old }
-    ensures steady { O.reliable sink.old ≡ true → O.faults sink.new ≡ O.faults sink.old }
+    ensures causes { HasCause result (O.told sink.old).faults (O.told sink.new).faults }
+    ensures keeps { SinkKeeps (O.told sink.old) (O.told sink.new) }
 {
     let mut written = 0;
     while written < bytes.len() {

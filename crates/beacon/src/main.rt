@@ -30,8 +30,8 @@ fn explain<R: Eprint>(rt: &R, status: &Status, words: &[String]) {
 }
 
 /// Says on one line of standard error which file could not be opened or read, and why.
-fn explain_read<R: Eprint>(rt: &R, words: &[String], file: u32, error: &io::Error) {
-    let place = file as usize + 1;
+fn explain_read<R: Eprint>(rt: &R, words: &[String], place: usize, error: &io::Error) {
+    let place = place.saturating_add(1);
     if place < words.len() {
         let name = words[place].as_str();
         let _ = eprintln!(rt; "ReadFault: {name:?}: {error}");
@@ -49,7 +49,7 @@ fn main(rt: HostRuntime) -> ExitCode {
         }
     };
     let mut shelf = DiskShelf::new(rt.alloc(), &rt);
-    let mut out = StdSink::new(io::writer(&rt));
+    let mut out = StdSink::new(rt.alloc(), io::writer(&rt));
     let status = beacon_main(rt.alloc(), &words, &mut shelf, &mut out);
     match (&status, shelf.last_fault()) {
         (Status::Done, _) => {}

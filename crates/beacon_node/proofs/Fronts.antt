@@ -1,5 +1,5 @@
 -- A file that is longer than allowed is seen to be so by one byte more.
-use Rattle.std.proofs.Common.{◌≡◌, ℕ, ◌<◌, ◌≤◌, List, length, take, Some, None, Option, Err, refl, sym, ap, ◌∙◌, inl, inr, arith}
+use Rattle.std.proofs.Common.{◌≡◌, ℕ, ◌<◌, ◌≤◌, List, length, take, Some, None, Option, Result, Ok, Err, [], refl, sym, ap, ◌∙◌, inl, inr, arith}
 use Rattle.std.proofs.lemmas.Bool.{cases_lt, lt-ltb}
 use Rattle.std.proofs.lemmas.List.{length-take, take_all}
 use Rattle.bc_preset.specs.Configs.{config_of}
@@ -8,7 +8,11 @@ use Rattle.bc_preset.specs.declared.faults.ConfigFault.TheVariants as configs
 use Rattle.bc_preset.specs.declared.presets.Preset.{Preset}
 use Rattle.spec_state.specs.Genesis.{genesis_of}
 use Rattle.spec_state.specs.declared.fault.GenesisFault.TheVariants as genesis
-use Rattle.spec_replay.specs.Run.{with_genesis, with_files}
+use Rattle.spec_replay.specs.Run.{with_record, with_state, with_genesis, with_config, with_files}
+use Rattle.spec_replay.specs.Ticks.{Store}
+use Rattle.spec_state.specs.declared.plain.PlainState.{PlainState}
+use Rattle.spec_state.specs.declared.fault.GenesisFault.{GenesisFault}
+use Rattle.bc_preset.specs.declared.faults.ConfigFault.{ConfigFault}
 
 config_of-long : (bytes : List ℕ) → 65536 < length bytes → config_of bytes ≡ Err configs.TooLong
 unfolding config_of
@@ -42,3 +46,33 @@ pub files-with_files : (config genesis events : Option (List ℕ)) → 1 ≤ (wi
 unfolding with_files
 files-with_files None genesis events = omega arith
 files-with_files (Some bytes) genesis events = omega arith
+
+pub files-with_record : (store : Store) (events : Option (List ℕ)) → 1 ≤ (with_record store events).files
+unfolding with_record
+files-with_record store None = omega arith
+files-with_record store (Some bytes) = omega arith
+
+-- without a record a run writes nothing
+pub no_record_lines : (store : Store) (events : Option (List ℕ)) → events ≡ None → (with_record store events).lines ≡ []
+unfolding with_record
+no_record_lines store events e = rw e refl
+
+no_state_lines : (state : Result PlainState GenesisFault) → (with_state state None).lines ≡ []
+unfolding with_state with_record
+no_state_lines (Err part) = refl
+no_state_lines (Ok state) = refl
+
+pub no_genesis_lines : (config : ConfigValues) (genesis events : Option (List ℕ)) → events ≡ None → (with_genesis config genesis events).lines ≡ []
+unfolding with_genesis
+no_genesis_lines config None events e = refl
+no_genesis_lines config (Some bytes) events e = rw e (no_state_lines (genesis_of config.preset bytes))
+
+no_config_lines : (config : Result ConfigValues ConfigFault) (genesis : Option (List ℕ)) → (with_config config genesis None).lines ≡ []
+unfolding with_config
+no_config_lines (Err reason) genesis = refl
+no_config_lines (Ok config) genesis = no_genesis_lines config genesis None refl
+
+pub no_files_lines : (config genesis events : Option (List ℕ)) → events ≡ None → (with_files config genesis events).lines ≡ []
+unfolding with_files
+no_files_lines None genesis events e = refl
+no_files_lines (Some bytes) genesis events e = rw e (no_config_lines (config_of bytes) genesis)

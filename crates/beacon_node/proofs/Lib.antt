@@ -1,7 +1,6 @@
-pub mod Steps
 pub mod Fronts
+pub mod Reaching
+pub mod Steps
+pub mod OneByOne
 pub mod Readers
 pub mod Commands
-pub mod Frames
-pub mod Progresses
-pub mod Records

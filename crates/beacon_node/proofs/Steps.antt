@@ -1,80 +1,134 @@
 -- One file of a run after the other: what became of the run so far, and what becomes of the rest.
-use Rattle.std.proofs.Common.{◌≡◌, ℕ, ◌+◌, ◌≤◌, List, [], ◌∷◌, ◌++◌, length, take, Option, Some, None, option_map, refl, sym, ap, subst, ◌∙◌, append_assoc, add-one, inl, inr, arith}
-use Rattle.std.proofs.lemmas.List.{append-nil}
-use Rattle.bc_outside.specs.Told.{Told}
+use Rattle.std.proofs.Common.{◌≡◌, ◌⊎◌, ℕ, zero, suc, ◌+◌, ◌≤◌, ◌<◌, Bool, true, false, List, [], ◌∷◌, ◌++◌, length, take, drop, Option, Some, None, Result, Ok, Err, refl, sym, ap, subst, ◌∙◌, append_assoc, append-nil, add-one, inl, inr, arith, length-append}
+use Rattle.std.proofs.lemmas.List.{take_all, take-append-le}
+use Rattle.std.proofs.lemmas.Bool.{cases_lt}
+use Rattle.std.proofs.Math.Seq.{drop-length}
+use Rattle.std.proofs.lemmas.Grind.{common_steps}
+use Rattle.bc_outside.specs.Told.{FileHanded, ShelfTold, FileAgrees, Agrees, opened_file, more_of}
+use Rattle.bc_outside.specs.Calls.{Opened, Opens, Takes, ReadUpTo, ReadsUpTo}
 use Rattle.bc_outside.specs.declared.trouble.Trouble.{Trouble}
 use Rattle.bc_outside.specs.declared.trouble.Trouble.TheVariants.{Failed, NoMemory}
+use Rattle.bc_outside.proofs.Keeping.{agreed_back}
+use Rattle.bc_outside.proofs.Taking.{more-last}
+use Rattle.record_file.specs.Frames.{CanFollow}
 use Rattle.spec_replay.specs.Run.{Run, after_file}
 use Rattle.beacon_node.specs.declared.status.Status.{Status}
 use Rattle.beacon_node.specs.declared.status.Status.TheVariants as statuses
-use Rattle.beacon_node.specs.Answers.{Answers, Ends, Reaches, WritesLines, unread}
-use Rattle.beacon_node.specs.Reading.{HasAsked, MayHaveAsked}
+use Rattle.beacon_node.specs.Answers.{Answers, AsksFor, Reaches, breaks_off, lags, end_of, taken_of}
+use Rattle.beacon_node.specs.inside.Statuses.{unread}
+use Rattle.beacon_node.specs.inside.Reading.{ReadOf, Unread, ReadsNamed}
+use Rattle.beacon_node.proofs.Reaching.{reaches_none, reaches_front, reaches_all, reaches_one, no_lines}
 
-nothing_more : (written : Option (List ℕ)) → written ≡ option_map (λ bytes. bytes ++ []) written
-nothing_more None = refl
-nothing_more (Some bytes) = ap Some (sym (append-nil bytes))
+-- the file that was opened last, and what was taken of it
+pub last_taken : (name : List ℕ) (file : ℕ) (bytes : List ℕ) (met : Bool) (s t u : ShelfTold) → Opened name file s t → Takes file bytes met t u → u.files ≡ s.files ++ record { name = name; bytes = bytes; ended = met; grew = false } ∷ []
+last_taken name file bytes met s t u o h = rw (h.files, o.files, o.number) (more-last s.files (opened_file name) bytes met)
 
--- no line was written
-pub no_lines : (status : Status) (lines : List ℕ) (written : Option (List ℕ)) → Reaches status 0 (length lines) → WritesLines status lines written written
-no_lines status lines written reaches = record { count = 0; reaches = reaches; told_as = nothing_more written }
+-- what a name holds that agrees with what was taken
+pub held_as : (held : Option (List ℕ)) (name bytes : List ℕ) (met : Bool) → FileAgrees held (record { name = name; bytes = bytes; ended = met; grew = false }) → (behind : List ℕ) × (held ≡ Some (bytes ++ behind)) × CanFollow met behind
+held_as None name bytes met h = absurd h
+held_as (Some whole) name bytes met h = (drop (length bytes) whole, ap Some h.0, λ e. ap (drop (length bytes)) (h.2 e) ∙ drop-length bytes)
 
-Reaches-suc : (status : Status) (n whole : ℕ) → Reaches status n whole → Reaches status (n + 1) (whole + 1)
-Reaches-suc statuses.Done n whole h = ap (λ k. k + 1) h
-Reaches-suc statuses.Words n whole h = ap (λ k. k + 1) h
-Reaches-suc (statuses.Config reason) n whole h = ap (λ k. k + 1) h
-Reaches-suc (statuses.Genesis part) n whole h = ap (λ k. k + 1) h
-Reaches-suc (statuses.Record which event reason) n whole h = ap (λ k. k + 1) h
-Reaches-suc statuses.ReadFault n whole h = omega arith
-Reaches-suc statuses.WriteFault n whole h = omega arith
-Reaches-suc statuses.NoMemory n whole h = omega arith
+pub held_whole : (held : Option (List ℕ)) (f : FileHanded) → FileAgrees held f → (whole : List ℕ) × (held ≡ Some whole) × FileAgrees (Some whole) f
+held_whole None f h = absurd h
+held_whole (Some whole) f h = (whole, refl, h)
 
--- the run is over, or broken off, behind its first file
-pub over_after : (run : Run) (name : List ℕ) (names : List (List ℕ)) (status : Status) (told : Told) (told_then : Option Told) (written : Option (List ℕ))
-    → HasAsked (name ∷ []) told told_then → Ends status run.end → Reaches status 0 (length run.lines) → Reaches status 1 run.files
-    → Answers run (name ∷ names) status told told_then written written
-over_after run name names status told told_then written asked ends lines files = record {
-  end = ends;
-  lines = no_lines status run.lines written lines;
-  asked = record { now = asked.now; tells = asked.tells; count = 1; reaches = files; asked = asked.asked };
+-- reading a named file
+front_of : (limit : ℕ) (bytes whole : List ℕ) → length bytes ≤ limit → limit ≤ length bytes → whole ≡ bytes ++ drop (length bytes) whole → bytes ≡ take limit whole
+front_of limit bytes whole le ge e = grind (arith, common_steps)
+
+pub read_of : {V : Type 0} (items : V → List ℕ) (name : List ℕ) (limit file : ℕ) (result : Result V Trouble) (s t u : ShelfTold) → Opened name file s t → ReadsUpTo items limit file result t u → ReadsNamed items name limit result s u
+read_of items name limit file (Ok v) s t u o h = record {
+  handed = record { name = name; bytes = items v; ended = h.met; grew = false };
+  named = refl;
+  files = last_taken name file (items v) h.met s t u o h.taken;
+  asked = h.taken.asked ∙ o.asked;
+  front = λ whole a. elim (cases_lt (length (items v)) limit) [
+    | inl short ↦ let all : whole ≡ items v = a.2 (h.all short) in rw all (sym (take_all limit (items v) h.within))
+    | inr long ↦ front_of limit (items v) whole h.within long a.0
+  ];
+}
+read_of items name limit file (Err trouble) s t u o h = record {
+  opened = record { name = name; bytes = h.0; ended = false; grew = false } ∷ [];
+  few = omega arith;
+  files = last_taken name file h.0 false s t u o h.2;
+  asked = inr (h.2.asked ∙ o.asked);
 }
 
--- the first file could not be read
-pub unread_after : (run : Run) (name : List ℕ) (names : List (List ℕ)) (trouble : Trouble) (told : Told) (told_then : Option Told) (written : Option (List ℕ))
-    → MayHaveAsked name told told_then → 1 ≤ run.files → Answers run (name ∷ names) (unread trouble) told told_then written written
-unread_after run name names Failed told told_then written asked files =
-    elim asked [
-      | inl none ↦ record {
-        end = tt;
-        lines = no_lines statuses.ReadFault run.lines written (omega arith);
-        asked = record { now = none.now; tells = none.tells; count = 0; reaches = omega arith; asked = none.asked };
-      }
-      | inr one ↦ over_after run name names statuses.ReadFault told told_then written one tt (omega arith) files
-    ]
-unread_after run name names NoMemory told told_then written asked files =
-    elim asked [
-      | inl none ↦ record {
-        end = tt;
-        lines = no_lines statuses.NoMemory run.lines written (omega arith);
-        asked = record { now = none.now; tells = none.tells; count = 0; reaches = omega arith; asked = none.asked };
-      }
-      | inr one ↦ over_after run name names statuses.NoMemory told told_then written one tt (omega arith) files
-    ]
+pub unopened : (name : List ℕ) (trouble : Trouble) (s t : ShelfTold) → Opens name (Err trouble) s t → Unread name s t
+unopened name Failed s t h = record { opened = []; few = omega arith; files = h.files ∙ sym (append-nil s.files); asked = inr h.asked }
+unopened name NoMemory s t h = record { opened = []; few = omega arith; files = h.files ∙ sym (append-nil s.files); asked = inl h.asked }
 
--- the run goes on behind its first file, over the same names
-pub goes_on : (rest : (List ℕ → Option (List ℕ)) → Run) (name : List ℕ) (names : List (List ℕ)) (status : Status) (told : Told) (told_mid told_then : Option Told) (written written_then : Option (List ℕ))
-    → HasAsked (name ∷ []) told told_mid
-    → ((now : Told) → told_mid ≡ Some now → Answers (rest now.contents) names status now told_then written written_then)
-    → Answers (after_file (rest told.contents)) (name ∷ names) status told told_then written written_then
-goes_on rest name names status told told_mid told_then written written_then asked more =
-    let a = subst (λ (contents : List ℕ → Option (List ℕ)). Answers (rest contents) names status asked.now told_then written written_then) asked.contents (more asked.now asked.tells) in
-    record {
-      end = a.end;
-      lines = a.lines;
-      asked = record {
-        now = a.asked.now;
-        tells = a.asked.tells;
-        count = a.asked.count + 1;
-        reaches = Reaches-suc status a.asked.count (rest told.contents).files a.asked.reaches;
-        asked = rw add-one (a.asked.asked ∙ ap (λ (front : List (List ℕ)). front ++ take a.asked.count names) asked.asked ∙ append_assoc told.asked (name ∷ []) (take a.asked.count names));
-      };
-    }
+-- the bytes that were read are those that the name holds, up to the limit
+pub held_front : {name : List ℕ} {limit : ℕ} {bytes : List ℕ} {s t : ShelfTold} → ReadOf name limit bytes s t → (c : List ℕ → Option (List ℕ)) → Agrees c t.files → (whole : List ℕ) × (c name ≡ Some whole) × (bytes ≡ take limit whole)
+held_front {name} {limit} {bytes} {s} {t} h c a =
+    let agrees = (agreed_back c s.files (h.handed ∷ []) (rw h.files at a)).0 in
+    let w = held_whole (c h.handed.name) h.handed agrees in
+    (w.0, ap c (sym h.named) ∙ w.1, h.front w.0 w.2)
+
+-- the record was not opened
+pub taken_none : (n : ℕ) (opened : List FileHanded) → length opened ≤ n → taken_of n opened ≡ None
+unfolding taken_of
+taken_none n [] h = refl
+taken_none zero (f ∷ opened) h = absurd (omega arith)
+taken_none (suc n) (f ∷ opened) h = taken_none n opened (omega arith)
+
+asks_one : (fewer : Bool) (files : ℕ) (name : List ℕ) (names asked asked_then : List (List ℕ)) → Reaches fewer 1 files → asked_then ≡ asked ++ name ∷ [] → AsksFor fewer files (name ∷ names) asked asked_then
+asks_one fewer files name names asked asked_then reaches e = record { count = 1; reaches = reaches; names_are = e }
+
+asks_none : (fewer : Bool) (files : ℕ) (names asked asked_then : List (List ℕ)) → Reaches fewer 0 files → asked_then ≡ asked → AsksFor fewer files names asked asked_then
+asks_none fewer files names asked asked_then reaches e = record { count = 0; reaches = reaches; names_are = e ∙ sym (append-nil asked) }
+
+-- The run is over, or broken off, behind its first file.
+pub over_after : (run paced : Run) (name : List ℕ) (names : List (List ℕ)) (status : Status) (asked asked_then : List (List ℕ)) (written : List ℕ) → asked_then ≡ asked ++ name ∷ []
+    → (breaks_off status ≡ false → run.end ≡ end_of status) → Reaches (breaks_off status) 0 (length run.lines) → Reaches (lags status) 0 (length paced.lines) → Reaches (breaks_off status) 1 run.files
+    → Answers run paced (name ∷ names) status asked asked_then written written
+over_after run paced name names status asked asked_then written e ends lines pace files = record {
+  ends = ends;
+  lines = no_lines (breaks_off status) run.lines written lines;
+  pace = no_lines (lags status) paced.lines written pace;
+  asks = asks_one (breaks_off status) run.files name names asked asked_then files e;
+}
+
+-- The first file could not be read.
+pub unread_after : (run paced : Run) (name : List ℕ) (names : List (List ℕ)) (trouble : Trouble) (asked asked_then : List (List ℕ)) (written : List ℕ) → (asked_then ≡ asked) ⊎ (asked_then ≡ asked ++ name ∷ []) → 1 ≤ run.files → paced.lines ≡ []
+    → Answers run paced (name ∷ names) (unread trouble) asked asked_then written written
+unread_after run paced name names Failed asked asked_then written e files none = record {
+  ends = λ never. cc;
+  lines = no_lines true run.lines written (reaches_front 0 _ (omega arith));
+  pace = rw none (no_lines false [] written (reaches_none false));
+  asks = elim e [
+    | inl same ↦ asks_none true run.files (name ∷ names) asked asked_then (reaches_front 0 _ (omega arith)) same
+    | inr one ↦ asks_one true run.files name names asked asked_then (reaches_front 1 _ files) one
+  ];
+}
+unread_after run paced name names NoMemory asked asked_then written e files none = record {
+  ends = λ never. cc;
+  lines = no_lines true run.lines written (reaches_front 0 _ (omega arith));
+  pace = no_lines true paced.lines written (reaches_front 0 _ (omega arith));
+  asks = elim e [
+    | inl same ↦ asks_none true run.files (name ∷ names) asked asked_then (reaches_front 0 _ (omega arith)) same
+    | inr one ↦ asks_one true run.files name names asked asked_then (reaches_front 1 _ files) one
+  ];
+}
+
+-- The run goes on behind its first file.
+pub goes_on : (run paced : Run) (name : List ℕ) (names : List (List ℕ)) (status : Status) (asked mid asked_then : List (List ℕ)) (written written_then : List ℕ) → mid ≡ asked ++ name ∷ []
+    → Answers run paced names status mid asked_then written written_then → Answers (after_file run) (after_file paced) (name ∷ names) status asked asked_then written written_then
+goes_on run paced name names status asked mid asked_then written written_then e a = record {
+  ends = a.ends;
+  lines = record { count = a.lines.count; reaches = a.lines.reaches; bytes = a.lines.bytes };
+  pace = record { count = a.pace.count; reaches = a.pace.reaches; bytes = a.pace.bytes };
+  asks = record {
+    count = a.asks.count + 1;
+    reaches = reaches_one (breaks_off status) a.asks.count run.files a.asks.reaches;
+    names_are = rw add-one (a.asks.names_are ∙ ap (λ (front : List (List ℕ)). front ++ take a.asks.count names) e ∙ append_assoc asked (name ∷ []) (take a.asks.count names));
+  };
+}
+
+-- one file more was opened
+pub opened_more : (told : List FileHanded) {mid then : List FileHanded} (f : FileHanded) (opened : List FileHanded) → mid ≡ told ++ f ∷ [] → then ≡ mid ++ opened → then ≡ told ++ f ∷ opened
+opened_more told {mid} {then} f opened e h = h ∙ ap (λ (fs : List FileHanded). fs ++ opened) e ∙ append_assoc told (f ∷ []) opened
+
+pub unopened_files : (name : List ℕ) (trouble : Trouble) (s t : ShelfTold) → Opens name (Err trouble) s t → t.files ≡ s.files
+unopened_files name Failed s t h = h.files
+unopened_files name NoMemory s t h = h.files

@@ -1,83 +1,83 @@
 -- How a status, the bytes written and the names asked for meet a run.
-use Rattle.std.specs.Prelude.{◌≡◌, ℕ, ◌≤◌, List, [], ◌∷◌, ◌++◌, length, take, Option, Some, option_map, IsSome}
-use Rattle.bc_outside.specs.Told.{Told}
-use Rattle.bc_outside.specs.declared.trouble.Trouble.{Trouble}
-use Rattle.bc_outside.specs.declared.trouble.Trouble.TheVariants.{Failed, NoMemory}
+use Rattle.std.specs.Prelude.{◌≡◌, ℕ, zero, suc, ◌≤◌, Bool, true, false, List, [], ◌∷◌, ◌++◌, length, take, Option, Some, None}
+use Rattle.bc_outside.specs.Told.{FileHanded, ShelfTold, Agrees}
 use Rattle.bc_outside.specs.Calls.{Rose}
-use Rattle.record_file.specs.Record.{fault_event}
-use Rattle.record_file.specs.declared.fault.FrameStop.{FrameStop}
-use Rattle.record_file.specs.declared.fault.FrameStop.TheVariants as stops
-use Rattle.spec_replay.specs.Run.{Run, End, done, no_command, bad_config, bad_genesis, bad_record}
+use Rattle.spec_replay.specs.Run.{Run, End, done, no_command, bad_config, bad_genesis, bad_record, over, with_files}
+use Rattle.spec_replay.specs.Words.{ReplayFiles, replay_files_of}
 use Rattle.beacon_node.specs.declared.status.Status.{Status}
 use Rattle.beacon_node.specs.declared.status.Status.TheVariants as statuses
 
--- The status is how the run ends, unless a fault of the outside or want of memory broke it off.
-abbrev pub Ends : Status → Option End → Type 0
-Ends statuses.Done end = end ≡ Some done
-Ends statuses.Words end = end ≡ Some no_command
-Ends (statuses.Config reason) end = end ≡ Some (bad_config reason)
-Ends (statuses.Genesis part) end = end ≡ Some (bad_genesis part)
-Ends (statuses.Record which event reason) end = (which ≡ 0) × (end ≡ Some (bad_record event reason))
-Ends statuses.ReadFault end = Unit {0}
-Ends statuses.WriteFault end = Unit {0}
-Ends statuses.NoMemory end = Unit {0}
+-- how the run ends that has this status, unless a fault of the outside or want of memory broke it off
+abbrev pub end_of : Status → Option End
+end_of statuses.Done = Some done
+end_of statuses.Words = Some no_command
+end_of (statuses.Config reason) = Some (bad_config reason)
+end_of (statuses.Genesis part) = Some (bad_genesis part)
+end_of (statuses.Record which event reason) = Some (bad_record which event reason)
+end_of statuses.ReadFault = None
+end_of statuses.WriteFault = None
+end_of statuses.NoMemory = None
 
--- so many of the whole, or all of it unless the run was broken off
-abbrev pub Reaches : Status → ℕ → ℕ → Type 0
-Reaches statuses.Done n whole = n ≡ whole
-Reaches statuses.Words n whole = n ≡ whole
-Reaches (statuses.Config reason) n whole = n ≡ whole
-Reaches (statuses.Genesis part) n whole = n ≡ whole
-Reaches (statuses.Record which event reason) n whole = n ≡ whole
-Reaches statuses.ReadFault n whole = n ≤ whole
-Reaches statuses.WriteFault n whole = n ≤ whole
-Reaches statuses.NoMemory n whole = n ≤ whole
+-- whether a run with this status was broken off
+abbrev pub breaks_off : Status → Bool
+breaks_off status = elim (end_of status) [ Some end ↦ false | None ↦ true ]
 
--- The sink got the run's lines behind what it had: all of them, or a front of them where the run was broken off.
-pub record WritesLines (status : Status) (lines : List ℕ) (written written_then : Option (List ℕ)) : Type 0 where
+-- whether lines of events that were read may not be written
+abbrev pub lags : Status → Bool
+lags statuses.WriteFault = true
+lags statuses.NoMemory = true
+lags _ = false
+
+-- so many of the whole, or all of it unless there may be fewer
+abbrev pub Reaches : Bool → ℕ → ℕ → Type 0
+Reaches fewer n whole = (n ≤ whole) × (fewer ≡ false → n ≡ whole)
+
+-- The sink got these lines behind what it had: all of them, or a front of them where there may be fewer.
+pub record WritesLines (fewer : Bool) (lines : List ℕ) (written written_then : List ℕ) : Type 0 where
   pub count : ℕ
-  pub reaches : Reaches status count (length lines)
-  pub told_as : written_then ≡ option_map (λ bytes. bytes ++ take count lines) written
+  pub reaches : Reaches fewer count (length lines)
+  pub bytes : written_then ≡ written ++ take count lines
 
 -- The shelf was asked for the files that the run asks for, in the order of the names, and for no other: for all of
 -- them, or a front of them where the run was broken off.
-pub record AsksFor (status : Status) (files : ℕ) (names : List (List ℕ)) (told : Told) (told_then : Option Told) : Type 0 where
-  pub now : Told
-  pub tells : told_then ≡ Some now
+pub record AsksFor (fewer : Bool) (files : ℕ) (names : List (List ℕ)) (asked asked_then : List (List ℕ)) : Type 0 where
   pub count : ℕ
-  pub reaches : Reaches status count files
-  pub asked : now.asked ≡ told.asked ++ take count names
+  pub reaches : Reaches fewer count files
+  pub names_are : asked_then ≡ asked ++ take count names
 
--- What became of a run: its status, the lines that were written, and the files that were asked for.
-pub record Answers (run : Run) (names : List (List ℕ)) (status : Status) (told : Told) (told_then : Option Told) (written written_then : Option (List ℕ)) : Type 0 where
-  pub end : Ends status run.end
-  pub lines : WritesLines status run.lines written written_then
-  pub asked : AsksFor status run.files names told told_then
+-- What became of a run. The status is how it ends, unless it was broken off. Its lines were written, and its files asked
+-- for. The lines keep pace with the record: they are those of the run of as much of it as was taken, also where a file
+-- could not be read; where a line could not be written or memory ran out, a front of them.
+pub record Answers (run paced : Run) (names : List (List ℕ)) (status : Status) (asked asked_then : List (List ℕ)) (written written_then : List ℕ) : Type 0 where
+  pub ends : breaks_off status ≡ false → run.end ≡ end_of status
+  pub lines : WritesLines (breaks_off status) run.lines written written_then
+  pub pace : WritesLines (lags status) paced.lines written written_then
+  pub asks : AsksFor (breaks_off status) run.files names asked asked_then
 
--- A fault of the outside is answered only where its count rose. No count falls.
+-- Some files were opened, and whatever the names hold that agrees with all that was handed out, the run of it became so.
+pub record Replayed (run : (List ℕ → Option (List ℕ)) → Run) (paced : (List ℕ → Option (List ℕ)) → List FileHanded → Run) (names : List (List ℕ)) (status : Status)
+    (told told_then : ShelfTold) (written written_then : List ℕ) : Type 0 where
+  pub opened : List FileHanded
+  pub files : told_then.files ≡ told.files ++ opened
+  pub answers : (contents : List ℕ → Option (List ℕ)) → Agrees contents told_then.files
+      → Answers (run contents) (paced contents opened) names status told.asked told_then.asked written written_then
+
+-- the bytes that were taken of the file with this number
+unfoldable pub taken_of : ℕ → List FileHanded → Option (List ℕ)
+taken_of n [] = None
+taken_of zero (f ∷ files) = Some f.bytes
+taken_of (suc n) (f ∷ files) = taken_of n files
+
+-- the run of the command with as much of the record, the third file, as was taken
+abbrev pub with_taken : (List ℕ → Option (List ℕ)) → List FileHanded → Option ReplayFiles → Run
+with_taken contents opened None = over no_command
+with_taken contents opened (Some files) = with_files (contents files.config) (contents files.genesis) (taken_of 2 opened)
+
+-- the same of the command words
+unfoldable pub paced_run_of : List (List ℕ) → (List ℕ → Option (List ℕ)) → List FileHanded → Run
+paced_run_of words contents opened = with_taken contents opened (replay_files_of words)
+
+-- A fault of the outside is answered only where its count rose.
 pub record HasCauses (status : Status) (shelf shelf_then sink sink_then : ℕ) : Type 0 where
-  pub shelf_count : shelf ≤ shelf_then
-  pub sink_count : sink ≤ sink_then
   pub read : status ≡ statuses.ReadFault → Rose shelf shelf_then
   pub write : status ≡ statuses.WriteFault → Rose sink sink_then
-
--- the status of a file that could not be read
-abbrev pub unread : Trouble → Status
-unread Failed = statuses.ReadFault
-unread NoMemory = statuses.NoMemory
-
--- each name holds bytes
-abbrev pub AllThere : (List ℕ → Option (List ℕ)) → List (List ℕ) → Type 0
-AllThere contents [] = Unit {0}
-AllThere contents (name ∷ names) = IsSome (contents name) × AllThere contents names
-
--- the status of lines that could not be written
-abbrev pub unwritten : Trouble → Status
-unwritten Failed = statuses.WriteFault
-unwritten NoMemory = statuses.NoMemory
-
--- the status of a frame that could not be read, where that many events were
-abbrev pub no_frame : ℕ → FrameStop → Status
-no_frame events (stops.Fault reason) = statuses.Record 0 (fault_event events reason) reason
-no_frame events stops.ReadFault = statuses.ReadFault
-no_frame events stops.NoMemory = statuses.NoMemory

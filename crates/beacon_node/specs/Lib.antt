@@ -1,7 +1,3 @@
 pub mod Answers
-pub mod Files
-pub mod GenesisAnswers
-pub mod Progress
-pub mod Reading
 pub mod Statuses
-pub mod Stores
+pub mod inside

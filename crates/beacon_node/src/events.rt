@@ -1,15 +1,13 @@
 //! The record of a run: each event is read, handed to the store, and answered by a line.
 
-ghost use Rattle.std.specs.Prelude.{◌≡◌, ◌≢◌, ◌≤◌, ◌<◌, ◌+◌, ◌^◌, ◌∷◌, [], Some, None, true, IfSome, IfNone};
-ghost use Rattle.bc_outside.specs.Told.{Told};
-ghost use Rattle.bc_outside.specs.Calls.{HasCause, WritesAll};
-ghost use Rattle.record_file.specs.Record.{Events};
-ghost use Rattle.record_file.specs.Frames.{to_come};
+ghost use Rattle.std.specs.Prelude.{◌≡◌, ◌≢◌, ◌<◌, ◌^◌, [], ◌∷◌, length, IfSome, IfNone};
+ghost use Rattle.bc_outside.specs.Calls.{HasCause, ShelfKeeps, SinkKeeps, WritesAll};
 ghost use Rattle.spec_replay.specs.Lines.{tick_line};
-ghost use Rattle.spec_replay.specs.Run.{with_record, with_events};
-ghost use Rattle.beacon_node.specs.Answers.{Answers, HasCauses, AllThere, unread, unwritten, no_frame};
-ghost use Rattle.beacon_node.specs.Progress.{Progress, OneMore};
-ghost use Rattle.beacon_node.specs.Stores.{told_outcome};
+ghost use Rattle.spec_replay.specs.Run.{with_record};
+ghost use Rattle.beacon_node.specs.Answers.{HasCauses, Replayed, taken_of};
+ghost use Rattle.beacon_node.specs.inside.Statuses.{unwritten, no_frame};
+ghost use Rattle.beacon_node.specs.inside.Progress.{Progress, OneMore, EventsOver};
+ghost use Rattle.beacon_node.specs.inside.Stores.{told_outcome};
 
 use crate::lines::tick_line;
 use crate::reading::unread;
@@ -29,9 +27,8 @@ fn write_line<O: Sink>(
     out: &mut O,
 ) -> Result<(), Trouble>
     ensures writes { WritesAll (tick_line event (told_outcome answer.now store.now) store.now) result (O.told out.old) (O.told out.new) }
-    ensures faults { HasCause result (O.faults out.old) (O.faults out.new) }
-    ensures reliable { O.reliable out.new ≡ O.reliable out.old }
-    ensures steady { O.reliable out.old ≡ true → O.faults out.new ≡ O.faults out.old }
+    ensures causes { HasCause result (O.told out.old).faults (O.told out.new).faults }
+    ensures keeps { SinkKeeps (O.told out.old) (O.told out.new) }
 {
     let line = tick_line(alloc, u64::from(event), answer, store)?;
     write_all(out, &line)
@@ -70,20 +67,12 @@ fn replay_event<F: Shelf, O: Sink>(
     shelf: &mut F,
     out: &mut O,
 ) -> Option<Status>
-    requires { frames.old.file < F.opened shelf.old }
-    ensures goes_on { IfNone result ((told : Told) → (rest : Events) → F.told shelf.old ≡ Some told → to_come frames.old (F.told shelf.old) ≡ Some rest
-        → Progress (frames.old.events + 1) store.old rest told (O.told out.old) frames.new store.new (F.told shelf.new) (O.told out.new)) }
-    ensures answers { IfSome result (λ status. (told : Told) → (rest : Events) → F.told shelf.old ≡ Some told → to_come frames.old (F.told shelf.old) ≡ Some rest
-        → Answers (with_events (frames.old.events + 1) store.old rest) [] status told (F.told shelf.new) (O.told out.old) (O.told out.new)) }
-    ensures one_more { IfNone result (OneMore frames.old frames.new) }
-    ensures causes { IfSome result (λ status. HasCauses status (F.faults shelf.old) (F.faults shelf.new) (O.faults out.old) (O.faults out.new)) }
-    ensures command { IfSome result (λ status. status ≢ Status.Words) }
-    ensures counts { (F.faults shelf.old ≤ F.faults shelf.new) × (O.faults out.old ≤ O.faults out.new) }
-    ensures file { frames.new.file ≡ frames.old.file }
-    ensures opened { F.opened shelf.new ≡ F.opened shelf.old }
-    ensures reliable { (F.reliable shelf.new ≡ F.reliable shelf.old) × (O.reliable out.new ≡ O.reliable out.old) }
-    ensures steady_shelf { F.reliable shelf.old ≡ true → F.faults shelf.new ≡ F.faults shelf.old }
-    ensures steady_sink { O.reliable out.old ≡ true → O.faults out.new ≡ O.faults out.old }
+    requires { frames.old.file < length (F.told shelf.old).files }
+    ensures goes_on { IfNone result (Progress store.old frames.old (F.told shelf.old) (O.told out.old).taken store.new frames.new (F.told shelf.new) (O.told out.new).taken × OneMore frames.old frames.new) }
+    ensures over { IfSome result (λ status. EventsOver status store.old frames.old (F.told shelf.old) (F.told shelf.new) (O.told out.old).taken (O.told out.new).taken) }
+    ensures causes { IfSome result (λ status. HasCauses status (F.told shelf.old).faults (F.told shelf.new).faults (O.told out.old).faults (O.told out.new).faults) }
+    ensures shelf { ShelfKeeps [] (F.told shelf.old) (F.told shelf.new) }
+    ensures sink { SinkKeeps (O.told out.old) (O.told out.new) }
 {
     let event = match frames.next(shelf) {
         Ok(Some(event)) => event,
@@ -105,13 +94,12 @@ fn replay_events<F: Shelf, O: Sink>(
     shelf: &mut F,
     out: &mut O,
 ) -> Status
-    requires { frames.old.file < F.opened shelf.old }
-    ensures answers { (told : Told) → (rest : Events) → F.told shelf.old ≡ Some told → to_come frames.old (F.told shelf.old) ≡ Some rest
-        → Answers (with_events (frames.old.events + 1) store.old rest) [] result told (F.told shelf.new) (O.told out.old) (O.told out.new) }
-    ensures causes { HasCauses result (F.faults shelf.old) (F.faults shelf.new) (O.faults out.old) (O.faults out.new) }
+    requires { frames.old.file < length (F.told shelf.old).files }
+    ensures over { EventsOver result store.old frames.old (F.told shelf.old) (F.told shelf.new) (O.told out.old).taken (O.told out.new).taken }
+    ensures causes { HasCauses result (F.told shelf.old).faults (F.told shelf.new).faults (O.told out.old).faults (O.told out.new).faults }
     ensures command { result ≢ Status.Words }
-    ensures steady_shelf { F.reliable shelf.old ≡ true → F.faults shelf.new ≡ F.faults shelf.old }
-    ensures steady_sink { O.reliable out.old ≡ true → O.faults out.new ≡ O.faults out.old }
+    ensures shelf { ShelfKeeps [] (F.told shelf.old) (F.told shelf.new) }
+    ensures sink { SinkKeeps (O.told out.old) (O.told out.new) }
 {
     'events: loop {
         if let Some(status) = replay_event(alloc, frames, store, shelf, out) {
@@ -128,14 +116,13 @@ pub fn replay_record<F: Shelf, O: Sink>(
     shelf: &mut F,
     out: &mut O,
 ) -> Status
-    requires { F.opened shelf.old < 2 ^ 32 }
-    ensures answers { (told : Told) → F.told shelf.old ≡ Some told → Answers
-        (with_record store.old (told.contents name.now))
-        (name.now ∷ []) result told (F.told shelf.new) (O.told out.old) (O.told out.new) }
-    ensures causes { HasCauses result (F.faults shelf.old) (F.faults shelf.new) (O.faults out.old) (O.faults out.new) }
+    requires { length (F.told shelf.old).files < 2 ^ 32 }
+    ensures answers { Replayed (λ contents. with_record store.old (contents name.now)) (λ contents opened. with_record store.old (taken_of 0 opened))
+        (name.now ∷ []) result (F.told shelf.old) (F.told shelf.new) (O.told out.old).taken (O.told out.new).taken }
+    ensures causes { HasCauses result (F.told shelf.old).faults (F.told shelf.new).faults (O.told out.old).faults (O.told out.new).faults }
     ensures command { result ≢ Status.Words }
-    ensures steady_shelf { (told : Told) → F.told shelf.old ≡ Some told → AllThere told.contents (name.now ∷ []) → F.reliable shelf.old ≡ true → F.faults shelf.new ≡ F.faults shelf.old }
-    ensures steady_sink { O.reliable out.old ≡ true → O.faults out.new ≡ O.faults out.old }
+    ensures shelf { ShelfKeeps (name.now ∷ []) (F.told shelf.old) (F.told shelf.new) }
+    ensures sink { SinkKeeps (O.told out.old) (O.told out.new) }
 {
     let file = match shelf.open(name) {
         Ok(file) => file,

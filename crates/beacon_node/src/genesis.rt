@@ -3,7 +3,7 @@
 ghost use Rattle.std.specs.Prelude.{◌≡◌};
 ghost use Rattle.bc_preset.specs.Presets.{IsPreset};
 ghost use Rattle.spec_state.specs.Genesis.{genesis_of, genesis_fault, sound_genesis};
-ghost use Rattle.beacon_node.specs.GenesisAnswers.{GivesGenesis, no_state};
+ghost use Rattle.beacon_node.specs.inside.GenesisAnswers.{GivesGenesis, no_state};
 
 use bc_preset::Preset;
 use beacon_state::{State, genesis_check};

@@ -4,7 +4,7 @@ ghost use Rattle.std.specs.Prelude.{◌≡◌, ◌++◌, OnOk, IfOk};
 ghost use Rattle.std.specs.Fmt.{decimal};
 ghost use Rattle.bc_words.specs.Refusals.{name_of};
 ghost use Rattle.spec_replay.specs.Lines.{root_text, checkpoint_text, refusal_text, head_label, justified_label, finalized_label, outcome_text, store_text, tick_line};
-ghost use Rattle.beacon_node.specs.Stores.{told_outcome};
+ghost use Rattle.beacon_node.specs.inside.Stores.{told_outcome};
 
 use crate::store::Store;
 use bc_words::Refusal;

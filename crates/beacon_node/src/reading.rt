@@ -1,10 +1,9 @@
 //! Reading a named file whole.
 
-ghost use Rattle.std.specs.Prelude.{◌≡◌, ◌<◌, ◌≤◌, ◌^◌, ◌+◌, Some, IsSome, true};
-ghost use Rattle.bc_outside.specs.Told.{Told};
-ghost use Rattle.bc_outside.specs.Calls.{HasCause};
-ghost use Rattle.beacon_node.specs.Answers.{unread};
-ghost use Rattle.beacon_node.specs.Reading.{ReadsNamed};
+ghost use Rattle.std.specs.Prelude.{◌≡◌, ◌<◌, ◌^◌, [], ◌∷◌, length};
+ghost use Rattle.bc_outside.specs.Calls.{HasCause, ShelfKeeps};
+ghost use Rattle.beacon_node.specs.inside.Statuses.{unread};
+ghost use Rattle.beacon_node.specs.inside.Reading.{ReadsNamed};
 
 use crate::status::Status;
 use bc_outside::{Shelf, Trouble, read_at_most};
@@ -17,12 +16,10 @@ pub fn read_named<F: Shelf>(
     name: &str,
     limit: usize,
 ) -> Result<Vec<u8>, Trouble>
-    requires { F.opened shelf.old < 2 ^ 32 }
-    ensures reads { (told : Told) → F.told shelf.old ≡ Some told → ReadsNamed (λ bytes. bytes.items) name.now limit result told (F.told shelf.new) }
-    ensures opened { F.opened shelf.new ≤ F.opened shelf.old + 1 }
-    ensures faults { HasCause result (F.faults shelf.old) (F.faults shelf.new) }
-    ensures reliable { F.reliable shelf.new ≡ F.reliable shelf.old }
-    ensures steady { F.reliable shelf.old ≡ true → (told : Told) → F.told shelf.old ≡ Some told → IsSome (told.contents name.now) → F.faults shelf.new ≡ F.faults shelf.old }
+    requires { length (F.told shelf.old).files < 2 ^ 32 }
+    ensures reads { ReadsNamed (λ bytes. bytes.items) name.now limit result (F.told shelf.old) (F.told shelf.new) }
+    ensures causes { HasCause result (F.told shelf.old).faults (F.told shelf.new).faults }
+    ensures keeps { ShelfKeeps (name.now ∷ []) (F.told shelf.old) (F.told shelf.new) }
 {
     let file = shelf.open(name)?;
     read_at_most(alloc, shelf, file, limit)

@@ -1,11 +1,11 @@
 //! The command `replay`: configuration, genesis and record are read in this order, each only where the ones before it
 //! have no fault, and each event's line is written before the next frame is read.
 
-ghost use Rattle.std.specs.Prelude.{◌≡◌, ◌≢◌, ◌<◌, ◌+◌, ◌^◌, ◌∷◌, [], Some, true};
-ghost use Rattle.bc_outside.specs.Told.{Told};
+ghost use Rattle.std.specs.Prelude.{◌≡◌, ◌≢◌, ◌<◌, ◌+◌, ◌^◌, ◌∷◌, [], length};
+ghost use Rattle.bc_outside.specs.Calls.{ShelfKeeps, SinkKeeps};
 ghost use Rattle.spec_replay.specs.Run.{with_files, with_genesis};
-ghost use Rattle.beacon_node.specs.Answers.{Answers, HasCauses, AllThere};
-ghost use Rattle.beacon_node.specs.GenesisAnswers.{no_genesis};
+ghost use Rattle.beacon_node.specs.Answers.{HasCauses, Replayed, taken_of};
+ghost use Rattle.beacon_node.specs.inside.GenesisAnswers.{no_genesis};
 
 use crate::events::replay_record;
 use crate::genesis::{GenesisStop, MAX_GENESIS_LEN, read_genesis};
@@ -36,14 +36,14 @@ fn replay_genesis<F: Shelf, O: Sink>(
     shelf: &mut F,
     out: &mut O,
 ) -> Status
-    requires { F.opened shelf.old + 1 < 2 ^ 32 }
-    ensures answers { (told : Told) → F.told shelf.old ≡ Some told → Answers
-        (with_genesis config.now (told.contents genesis_name.now) (told.contents record_name.now))
-        (genesis_name.now ∷ record_name.now ∷ []) result told (F.told shelf.new) (O.told out.old) (O.told out.new) }
-    ensures causes { HasCauses result (F.faults shelf.old) (F.faults shelf.new) (O.faults out.old) (O.faults out.new) }
+    requires { length (F.told shelf.old).files + 1 < 2 ^ 32 }
+    ensures answers { Replayed (λ contents. with_genesis config.now (contents genesis_name.now) (contents record_name.now))
+        (λ contents opened. with_genesis config.now (contents genesis_name.now) (taken_of 1 opened))
+        (genesis_name.now ∷ record_name.now ∷ []) result (F.told shelf.old) (F.told shelf.new) (O.told out.old).taken (O.told out.new).taken }
+    ensures causes { HasCauses result (F.told shelf.old).faults (F.told shelf.new).faults (O.told out.old).faults (O.told out.new).faults }
     ensures command { result ≢ Status.Words }
-    ensures steady_shelf { (told : Told) → F.told shelf.old ≡ Some told → AllThere told.contents (genesis_name.now ∷ record_name.now ∷ []) → F.reliable shelf.old ≡ true → F.faults shelf.new ≡ F.faults shelf.old }
-    ensures steady_sink { O.reliable out.old ≡ true → O.faults out.new ≡ O.faults out.old }
+    ensures shelf { ShelfKeeps (genesis_name.now ∷ record_name.now ∷ []) (F.told shelf.old) (F.told shelf.new) }
+    ensures sink { SinkKeeps (O.told out.old) (O.told out.new) }
 {
     let bytes = match read_named(alloc, shelf, genesis_name, MAX_GENESIS_LEN + 1) {
         Ok(bytes) => bytes,
@@ -65,14 +65,14 @@ pub fn replay<F: Shelf, O: Sink>(
     shelf: &mut F,
     out: &mut O,
 ) -> Status
-    requires { F.opened shelf.old + 2 < 2 ^ 32 }
-    ensures answers { (told : Told) → F.told shelf.old ≡ Some told → Answers
-        (with_files (told.contents files.now.config.now) (told.contents files.now.genesis.now) (told.contents files.now.events.now))
-        (files.now.config.now ∷ files.now.genesis.now ∷ files.now.events.now ∷ []) result told (F.told shelf.new) (O.told out.old) (O.told out.new) }
-    ensures causes { HasCauses result (F.faults shelf.old) (F.faults shelf.new) (O.faults out.old) (O.faults out.new) }
+    requires { length (F.told shelf.old).files + 2 < 2 ^ 32 }
+    ensures answers { Replayed (λ contents. with_files (contents files.now.config.now) (contents files.now.genesis.now) (contents files.now.events.now))
+        (λ contents opened. with_files (contents files.now.config.now) (contents files.now.genesis.now) (taken_of 2 opened))
+        (files.now.config.now ∷ files.now.genesis.now ∷ files.now.events.now ∷ []) result (F.told shelf.old) (F.told shelf.new) (O.told out.old).taken (O.told out.new).taken }
+    ensures causes { HasCauses result (F.told shelf.old).faults (F.told shelf.new).faults (O.told out.old).faults (O.told out.new).faults }
     ensures command { result ≢ Status.Words }
-    ensures steady_shelf { (told : Told) → F.told shelf.old ≡ Some told → AllThere told.contents (files.now.config.now ∷ files.now.genesis.now ∷ files.now.events.now ∷ []) → F.reliable shelf.old ≡ true → F.faults shelf.new ≡ F.faults shelf.old }
-    ensures steady_sink { O.reliable out.old ≡ true → O.faults out.new ≡ O.faults out.old }
+    ensures shelf { ShelfKeeps (files.now.config.now ∷ files.now.genesis.now ∷ files.now.events.now ∷ []) (F.told shelf.old) (F.told shelf.new) }
+    ensures sink { SinkKeeps (O.told out.old) (O.told out.new) }
 {
     let bytes = match read_named(alloc, shelf, files.config, MAX_CONFIG_LEN + 1) {
         Ok(bytes) => bytes,

@@ -2,7 +2,7 @@
 
 ghost use Rattle.std.specs.Prelude.{◌≡◌};
 ghost use Rattle.spec_replay.specs.Ticks.{store_at, on_tick, handle_tick};
-ghost use Rattle.beacon_node.specs.Stores.{Handles};
+ghost use Rattle.beacon_node.specs.inside.Stores.{Handles};
 
 use bc_words::Refusal;
 use hash_tree::Root;

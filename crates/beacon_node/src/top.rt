@@ -1,9 +1,10 @@
 //! All that the program does.
 
-ghost use Rattle.std.specs.Prelude.{◌≡◌, ◌<◌, ◌+◌, ◌^◌, ◌↔◌, map, string_bytes, None, IfSome, true};
+ghost use Rattle.std.specs.Prelude.{◌≡◌, ◌<◌, ◌+◌, ◌^◌, ◌↔◌, length, map, string_bytes, None};
+ghost use Rattle.bc_outside.specs.Calls.{ShelfKeeps, SinkKeeps};
 ghost use Rattle.spec_replay.specs.Run.{run_of};
 ghost use Rattle.spec_replay.specs.Words.{replay_files_of, names_of};
-ghost use Rattle.beacon_node.specs.Answers.{Answers, HasCauses, AllThere};
+ghost use Rattle.beacon_node.specs.Answers.{HasCauses, Replayed, paced_run_of};
 
 use crate::replay::replay;
 use crate::status::Status;
@@ -21,25 +22,25 @@ pub fn beacon_main<F: Shelf, O: Sink>(
     shelf: &mut F,
     out: &mut O,
 ) -> Status
-    requires { F.opened shelf.old + 4 < 2 ^ 32 }
+    requires { length (F.told shelf.old).files + 4 < 2 ^ 32 }
 
-    // The status is how the run of the bytes that the names hold ends, the bytes written are its lines, and the files
-    // asked for are those that it needs, unless a fault of the outside or want of memory broke the run off.
-    ensures answers { IfSome (F.told shelf.old) (λ told. Answers
-        (run_of told.contents (map (λ word. string_bytes word) words.now))
+    // Whatever the names hold that agrees with all that the shelf handed out: the status is how the run of it ends, the
+    // bytes written are its lines, and the files asked for are those that it needs, unless a fault of the outside or want
+    // of memory broke the run off. The lines keep pace with the record, also where a file could not be read.
+    ensures answers { Replayed (λ contents. run_of contents (map (λ word. string_bytes word) words.now)) (paced_run_of (map (λ word. string_bytes word) words.now))
         (names_of (replay_files_of (map (λ word. string_bytes word) words.now)))
-        result told (F.told shelf.new) (O.told out.old) (O.told out.new)) }
+        result (F.told shelf.old) (F.told shelf.new) (O.told out.old).taken (O.told out.new).taken }
 
     // A fault of the outside is answered only where its count rose.
-    ensures causes { HasCauses result (F.faults shelf.old) (F.faults shelf.new) (O.faults out.old) (O.faults out.new) }
+    ensures causes { HasCauses result (F.told shelf.old).faults (F.told shelf.new).faults (O.told out.old).faults (O.told out.new).faults }
 
     // The words alone say whether they are a command.
     ensures command { (result ≡ Status.Words) ↔ (replay_files_of (map (λ word. string_bytes word) words.now) ≡ None) }
 
-    // Over a shelf and a sink that have no cause to fail, where all the names are there, no count rises.
-    ensures steady_shelf { IfSome (F.told shelf.old) (λ told. AllThere told.contents (names_of (replay_files_of (map (λ word. string_bytes word) words.now)))
-        → F.reliable shelf.old ≡ true → F.faults shelf.new ≡ F.faults shelf.old) }
-    ensures steady_sink { O.reliable out.old ≡ true → O.faults out.new ≡ O.faults out.old }
+    // The shelf is asked for these names at most, and the sink keeps what it must: over a shelf and a sink that have no
+    // cause to fail, where all the names are there, no count rises.
+    ensures shelf { ShelfKeeps (names_of (replay_files_of (map (λ word. string_bytes word) words.now))) (F.told shelf.old) (F.told shelf.new) }
+    ensures sink { SinkKeeps (O.told out.old) (O.told out.new) }
 {
     match replay_files(words) {
         Some(files) => replay(alloc, &files, shelf, out),

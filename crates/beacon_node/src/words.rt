@@ -2,7 +2,7 @@
 
 ghost use Rattle.std.specs.Prelude.{◌≡◌, map, string_bytes, option_map};
 ghost use Rattle.spec_replay.specs.Words.{replay_files_of};
-ghost use Rattle.beacon_node.specs.Files.{files_named};
+ghost use Rattle.beacon_node.specs.inside.Files.{files_named};
 
 /// The files of the command `replay CONFIG GENESIS RECORD`.
 #[derive(Clone, Copy)]

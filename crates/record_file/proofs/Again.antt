@@ -6,7 +6,7 @@ use Rattle.std.proofs.lemmas.Bool.Decides.{nat_tests}
 use Rattle.std.specs.Int.{w32, to_le_bytes}
 use Rattle.record_file.specs.declared.event.Event.{Event}
 use Rattle.record_file.specs.Record.{framed, payload_of, sized_of, frame_of, events_from, events_of, is_run, is_kind, longest_payload, most_events, with_event, done}
-use Rattle.record_file.specs.Written.{frame_of_event, frames_of_events, AreEvents, ReadsAgain}
+use Rattle.record_file.specs.laws.Written.{frame_of_event, frames_of_events, AreEvents, ReadsAgain}
 use Rattle.record_file.proofs.Coming.{from_ended, from_framed, nothing}
 
 not_below : (m n : ℕ) → n ≤ m → nat_lt m n ≡ false

@@ -1,19 +1,21 @@
 -- What is still to come of a record, by what was found in the buffer.
-use Rattle.std.proofs.Common.{◌⊎◌, inl, inr, ◌≡◌, ◌≤◌, ◌<◌, ℕ, zero, suc, ◌+◌, ◌-◌, true, false, List, [], ◌∷◌, ◌++◌, length, take, drop, Option, Some, None, refl, sym, ap, ◌∙◌, arith, cond, length-take}
+use Rattle.std.proofs.Common.{◌⊎◌, inl, inr, ◌≡◌, ◌≤◌, ◌<◌, ℕ, zero, suc, ◌+◌, ◌-◌, Bool, true, false, List, [], ◌∷◌, ◌++◌, length, take, drop, Option, Some, None, refl, sym, ap, ◌∙◌, arith, cond, length-take, append-nil, append_assoc}
 use Rattle.std.proofs.Math.Seq.{drop-append_seam}
 use Rattle.std.proofs.lemmas.List.{take-append-le, drop-append-le}
 use Rattle.std.proofs.lemmas.Grind.{common_steps}
-use Rattle.std.specs.Prelude.{option_map, IfSome}
 use Rattle.std.specs.Str.{bytes_eq}
 use Rattle.record_file.specs.declared.event.Event.{Event}
 use Rattle.record_file.specs.declared.fault.RecordFault.{RecordFault}
 use Rattle.record_file.specs.declared.fault.RecordFault.TheVariants.{BadMagic, TooMany}
-use Rattle.record_file.specs.declared.status.Status.{Status}
-use Rattle.record_file.specs.declared.status.Status.TheVariants.{AtMagic, AtFrame, Stopped}
+use Rattle.record_file.specs.declared.place.Place.{Place}
+use Rattle.record_file.specs.declared.place.Place.TheVariants.{AtMagic, AtFrame, Stopped}
+use Rattle.record_file.specs.declared.found.Found.{Found}
 use Rattle.record_file.specs.declared.found.Found.TheVariants as found
 use Rattle.record_file.specs.Record.{ended, faulted, framed, frame_of, events_from, events_of, most_events, magic, Events, done, fault, fault_event, with_event}
-use Rattle.record_file.specs.Found.{read_of, with_behind}
-use Rattle.record_file.specs.Frames.{with_left, events_at}
+use Rattle.record_file.specs.inside.Found.{read_of, with_behind, is_short}
+use Rattle.record_file.specs.inside.Fetched.{Shows}
+use Rattle.record_file.specs.Frames.{events_at, CanFollow}
+use Rattle.record_file.proofs.Grows.{found_whole}
 
 -- With as many events as there may be, a frame is TooMany.
 at_most : (events b : ℕ) (bytes : List ℕ) → events ≡ most_events → frame_of events (b ∷ bytes) ≡ faulted TooMany
@@ -44,37 +46,39 @@ pub from_framed : (room events : ℕ) (bytes : List ℕ) (event : Event) (rest :
 unfolding events_from
 from_framed room events bytes event rest e = rw (e, events_from)
 
--- The buffer shows the record's end.
-pub ended_given : (events : ℕ) (buffered : List ℕ) (left : Option (List ℕ)) → events ≤ most_events → IfSome (with_left buffered left) (λ all. frame_of events all ≡ with_behind (drop (length buffered) all) (read_of found.Ended buffered)) → IfSome (option_map (events_at AtFrame events) (with_left buffered left)) (λ rest. rest ≡ record { events = []; end = done })
-unfolding events_at
-ended_given events buffered None le h = tt
-ended_given events buffered (Some l) le h = from_ended (most_events - events) events (buffered ++ l) (omega arith) h
+-- The bytes that were taken stand behind those that were there.
+pub comes_as : (place : Place) (events : ℕ) (old bytes new behind : List ℕ) → new ≡ old ++ bytes → events_at place events (old ++ (bytes ++ behind)) ≡ events_at place events (new ++ behind)
+comes_as place events old bytes new behind e = ap (events_at place events) (sym (append_assoc old bytes behind) ∙ ap (λ bs. bs ++ behind) (sym e))
 
--- The buffer shows a fault.
-pub fault_given : (events : ℕ) (reason : RecordFault) (buffered : List ℕ) (left : Option (List ℕ)) → events ≤ most_events → IfSome (with_left buffered left) (λ all. frame_of events all ≡ with_behind (drop (length buffered) all) (read_of (found.Fault reason) buffered)) → IfSome (option_map (events_at AtFrame events) (with_left buffered left)) (λ rest. rest ≡ record { events = []; end = fault (fault_event events reason) reason })
-unfolding events_at
-fault_given events reason buffered None le h = tt
-fault_given events reason buffered (Some l) le h = from_faulted (most_events - events) events (buffered ++ l) reason (omega arith) h
+module _ (events : ℕ) (le : events ≤ most_events) where
+  -- The buffer shows the record's end.
+  pub ended_comes : (buffered : List ℕ) → Shows events found.Ended buffered → events_at AtFrame events (buffered ++ []) ≡ record { events = []; end = done }
+  unfolding events_at
+  ended_comes buffered shows = ap (events_from (most_events - events) events) (append-nil buffered) ∙ from_ended (most_events - events) events buffered (omega arith) shows
 
--- What comes after a fault is that fault.
-pub stopped_same : (status : Status) (events : ℕ) (reason : RecordFault) (all : Option (List ℕ)) → IfSome (option_map (events_at status events) all) (λ rest. rest ≡ record { events = []; end = fault (fault_event events reason) reason }) → option_map (events_at (Stopped reason) events) all ≡ option_map (events_at status events) all
-unfolding events_at
-stopped_same status events reason None h = refl
-stopped_same status events reason (Some bytes) h = ap Some (sym h)
+  -- The buffer shows a fault.
+  faulted_behind : (f : Found) (reason : RecordFault) (buffered behind : List ℕ) (short : Bool) → is_short f ≡ short → read_of f buffered ≡ faulted reason → CanFollow short behind → Shows events f buffered → frame_of events (buffered ++ behind) ≡ faulted reason
+  faulted_behind f reason buffered behind true is e can shows = ap (frame_of events) (ap (λ bs. buffered ++ bs) (can refl) ∙ append-nil buffered) ∙ shows ∙ e
+  faulted_behind f reason buffered behind false is e can shows = found_whole events f buffered behind is shows ∙ ap (with_behind behind) e
 
-pub stopped_given : (events : ℕ) (reason : RecordFault) (all : Option (List ℕ)) → IfSome (option_map (events_at (Stopped reason) events) all) (λ rest. rest ≡ record { events = []; end = fault (fault_event events reason) reason })
-unfolding events_at
-stopped_given events reason None = tt
-stopped_given events reason (Some bytes) = refl
+  pub fault_comes : (reason : RecordFault) (buffered behind : List ℕ) → Shows events (found.Fault reason) buffered → CanFollow (is_short (found.Fault reason)) behind → events_at AtFrame events (buffered ++ behind) ≡ record { events = []; end = fault (fault_event events reason) reason }
+  unfolding events_at
+  fault_comes reason buffered behind shows can =
+      from_faulted (most_events - events) events (buffered ++ behind) reason (omega arith) (faulted_behind (found.Fault reason) reason buffered behind (is_short (found.Fault reason)) refl refl can shows)
+
+  -- The buffer shows no event that is whole.
+  pub short_comes : (f : Found) (buffered : List ℕ) → is_short f ≡ true → Shows events f buffered → (events_at AtFrame events (buffered ++ [])).events ≡ []
+  short_comes found.Ended buffered is shows = ap (λ (e : Events). e.events) (ended_comes buffered shows)
+  short_comes (found.Fault reason) buffered is shows = ap (λ (e : Events). e.events) (fault_comes reason buffered [] shows (λ _. refl))
+  short_comes (found.Frame kind size) buffered is shows = cc
 
 -- The buffer shows a frame.
-pub frame_given : (events kind size : ℕ) (buffered : List ℕ) (left : Option (List ℕ)) → events < most_events → 5 + size ≤ length buffered → IfSome (with_left buffered left) (λ all. frame_of events all ≡ with_behind (drop (length buffered) all) (read_of (found.Frame kind size) buffered)) → option_map (events_at AtFrame events) (with_left buffered left) ≡ option_map (with_event (record { kind = kind; payload = take size (drop 5 buffered) })) (option_map (events_at AtFrame (events + 1)) (with_left (drop (5 + size) buffered) left))
+pub frame_comes : (events kind size : ℕ) (buffered behind : List ℕ) → events < most_events → Shows events (found.Frame kind size) buffered → events_at AtFrame events (buffered ++ behind) ≡ with_event (record { kind = kind; payload = take size (drop 5 buffered) }) (events_at AtFrame (events + 1) (drop (5 + size) buffered ++ behind))
 unfolding events_at
-frame_given events kind size buffered None lt le h = refl
-frame_given events kind size buffered (Some l) lt le h =
+frame_comes events kind size buffered behind lt shows =
     let room : ℕ = most_events - (events + 1) in
     let r : most_events - events ≡ suc room = omega arith in
-    ap Some (rw r (from_framed room events (buffered ++ l) _ _ (rw (drop-append_seam buffered l) at h)))
+    rw r (from_framed room events (buffered ++ behind) _ _ (found_whole events (found.Frame kind size) buffered behind refl shows))
 
 -- the record's first bytes stand in the buffer
 start_of : (n : ℕ) (buffered l : List ℕ) (other : Events) → n ≤ length buffered → cond (bytes_eq (take n (buffered ++ l)) magic) (events_from most_events 0 (drop n (buffered ++ l))) other ≡ cond (bytes_eq (take n buffered) magic) (events_from most_events 0 (drop n buffered ++ l)) other
@@ -89,42 +93,35 @@ compared m zero = inl (omega arith)
 compared zero (suc n) = inr (omega arith)
 compared (suc m) (suc n) = elim (compared m n) [ inl le ↦ inl (omega arith) | inr lt ↦ inr (omega arith) ]
 
-long_enough : (n : ℕ) (buffered : List ℕ) → bytes_eq (take n buffered) magic ≡ true → 4 ≤ length buffered
+pub long_enough : (n : ℕ) (buffered : List ℕ) → bytes_eq (take n buffered) magic ≡ true → 4 ≤ length buffered
 long_enough n buffered e = let k = length-take n buffered in grind (arith, common_steps)
 
+bool_of : (b : Bool) → (b ≡ true → ⊥) → b ≡ false
+bool_of true h = absurd (h refl)
+bool_of false h = refl
+
+too_short : (buffered : List ℕ) → length buffered < 4 → bytes_eq (take 4 buffered) magic ≡ false
+too_short buffered lt = bool_of (bytes_eq (take 4 buffered) magic) (λ e. let k = long_enough 4 buffered e in omega arith)
+
 -- The buffer shows that the record begins with the magic.
-pub magic_given : (buffered : List ℕ) (left : Option (List ℕ)) → bytes_eq (take 4 buffered) magic ≡ true → option_map (events_at AtFrame 0) (with_left (drop 4 buffered) left) ≡ option_map (events_at AtMagic 0) (with_left buffered left)
+pub magic_comes : (buffered behind : List ℕ) → bytes_eq (take 4 buffered) magic ≡ true → events_at AtMagic 0 (buffered ++ behind) ≡ events_at AtFrame 0 (drop 4 buffered ++ behind)
 unfolding events_at events_of
-magic_given buffered None e = refl
-magic_given buffered (Some l) e = ap Some (sym (starts buffered l (long_enough 4 buffered e) ∙ ap (λ b. cond b (events_from most_events 0 (drop 4 buffered ++ l)) (record { events = []; end = fault 0 BadMagic })) e))
+magic_comes buffered behind e = starts buffered behind (long_enough 4 buffered e) ∙ ap (λ b. cond b (events_from most_events 0 (drop 4 buffered ++ behind)) (record { events = []; end = fault 0 BadMagic })) e
 
 -- The buffer shows that it doesn't.
-pub no_magic_given : (buffered : List ℕ) (left : Option (List ℕ)) (events : ℕ) → (length buffered < 4 → IfSome (with_left buffered left) (λ all. all ≡ buffered)) → bytes_eq (take 4 buffered) magic ≡ false → IfSome (option_map (events_at AtMagic events) (with_left buffered left)) (λ rest. rest ≡ record { events = []; end = fault 0 BadMagic })
-unfolding events_at events_of
-no_magic_given buffered None events short e = tt
-no_magic_given buffered (Some l) events short e =
+no_magic : (bytes : List ℕ) → bytes_eq (take 4 bytes) magic ≡ false → events_of bytes ≡ record { events = []; end = fault 0 BadMagic }
+unfolding events_of
+no_magic bytes e = ap (λ b. cond b (events_from most_events 0 (drop 4 bytes)) (record { events = []; end = fault 0 BadMagic })) e
+
+pub no_magic_comes : (events : ℕ) (met : Bool) (buffered behind : List ℕ) → (length buffered < 4 → met ≡ true) → bytes_eq (take 4 buffered) magic ≡ false → CanFollow met behind → events_at AtMagic events (buffered ++ behind) ≡ record { events = []; end = fault 0 BadMagic }
+unfolding events_at
+no_magic_comes events met buffered behind short e can =
     elim (compared (length buffered) 4) [
-      | inl le ↦ starts buffered l le ∙ ap (λ b. cond b (events_from most_events 0 (drop 4 buffered ++ l)) (record { events = []; end = fault 0 BadMagic })) e
-      | inr lt ↦ ap events_of (short lt) ∙ ap (λ b. cond b (events_from most_events 0 (drop 4 buffered)) (record { events = []; end = fault 0 BadMagic })) e
+      | inl le ↦ starts buffered behind le ∙ ap (λ b. cond b (events_from most_events 0 (drop 4 buffered ++ behind)) (record { events = []; end = fault 0 BadMagic })) e
+      | inr lt ↦ ap (λ bs. events_of (buffered ++ bs)) (can (short lt)) ∙ ap events_of (append-nil buffered) ∙ no_magic buffered e
     ]
 
--- The calls of a reader: old is what was buffered before bytes were taken, and new what is buffered then.
-module _ (place : Status) (events : ℕ) (old new : List ℕ) (left left_then : Option (List ℕ)) (same : with_left new left_then ≡ with_left old left) where
-  pub magic_moves : (rest : List ℕ) → place ≡ AtMagic → events ≡ 0 → bytes_eq (take 4 new) magic ≡ true → rest ≡ drop 4 new → option_map (events_at AtFrame events) (with_left rest left_then) ≡ option_map (events_at place events) (with_left old left)
-  magic_moves rest p e m r = rw (p, e, r, ← same) (magic_given new left_then m)
-
-  pub no_magic_moves : place ≡ AtMagic → bytes_eq (take 4 new) magic ≡ false → (length new < 4 → IfSome (with_left new left_then) (λ all. all ≡ new)) → (option_map (events_at (Stopped BadMagic) events) (with_left new left_then) ≡ option_map (events_at place events) (with_left old left)) × IfSome (option_map (events_at place events) (with_left old left)) (λ rest. rest ≡ record { events = []; end = fault 0 BadMagic })
-  no_magic_moves p m short =
-      let h = no_magic_given new left_then events short m in
-      rw (p, ← same) (stopped_same AtMagic events BadMagic (with_left new left_then) h, h)
-
-  pub ended_moves : place ≡ AtFrame → events ≤ most_events → IfSome (with_left new left_then) (λ all. frame_of events all ≡ with_behind (drop (length new) all) (read_of found.Ended new)) → (option_map (events_at place events) (with_left new left_then) ≡ option_map (events_at place events) (with_left old left)) × IfSome (option_map (events_at place events) (with_left old left)) (λ rest. rest ≡ record { events = []; end = done })
-  ended_moves p le h = rw (p, ← same) (refl, ended_given events new left_then le h)
-
-  pub fault_moves : (reason : RecordFault) → place ≡ AtFrame → events ≤ most_events → IfSome (with_left new left_then) (λ all. frame_of events all ≡ with_behind (drop (length new) all) (read_of (found.Fault reason) new)) → (option_map (events_at (Stopped reason) events) (with_left new left_then) ≡ option_map (events_at place events) (with_left old left)) × IfSome (option_map (events_at place events) (with_left old left)) (λ rest. rest ≡ record { events = []; end = fault (fault_event events reason) reason })
-  fault_moves reason p le h =
-      let k = fault_given events reason new left_then le h in
-      rw (p, ← same) (stopped_same AtFrame events reason (with_left new left_then) k, k)
-
-  pub frame_moves : (kind size : ℕ) (payload rest : List ℕ) → place ≡ AtFrame → events < most_events → 5 + size ≤ length new → payload ≡ take size (drop 5 new) → rest ≡ drop (5 + size) new → IfSome (with_left new left_then) (λ all. frame_of events all ≡ with_behind (drop (length new) all) (read_of (found.Frame kind size) new)) → option_map (events_at place events) (with_left old left) ≡ option_map (with_event (record { kind = kind; payload = payload })) (option_map (events_at place (events + 1)) (with_left rest left_then))
-  frame_moves kind size payload rest p lt le q r h = rw (p, ← same, q, r) (frame_given events kind size new left_then lt le h)
+-- The buffer is too short to show it.
+pub short_magic_comes : (events : ℕ) (buffered : List ℕ) → length buffered < 4 → (events_at AtMagic events (buffered ++ [])).events ≡ []
+unfolding events_at
+short_magic_comes events buffered lt = ap (λ (e : Events). e.events) (ap events_of (append-nil buffered) ∙ no_magic buffered (too_short buffered lt))

@@ -5,14 +5,13 @@ use Rattle.std.proofs.lemmas.List.{take-append-le, drop-append-le}
 use Rattle.std.proofs.Math.Seq.{drop-append_seam, drop-length}
 use Rattle.std.specs.Prelude.{IfSome}
 use Rattle.std.specs.Int.{w32, from_le_bytes}
-use Rattle.record_file.specs.Frames.{with_left}
 use Rattle.record_file.specs.Record.{is_kind, is_run, most_events}
 use Rattle.std.proofs.lemmas.Bool.Decides.{nat_tests}
 use Rattle.record_file.specs.declared.fault.RecordFault.TheVariants.{BadMagic, TooMany, BadKind, Torn, TooLong}
 use Rattle.record_file.specs.declared.found.Found.{Found}
 use Rattle.record_file.specs.declared.found.Found.TheVariants as found
 use Rattle.record_file.specs.Record.{FrameRead, ended, faulted, framed, payload_of, sized_of, frame_of, longest_payload}
-use Rattle.record_file.specs.Found.{read_of, with_behind, is_short}
+use Rattle.record_file.specs.inside.Found.{read_of, with_behind, is_short}
 
 -- whether more bytes may change what was read
 may_grow : FrameRead → Bool
@@ -79,18 +78,6 @@ read_grows (found.Fault (BadKind k)) bytes h = refl
 read_grows (found.Fault (TooLong n)) bytes h = refl
 read_grows (found.Frame kind size) bytes h = refl
 
--- A frame or a fault that was found in the buffer stands there, whatever is left in the file.
-pub found_whole : (events : ℕ) (f : Found) (buffered : List ℕ) (left : Option (List ℕ)) → is_short f ≡ false → frame_of events buffered ≡ read_of f buffered → IfSome (with_left buffered left) (λ all. frame_of events all ≡ with_behind (drop (length buffered) all) (read_of f buffered))
-found_whole events f buffered None s e = tt
-found_whole events f buffered (Some l) s e =
-    rw (drop-append_seam buffered l) (frame_grows events buffered l (rw e (read_grows f buffered s)) ∙ ap (with_behind l) e)
-
-behind_nothing : (r : FrameRead) → with_behind [] r ≡ r
-behind_nothing ended = refl
-behind_nothing (faulted reason) = refl
-behind_nothing (framed event rest) = ap (framed event) (append-nil rest)
-
--- What was found where nothing is left in the file.
-pub found_last : (events : ℕ) (f : Found) (buffered : List ℕ) (all : Option (List ℕ)) → IfSome all (λ x. x ≡ buffered) → frame_of events buffered ≡ read_of f buffered → IfSome all (λ x. frame_of events x ≡ with_behind (drop (length buffered) x) (read_of f buffered))
-found_last events f buffered None h e = tt
-found_last events f buffered (Some x) h e = rw (h, drop-length buffered) (e ∙ sym (behind_nothing (read_of f buffered)))
+-- A frame or a fault that was found in the buffer stands there, whatever is behind it.
+pub found_whole : (events : ℕ) (f : Found) (buffered behind : List ℕ) → is_short f ≡ false → frame_of events buffered ≡ read_of f buffered → frame_of events (buffered ++ behind) ≡ with_behind behind (read_of f buffered)
+found_whole events f buffered behind s e = frame_grows events buffered behind (rw e (read_grows f buffered s)) ∙ ap (with_behind behind) e

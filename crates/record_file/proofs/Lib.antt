@@ -1,5 +1,6 @@
 pub mod Parts
-pub mod Unread
 pub mod Grows
 pub mod Coming
 pub mod Again
+pub mod Fetching
+pub mod Nexting

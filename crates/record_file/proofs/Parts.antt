@@ -1,9 +1,20 @@
 -- Parts of lists that were cut and joined.
-use Rattle.std.proofs.Common.{◌≡◌, ◌≤◌, ℕ, ◌+◌, ◌-◌, List, [], ◌++◌, length, take, drop, arith, append_assoc, length-take}
+use Rattle.std.proofs.Common.{◌<◌, Bool, refl, ◌==◌, ◌&&◌, true, false, ◌∷◌, ◌≡◌, ◌≤◌, ℕ, ◌+◌, ◌-◌, List, [], ◌++◌, length, take, drop, arith, append_assoc, length-take}
 use Rattle.std.proofs.Math.Seq.{drop-append_seam}
 use Rattle.std.proofs.Math.ListN.{drop_of_length-le}
 use Rattle.std.proofs.lemmas.List.{drop-take}
 use Rattle.std.proofs.lemmas.Grind.{common_steps}
+use Rattle.bc_outside.specs.Told.{ShelfTold}
+use Rattle.bc_outside.specs.Calls.{Takes, meets_end}
+
+and_true : (a : Bool) → (a && true) ≡ a
+and_true true = refl
+and_true false = refl
+
+-- a read into a piece with room meets the end exactly where it gives nothing
+pub takes_met : (file : ℕ) (bytes piece : List ℕ) (n : ℕ) (s t : ShelfTold) → Takes file bytes (meets_end piece n) s t → 0 < length piece → Takes file bytes (n == 0) s t
+takes_met file bytes [] n s t h some = absurd (omega arith)
+takes_met file bytes (b ∷ piece) n s t h some = rw (and_true (n == 0)) at h
 
 -- the first m of a list, and n of these
 first_of : (n m : ℕ) (into more : List ℕ) → n ≤ length into → n ≤ m → take n (take m (into ++ more)) ≡ take n into

@@ -1,5 +1,5 @@
 pub mod Record
 pub mod Frames
 pub mod Stops
-pub mod Found
-pub mod Written
+pub mod inside
+pub mod laws

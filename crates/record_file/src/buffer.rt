@@ -1,9 +1,8 @@
 //! The bytes that were taken of a record's file and not read yet.
 
-ghost use Rattle.std.specs.Prelude.{◌≡◌, ◌<◌, ◌≤◌, ◌+◌, ◌^◌, ℕ, List, Bool, true, false, [], length, take, drop, Option, IfSome, IfOk, OnErr};
-ghost use Rattle.bc_outside.specs.Told.{left_of};
-ghost use Rattle.bc_outside.specs.Calls.{HasCause, Takes, OnlyTakes};
-ghost use Rattle.record_file.specs.Frames.{with_left};
+ghost use Rattle.std.specs.Prelude.{◌≡◌, ◌==◌, ◌<◌, ◌≤◌, ◌+◌, ◌^◌, ◌++◌, ℕ, List, [], length, take, drop, IfOk, OnErr};
+ghost use Rattle.bc_outside.specs.Calls.{HasCause, ShelfKeeps, Stays, Takes, meets_end};
+ghost use Rattle.record_file.specs.inside.Fetched.{FetchesOnce};
 
 use bc_outside::{Shelf, Trouble};
 use std::alloc::Global;
@@ -16,18 +15,16 @@ fn read_behind<F: Shelf>(
     bytes: &mut Vec<u8>,
     size: usize,
 ) -> Result<usize, Trouble>
-    requires opened { file < F.opened shelf.old }
+    requires opened { file < length (F.told shelf.old).files }
     requires some { 0 < size }
     requires small { size < 2 ^ 32 }
-    ensures front { take (length bytes.old.items) bytes.new.items ≡ bytes.old.items }
-    ensures taken { Takes file (drop (length bytes.old.items) bytes.new.items) (F.told shelf.old) (F.told shelf.new) }
     ensures count { IfOk result (λ n. length bytes.new.items ≡ length bytes.old.items + n) }
-    ensures end { IfOk result (λ n. n ≡ 0 → IfSome (left_of (F.told shelf.old) file) (λ left. left ≡ [])) }
+    ensures front { IfOk result (λ n. take (length bytes.old.items) bytes.new.items ≡ bytes.old.items) }
+    ensures taken { IfOk result (λ n. Takes file (drop (length bytes.old.items) bytes.new.items) (n == 0) (F.told shelf.old) (F.told shelf.new)) }
     ensures err { OnErr result (bytes.new.items ≡ bytes.old.items) }
-    ensures opened { F.opened shelf.new ≡ F.opened shelf.old }
-    ensures faults { HasCause result (F.faults shelf.old) (F.faults shelf.new) }
-    ensures reliable { F.reliable shelf.new ≡ F.reliable shelf.old }
-    ensures steady { F.reliable shelf.old ≡ true → F.faults shelf.new ≡ F.faults shelf.old }
+    ensures none { OnErr result (Stays (F.told shelf.old) (F.told shelf.new)) }
+    ensures causes { HasCause result (F.told shelf.old).faults (F.told shelf.new).faults }
+    ensures keeps { ShelfKeeps [] (F.told shelf.old) (F.told shelf.new) }
 {
     let len = bytes.len();
     bytes.resize(len + size, 0)?;
@@ -91,16 +88,10 @@ impl Buffer {
     /// Takes more bytes of the file, and answers whether any came. None come at its end. After an error nothing was
     /// taken.
     pub fn more<F: Shelf>(&mut self, shelf: &mut F, file: u32) -> Result<bool, Trouble>
-        requires { file < F.opened shelf.old }
-        ensures unread { with_left self.new (left_of (F.told shelf.new) file) ≡ with_left self.old (left_of (F.told shelf.old) file) }
-        ensures came { IfOk result (λ came. came ≡ true → length self.old < length self.new) }
-        ensures ended { IfOk result (λ came. came ≡ false → (self.new ≡ self.old) × IfSome (with_left self.new (left_of (F.told shelf.new) file)) (λ all. all ≡ self.new)) }
-        ensures err { OnErr result (self.new ≡ self.old) }
-        ensures taken { OnlyTakes file (F.told shelf.old) (F.told shelf.new) }
-        ensures opened { F.opened shelf.new ≡ F.opened shelf.old }
-        ensures faults { HasCause result (F.faults shelf.old) (F.faults shelf.new) }
-        ensures reliable { F.reliable shelf.new ≡ F.reliable shelf.old }
-        ensures steady { F.reliable shelf.old ≡ true → F.faults shelf.new ≡ F.faults shelf.old }
+        requires { file < length (F.told shelf.old).files }
+        ensures fetches { FetchesOnce result file self.old self.new (F.told shelf.old) (F.told shelf.new) }
+        ensures causes { HasCause result (F.told shelf.old).faults (F.told shelf.new).faults }
+        ensures keeps { ShelfKeeps [] (F.told shelf.old) (F.told shelf.new) }
     {
         drop_front(&mut self.bytes, self.start);
         self.start = 0;

@@ -2,7 +2,7 @@
 
 ghost use Rattle.std.specs.Prelude.{◌≡◌, ◌≤◌, ◌<◌, ◌+◌, ℕ, ◌∷◌, length, true, IsTrue};
 ghost use Rattle.record_file.specs.Record.{frame_of, sized_of, is_kind, is_run, most_events, longest_payload};
-ghost use Rattle.record_file.specs.Found.{read_of, IsWhole, is_short, is_frame};
+ghost use Rattle.record_file.specs.inside.Found.{read_of, IsWhole, is_short, is_frame};
 
 use crate::RecordFault;
 

@@ -1,18 +1,19 @@
 //! The frames of a record, one after the other.
 
-ghost use Rattle.std.specs.Prelude.{◌≡◌, ◌<◌, List, take, Bool, ◌≤◌, ℕ, true, Ok, Err, IfOk, OnOk, OnErr, IfErr};
-ghost use Rattle.bc_outside.specs.Calls.{HasCause, OnlyTakes};
-ghost use Rattle.record_file.specs.Record.{fault_event, magic};
+ghost use Rattle.std.specs.Prelude.{◌≡◌, ◌<◌, [], take, length, Err};
 ghost use Rattle.std.specs.Str.{bytes_eq};
+ghost use Rattle.bc_outside.specs.Calls.{ShelfKeeps};
+ghost use Rattle.record_file.specs.Record.{fault_event, magic};
 ghost use Rattle.record_file.specs.Stops.{StopsBy};
 ghost use Rattle.record_file.specs.declared.fault.FrameStop.TheVariants.{Fault};
-ghost use Rattle.record_file.specs.Frames.{unread_file, to_come, Gives, Moves, Begins, IsPlace, IfStopped};
-ghost use Rattle.record_file.specs.declared.status.Status.TheVariants.{AtMagic, AtFrame};
+ghost use Rattle.record_file.specs.Frames.{unread_file, Nexts, Moves, IsPlace, IfStopped};
+ghost use Rattle.record_file.specs.inside.Fetched.{Begins};
+ghost use Rattle.record_file.specs.declared.place.Place.TheVariants.{AtMagic, AtFrame};
 
 use crate::buffer::Buffer;
 use crate::fill::{fill, find_frame};
 use crate::found::Found;
-use crate::{Event, FrameStop, Payload, RecordFault, Status};
+use crate::{Event, FrameStop, Payload, Place, RecordFault};
 use bc_outside::Shelf;
 use std::alloc::Global;
 use std::marker::Model;
@@ -24,7 +25,7 @@ pub struct Frames {
     file: u32,
     // How many events were read.
     events: u32,
-    status: Status,
+    place: Place,
     buffer: Buffer,
 }
 
@@ -33,9 +34,9 @@ impl Model for Frames {
 
     ghost Value = { Reading };
 
-    ghost view = { λ frames. record { file = frames.file; events = frames.events; status = frames.status; buffered = frames.buffer } };
+    ghost view = { λ frames. record { file = frames.file; events = frames.events; place = frames.place; buffered = frames.buffer } };
 
-    ghost invariant = { λ frames. IsPlace frames.status frames.events };
+    ghost invariant = { λ frames. IsPlace frames.place frames.events };
 }
 
 impl Frames {
@@ -47,7 +48,7 @@ impl Frames {
             alloc,
             file,
             events: 0,
-            status: Status::AtMagic,
+            place: Place::AtMagic,
             buffer: Buffer::new(alloc),
         }
     }
@@ -55,7 +56,7 @@ impl Frames {
     /// How many events were read so far.
     pub fn events(&self) -> u32
         ensures count { result ≡ self.now.events }
-        ensures place { IsPlace self.now.status self.now.events }
+        ensures place { IsPlace self.now.place self.now.events }
     {
         self.events
     }
@@ -73,43 +74,37 @@ impl Frames {
 
     // Reads the record's first bytes, which have to be the magic.
     fn read_magic<F: Shelf>(&mut self, shelf: &mut F) -> Result<(), FrameStop>
-        requires opened { self.old.file < F.opened shelf.old }
-        requires at { self.old.status ≡ AtMagic }
-        ensures begins { Begins result self.old self.new (to_come self.old (F.told shelf.old)) (to_come self.new (F.told shelf.new)) }
+        requires opened { self.old.file < length (F.told shelf.old).files }
+        requires at { self.old.place ≡ AtMagic }
+        ensures begins { Begins result self.old self.new (F.told shelf.old) (F.told shelf.new) }
         ensures file { self.new.file ≡ self.old.file }
-        ensures taken { OnlyTakes self.old.file (F.told shelf.old) (F.told shelf.new) }
-        ensures opened { F.opened shelf.new ≡ F.opened shelf.old }
-        ensures faults { StopsBy result (F.faults shelf.old) (F.faults shelf.new) }
-        ensures reliable { F.reliable shelf.new ≡ F.reliable shelf.old }
-        ensures steady { F.reliable shelf.old ≡ true → F.faults shelf.new ≡ F.faults shelf.old }
+        ensures causes { StopsBy result (F.told shelf.old).faults (F.told shelf.new).faults }
+        ensures keeps { ShelfKeeps [] (F.told shelf.old) (F.told shelf.new) }
     {
         fill(&mut self.buffer, shelf, self.file, 4)?;
         if !has_magic(self.buffer.as_slice()) {
-            self.status = Status::Stopped(RecordFault::BadMagic);
+            self.place = Place::Stopped(RecordFault::BadMagic);
             return Err(FrameStop::Fault(RecordFault::BadMagic));
         }
         self.buffer.read(4);
-        self.status = Status::AtFrame;
+        self.place = Place::AtFrame;
         Ok(())
     }
 
     // Reads the next frame.
     fn read_frame<F: Shelf>(&mut self, shelf: &mut F) -> Result<Option<Event>, FrameStop>
-        requires opened { self.old.file < F.opened shelf.old }
-        requires at { self.old.status ≡ AtFrame }
-        ensures gives { Gives result self.old.events (to_come self.old (F.told shelf.old)) (to_come self.new (F.told shelf.new)) }
+        requires opened { self.old.file < length (F.told shelf.old).files }
+        requires at { self.old.place ≡ AtFrame }
+        ensures nexts { Nexts result self.old self.new (F.told shelf.old) (F.told shelf.new) }
         ensures moves { Moves result self.old self.new }
         ensures file { self.new.file ≡ self.old.file }
-        ensures taken { OnlyTakes self.old.file (F.told shelf.old) (F.told shelf.new) }
-        ensures opened { F.opened shelf.new ≡ F.opened shelf.old }
-        ensures faults { StopsBy result (F.faults shelf.old) (F.faults shelf.new) }
-        ensures reliable { F.reliable shelf.new ≡ F.reliable shelf.old }
-        ensures steady { F.reliable shelf.old ≡ true → F.faults shelf.new ≡ F.faults shelf.old }
+        ensures causes { StopsBy result (F.told shelf.old).faults (F.told shelf.new).faults }
+        ensures keeps { ShelfKeeps [] (F.told shelf.old) (F.told shelf.new) }
     {
         match find_frame(&mut self.buffer, shelf, self.file, self.events)? {
             Found::Ended => Ok(None),
             Found::Fault(fault) => {
-                self.status = Status::Stopped(fault);
+                self.place = Place::Stopped(fault);
                 Err(FrameStop::Fault(fault))
             }
             Found::Frame(kind, size) => {
@@ -128,24 +123,21 @@ impl Frames {
     /// The next event, or None exactly at the record's end. After a fault each later call answers it again and reads
     /// nothing. Where the shelf fails or memory runs out, the bytes that were taken are kept, and a later call goes on.
     pub fn next<F: Shelf>(&mut self, shelf: &mut F) -> Result<Option<Event>, FrameStop>
-        requires { self.old.file < F.opened shelf.old }
-        ensures gives { Gives result self.old.events (to_come self.old (F.told shelf.old)) (to_come self.new (F.told shelf.new)) }
+        requires { self.old.file < length (F.told shelf.old).files }
+        ensures nexts { Nexts result self.old self.new (F.told shelf.old) (F.told shelf.new) }
         ensures moves { Moves result self.old self.new }
-        ensures stopped { IfStopped self.old.status (λ reason. (result ≡ Err (Fault reason)) × (self.new ≡ self.old) × (shelf.new ≡ shelf.old)) }
+        ensures stopped { IfStopped self.old.place (λ reason. (result ≡ Err (Fault reason)) × (self.new ≡ self.old) × (shelf.new ≡ shelf.old)) }
         ensures file { self.new.file ≡ self.old.file }
-        ensures taken { OnlyTakes self.old.file (F.told shelf.old) (F.told shelf.new) }
-        ensures opened { F.opened shelf.new ≡ F.opened shelf.old }
-        ensures faults { StopsBy result (F.faults shelf.old) (F.faults shelf.new) }
-        ensures reliable { F.reliable shelf.new ≡ F.reliable shelf.old }
-        ensures steady { F.reliable shelf.old ≡ true → F.faults shelf.new ≡ F.faults shelf.old }
+        ensures causes { StopsBy result (F.told shelf.old).faults (F.told shelf.new).faults }
+        ensures keeps { ShelfKeeps [] (F.told shelf.old) (F.told shelf.new) }
     {
-        match self.status {
-            Status::Stopped(fault) => Err(FrameStop::Fault(fault)),
-            Status::AtMagic => {
+        match self.place {
+            Place::Stopped(fault) => Err(FrameStop::Fault(fault)),
+            Place::AtMagic => {
                 self.read_magic(shelf)?;
                 self.read_frame(shelf)
             }
-            Status::AtFrame => self.read_frame(shelf),
+            Place::AtFrame => self.read_frame(shelf),
         }
     }
 }

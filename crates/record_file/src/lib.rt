@@ -10,7 +10,7 @@ mod fill;
 mod found;
 mod frames;
 mod law;
-mod status;
+mod place;
 #[cfg(test)]
 mod tests;
 
@@ -18,4 +18,4 @@ pub use event::{Event, Payload};
 pub use fault::{FrameStop, RecordFault};
 pub use frames::Frames;
 pub use law::written_is_read_again;
-pub use status::Status;
+pub use place::Place;

@@ -15,13 +15,13 @@ use Rattle.spec_replay.specs.Ticks.{Store, store_at, store_after, handle_tick}
 use Rattle.spec_replay.specs.Words.{ReplayFiles, replay_files_of}
 
 -- How a run ends: the record was read to its end; the words are no command; or the first fault of the configuration,
--- of the genesis state, or of the record, with its event.
+-- of the genesis state, or of a record, with which record it is and its event. Records count from 0.
 pub data End : Type 0 where
   done : End
   no_command : End
   bad_config : ConfigFault → End
   bad_genesis : GenesisFault → End
-  bad_record : ℕ → RecordFault → End
+  bad_record : ℕ → ℕ → RecordFault → End
 
 -- What a run writes, how it ends, and how many of its files it asks for, in their order. A file that it asks for and
 -- that isn't there leaves it no end.
@@ -30,7 +30,7 @@ pub record Run : Type 0 where
   pub end : Option End
   pub files : ℕ
 
--- the run is over before a further file is asked for
+-- the run is over before a further line is written and a further file is asked for
 abbrev pub over : End → Run
 over end = record { lines = []; end = Some end; files = 0 }
 
@@ -42,21 +42,26 @@ missing = record { lines = []; end = None; files = 1 }
 abbrev pub after_file : Run → Run
 after_file run = record { lines = run.lines; end = run.end; files = run.files + 1 }
 
--- the lines of the events, the first of which has this number: the store handles each in turn
-unfoldable pub lines_of : ℕ → Store → List Event → List ℕ
-lines_of number store [] = []
-lines_of number store (event ∷ events) =
-    tick_line number (handle_tick store event.payload) (store_after store (handle_tick store event.payload))
-    ++ lines_of (number + 1) (store_after store (handle_tick store event.payload)) events
+-- lines are written, and then the run goes on
+abbrev pub after_lines : List ℕ → Run → Run
+after_lines lines run = record { lines = lines ++ run.lines; end = run.end; files = run.files }
 
--- how the run ends where the record ends so
-abbrev pub record_end : record_file.End → End
-record_end record_file.done = done
-record_end (record_file.fault event reason) = bad_record event reason
+-- The events in turn, the first of which has this number: the store handles each, and its line is written. Behind the
+-- last the run ends so.
+unfoldable pub replay_events : ℕ → Store → List Event → End → Run
+replay_events number store [] end = over end
+replay_events number store (event ∷ events) end =
+    after_lines (tick_line number (handle_tick store event.payload) (store_after store (handle_tick store event.payload)))
+    (replay_events (number + 1) (store_after store (handle_tick store event.payload)) events end)
 
--- the events that are to come, the first of which has this number
+-- how the run ends where this record ends so
+abbrev pub record_end : ℕ → record_file.End → End
+record_end which record_file.done = done
+record_end which (record_file.fault event reason) = bad_record which event reason
+
+-- the events of the only record that are to come, the first of which has this number
 abbrev pub with_events : ℕ → Store → Events → Run
-with_events number store rest = record { lines = lines_of number store rest.events; end = Some (record_end rest.end); files = 0 }
+with_events number store rest = replay_events number store rest.events (record_end 0 rest.end)
 
 -- the record, if it is there, on the store at genesis
 unfoldable pub with_record : Store → Option (List ℕ) → Run

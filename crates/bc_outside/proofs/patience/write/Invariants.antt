@@ -1,9 +1,10 @@
-use Rattle.std.proofs.Common.{◌≡◌, ◌≤◌, ◌⊎◌}
-use Rattle.bc_outside.specs.Calls.{Rose}
+use Rattle.std.proofs.Common.{◌≡◌}
+use Rattle.std.specs.Io.KnownBytes.{Keeps}
+use Rattle.bc_outside.specs.inside.Tries.{interrupted_by}
 use Rattle.bc_outside.proofs.patience.write.Given as goal
 
 abbrev pub invariant-loop : goal.invariant-loop
 invariant-loop g l = record {
-  later : l.initial.faults ≤ l.faults;
-  rose : (l.counter ≡ 0) ⊎ Rose l.initial.faults l.faults;
+  tried : l.faults ≡ interrupted_by l.counter l.initial.faults;
+  kept : Keeps (g.W.Write.contents l.initial.writer) (g.W.Write.contents l.writer);
 }

@@ -1,12 +1,14 @@
-use Rattle.std.proofs.Common.{ap, take, take_all, ◌-◌, arith, rules, length, length-drop, ℕ}
-use Rattle.bc_outside.proofs.Wrote.{wrote_more}
+use Rattle.std.proofs.Common.{ℕ, ◌-◌, ap, arith, length, length-drop, take, take_all}
+use Rattle.bc_outside.proofs.Keeping.{sink_keeps_then}
+use Rattle.bc_outside.proofs.Taking.{wrote_more}
 use Rattle.bc_outside.proofs.whole.write_all.Goals as goal
 
 pub loop-written-preserved : goal.loop-written-preserved
 loop-written-preserved g c = record {
   within = omega (arith, length-drop {A = ℕ}, c.in_ok-written.ensures.writes.within);
-  told = wrote_more c.args.bytes.now _ c.loop-written.written c.in_ok-written.field-0 (g.O.Sink.told c.args.sink.now) (g.O.Sink.told c.loop-written.sink) (g.O.Sink.told c.write.new.self) (ap (take c.in_ok-written.field-0) (take_all (length c.args.bytes.now - c.loop-written.written) _ (omega (arith, length-drop {A = ℕ})))) c.loop-written.invariant.told c.in_ok-written.ensures.writes.told_as;
-  faults = omega (arith, c.in_ok-written.ensures.faults);
-  reliable = search rules;
-  steady = grind arith;
+  told = wrote_more c.args.bytes.now _ _ _ _ c.loop-written.written c.in_ok-written.field-0 (ap (take c.in_ok-written.field-0) (take_all (length c.args.bytes.now - c.loop-written.written) _ (omega (arith, length-drop {A = ℕ})))) c.loop-written.invariant.told c.in_ok-written.ensures.writes.taken;
+  keeps = sink_keeps_then c.loop-written.invariant.keeps c.in_ok-written.ensures.keeps;
 }
+
+pub returns-in_err-written-clause-keeps : goal.returns-in_err-written-clause-keeps
+returns-in_err-written-clause-keeps g c = sink_keeps_then c.loop-written.invariant.keeps c.in_err-written.ensures.keeps

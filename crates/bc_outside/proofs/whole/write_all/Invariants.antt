@@ -1,14 +1,12 @@
-use Rattle.std.proofs.Common.{◌≡◌, ◌≤◌, ◌-◌, ◌++◌, true, length, take}
-use Rattle.std.specs.Prelude.{option_map}
+use Rattle.std.proofs.Common.{◌≡◌, ◌≤◌, ◌-◌, ◌++◌, length, take}
+use Rattle.bc_outside.specs.Calls.{SinkKeeps}
 use Rattle.bc_outside.proofs.whole.write_all.Given as goal
 
 abbrev pub invariant-loop-written : goal.invariant-loop-written
 invariant-loop-written g l = record {
   within : l.written ≤ length l.bytes;
-  told : g.O.Sink.told l.sink ≡ option_map (λ old. old ++ take l.written l.bytes) (g.O.Sink.told l.initial.sink);
-  faults : g.O.Sink.faults l.initial.sink ≤ g.O.Sink.faults l.sink;
-  reliable : g.O.Sink.reliable l.sink ≡ g.O.Sink.reliable l.initial.sink;
-  steady : g.O.Sink.reliable l.initial.sink ≡ true → g.O.Sink.faults l.sink ≡ g.O.Sink.faults l.initial.sink;
+  told : (g.O.Sink.told l.sink).taken ≡ (g.O.Sink.told l.initial.sink).taken ++ take l.written l.bytes;
+  keeps : SinkKeeps (g.O.Sink.told l.initial.sink) (g.O.Sink.told l.sink);
 }
 
 abbrev pub decreases-loop-written : goal.decreases-loop-written

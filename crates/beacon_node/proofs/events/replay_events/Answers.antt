@@ -1,35 +1,35 @@
 -- One event more, or the run is over.
-use Rattle.std.proofs.Common.{rules}
-use Rattle.beacon_node.proofs.Progresses.{no_progress, progress_then, progress_answers}
+use Rattle.std.proofs.Common.{[], rules}
+use Rattle.bc_outside.proofs.Keeping.{keeps_none, keeps_then, sink_keeps_none, sink_keeps_then}
+use Rattle.bc_outside.proofs.Keeping.{takes_length}
+use Rattle.beacon_node.proofs.OneByOne.{no_progress, progress_then, over_then, over_command}
 use Rattle.beacon_node.proofs.events.replay_events.Goals as goal
 
 pub events-init : goal.events-init
 events-init g c = record {
-  file = search rules;
-  opened = search rules;
-  shelf_count = search rules;
-  sink_count = search rules;
-  shelf_reliable = search rules;
-  sink_reliable = search rules;
-  shelf_steady = search rules;
-  sink_steady = search rules;
-  progress = λ told rest is coming. no_progress _ _ rest told _ _ is coming;
+  progress = no_progress c.args.store.now c.args.frames.now (g.F.Shelf.told c.args.shelf.now) (g.O.Sink.told c.args.out.now).taken;
+  shelf = keeps_none (g.F.Shelf.told c.args.shelf.now);
+  sink = sink_keeps_none (g.O.Sink.told c.args.out.now);
 }
 
-pub events-preserved : goal.events-preserved
-events-preserved g c =
-    record {
-      file = search rules;
-      opened = search rules;
-      shelf_count = search rules;
-      sink_count = search rules;
-      shelf_reliable = search rules;
-      sink_reliable = search rules;
-      shelf_steady = search rules;
-      sink_steady = search rules;
-      progress = λ told rest is coming. progress_then _ _ rest told _ _ _ _ _ (c.events.invariant.progress told rest is coming) _ _ _ _ c.in_default.ensures.goes_on;
-    }
+pub replay_event-requires : goal.replay_event-requires
+replay_event-requires g c = rw (c.events.invariant.progress.file, takes_length c.events.invariant.progress.taken) c.requires
 
-pub returns-in-Some-clause-answers : goal.returns-in-Some-clause-answers
-returns-in-Some-clause-answers g c = λ told rest is coming.
-    progress_answers _ _ rest told _ _ _ _ _ (c.events.invariant.progress told rest is coming) c.in-Some.status _ _ c.in-Some.ensures.answers
+pub events-preserved : goal.events-preserved
+events-preserved g c = record {
+  progress = progress_then c.events.invariant.progress c.in_default.ensures.goes_on.0;
+  shelf = keeps_then [] [] c.events.invariant.shelf c.replay_event.ensures.shelf;
+  sink = sink_keeps_then c.events.invariant.sink c.replay_event.ensures.sink;
+}
+
+pub returns-in-Some-clause-over : goal.returns-in-Some-clause-over
+returns-in-Some-clause-over g c = over_then c.events.invariant.progress c.in-Some.ensures.over
+
+pub returns-in-Some-clause-command : goal.returns-in-Some-clause-command
+returns-in-Some-clause-command g c = over_command c.in-Some.status _ _ _ _ _ _ c.in-Some.ensures.over
+
+pub returns-in-Some-clause-shelf : goal.returns-in-Some-clause-shelf
+returns-in-Some-clause-shelf g c = keeps_then [] [] c.events.invariant.shelf c.replay_event.ensures.shelf
+
+pub returns-in-Some-clause-sink : goal.returns-in-Some-clause-sink
+returns-in-Some-clause-sink g c = sink_keeps_then c.events.invariant.sink c.replay_event.ensures.sink

@@ -1,45 +1,45 @@
-use Rattle.std.proofs.Common.{◌≡◌, sym, refl, arith, ◌∙◌}
-use Rattle.bc_outside.proofs.Takes.{OnlyTakes-none, OnlyTakes-more}
-use Rattle.bc_outside.specs.Told.{left_of}
-use Rattle.record_file.specs.Record.{frame_of}
-use Rattle.record_file.specs.Frames.{with_left}
-use Rattle.record_file.specs.Found.{read_of}
-use Rattle.record_file.proofs.Grows.{found_whole, found_last}
+use Rattle.std.proofs.Common.{◌≡◌, true, false, [], sym, ◌∙◌}
+use Rattle.std.proofs.lemmas.Result.{err_from_is_err_and}
+use Rattle.record_file.specs.inside.Found.{is_short}
+use Rattle.record_file.specs.inside.Fetched.{Shows}
+use Rattle.bc_outside.proofs.Keeping.{keeps_none, keeps_then}
+use Rattle.bc_outside.proofs.Keeping.{takes_length}
+use Rattle.record_file.proofs.Fetching.{fetched_none, fetched_stays, fetched_then, fetched_once_more, fetched_once_end}
 use Rattle.record_file.proofs.fill.find_frame.Goals as goal
 
 pub loop-found-init : goal.loop-found-init
-loop-found-init g c = record {
-  unread = refl;
-  taken = OnlyTakes-none (g.F.Shelf.told c.args.shelf.now) c.args.file;
-  opened = refl;
-  faults = omega arith;
-  reliable = refl;
-  steady = λ _. refl;
-}
+loop-found-init g c = record { fetched = fetched_none c.args.file c.args.buffer.now (g.F.Shelf.told c.args.shelf.now); keeps = keeps_none (g.F.Shelf.told c.args.shelf.now) }
 
-pub returns-in_err-more-clause-taken : goal.returns-in_err-more-clause-taken
-returns-in_err-more-clause-taken g c = OnlyTakes-more c.loop-found.invariant.taken c.more.ensures.taken
+pub more-requires : goal.more-requires
+more-requires g c = rw (takes_length c.loop-found.invariant.fetched.taken) c.requires
 
-pub returns-then-not-branch-clause-taken : goal.returns-then-not-branch-clause-taken
-returns-then-not-branch-clause-taken g c = OnlyTakes-more c.loop-found.invariant.taken c.more.ensures.taken
+pub returns-in_err-more-clause-keeps : goal.returns-in_err-more-clause-keeps
+returns-in_err-more-clause-keeps g c = keeps_then [] [] c.loop-found.invariant.keeps c.more.ensures.keeps
+
+pub returns-in_err-more-clause-finds : goal.returns-in_err-more-clause-finds
+returns-in_err-more-clause-finds g c =
+    let p = err_from_is_err_and c.from_residual.result c.from_residual.ensures.1 in
+    let f = c.in_err-more.ensures.fetches in
+    let shows : Shows c.args.events c.frame_at-found.result c.more.new.self = rw (f.0, ← c.as_slice.ensures) c.frame_at-found.ensures.read in
+    rw p.1 (fetched_then c.loop-found.invariant.fetched (fetched_stays c.args.file f.0 f.1), (c.frame_at-found.result, sym c.is_short.ensures ∙ c.if-not-is_short.false, shows))
+
+pub returns-then-not-branch-clause-keeps : goal.returns-then-not-branch-clause-keeps
+returns-then-not-branch-clause-keeps g c = keeps_then [] [] c.loop-found.invariant.keeps c.more.ensures.keeps
+
+pub returns-then-not-branch-clause-finds : goal.returns-then-not-branch-clause-finds
+returns-then-not-branch-clause-finds g c =
+    let f = c.in_ok-more.ensures.fetches in
+    let short : is_short c.frame_at-found.result ≡ true = sym c.is_short.ensures ∙ c.if-not-is_short.false in
+    let shows : Shows c.args.events c.frame_at-found.result c.more.new.self = rw (f.2 c.if-not-branch.true, ← c.as_slice.ensures) c.frame_at-found.ensures.read in
+    (rw short (fetched_once_end c.args.file c.in_ok-more.field-0 c.if-not-branch.true c.loop-found.invariant.fetched f.0), shows)
+
+pub returns-then-not-is_short-clause-finds : goal.returns-then-not-is_short-clause-finds
+returns-then-not-is_short-clause-finds g c =
+    let whole : is_short c.frame_at-found.result ≡ false = sym c.is_short.ensures ∙ c.if-not-is_short.true in
+    (rw whole c.loop-found.invariant.fetched, rw c.as_slice.ensures at c.frame_at-found.ensures.read)
 
 pub loop-found-preserved : goal.loop-found-preserved
 loop-found-preserved g c = record {
-  unread = c.more.ensures.unread ∙ c.loop-found.invariant.unread;
-  taken = OnlyTakes-more c.loop-found.invariant.taken c.more.ensures.taken;
-  opened = c.more.ensures.opened ∙ c.loop-found.invariant.opened;
-  faults = omega (arith, c.in_ok-more.ensures.faults);
-  reliable = c.more.ensures.reliable ∙ c.loop-found.invariant.reliable;
-  steady = grind arith;
+  fetched = fetched_once_more c.args.file c.in_ok-more.field-0 c.if-not-branch.false c.loop-found.invariant.fetched c.in_ok-more.ensures.fetches.0;
+  keeps = keeps_then [] [] c.loop-found.invariant.keeps c.more.ensures.keeps;
 }
-
-pub returns-then-not-is_short-clause-found : goal.returns-then-not-is_short-clause-found
-returns-then-not-is_short-clause-found g c =
-    let read = rw c.as_slice.ensures at c.frame_at-found.ensures.read in
-    found_whole c.args.events c.frame_at-found.result c.loop-found.buffer (left_of (g.F.Shelf.told c.loop-found.shelf) c.args.file) (sym c.is_short.ensures ∙ c.if-not-is_short.true) read
-
-pub returns-then-not-branch-clause-found : goal.returns-then-not-branch-clause-found
-returns-then-not-branch-clause-found g c =
-    let ended = c.in_ok-more.ensures.ended c.if-not-branch.true in
-    let read : frame_of c.args.events c.more.new.self ≡ read_of c.frame_at-found.result c.more.new.self = rw (ended.0, ← c.as_slice.ensures) c.frame_at-found.ensures.read in
-    found_last c.args.events c.frame_at-found.result c.more.new.self (with_left c.more.new.self (left_of (g.F.Shelf.told c.more.new.shelf) c.args.file)) ended.1 read

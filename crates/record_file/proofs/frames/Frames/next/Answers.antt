@@ -1,19 +1,20 @@
-use Rattle.std.proofs.Common.{refl}
-use Rattle.bc_outside.specs.Told.{left_of}
-use Rattle.bc_outside.specs.Calls.{OnlyTakes}
-use Rattle.bc_outside.proofs.Takes.{OnlyTakes-none, OnlyTakes-more}
-use Rattle.record_file.specs.Frames.{with_left}
-use Rattle.record_file.proofs.Coming.{stopped_given}
+use Rattle.std.proofs.Common.{[]}
+use Rattle.bc_outside.proofs.Keeping.{keeps_none, keeps_then}
+use Rattle.bc_outside.proofs.Keeping.{takes_length}
+use Rattle.record_file.proofs.Nexting.{next_after, next_stopped}
 use Rattle.record_file.proofs.frames.Frames.next.Goals as goal
 
-pub returns-in-Stopped-clause-gives : goal.returns-in-Stopped-clause-gives
-returns-in-Stopped-clause-gives g c =
-    (refl, rw (← c.self.view_is, c.in-Stopped.is) (stopped_given c.self.inside.events c.in-Stopped.fault (with_left c.self.inside.buffer (left_of (g.F.Shelf.told c.args.shelf.now) c.self.inside.file))))
+pub returns-in-Stopped-clause-nexts : goal.returns-in-Stopped-clause-nexts
+returns-in-Stopped-clause-nexts g c = rw (← c.self.view_is, c.in-Stopped.is) (next_stopped c.self.inside.file c.self.inside.events c.in-Stopped.fault c.self.inside.buffer (g.F.Shelf.told c.args.shelf.now))
 
-pub returns-in-Stopped-clause-taken : goal.returns-in-Stopped-clause-taken
-returns-in-Stopped-clause-taken g c = OnlyTakes-none (g.F.Shelf.told c.args.shelf.now) c.args.self.now.file
+pub returns-in-Stopped-clause-keeps : goal.returns-in-Stopped-clause-keeps
+returns-in-Stopped-clause-keeps g c = keeps_none (g.F.Shelf.told c.args.shelf.now)
 
-pub returns-in_ok-read_magic-in-AtMagic-clause-taken : goal.returns-in_ok-read_magic-in-AtMagic-clause-taken
-returns-in_ok-read_magic-in-AtMagic-clause-taken g c =
-    let rest : OnlyTakes c.args.self.now.file (g.F.Shelf.told c.read_magic.new.shelf) (g.F.Shelf.told c.read_frame.new.shelf) = rw (← c.read_magic.ensures.file) c.read_frame.ensures.taken in
-    OnlyTakes-more c.read_magic.ensures.taken rest
+pub read_frame-requires-clause-opened : goal.read_frame-requires-clause-opened
+read_frame-requires-clause-opened g c = rw (c.read_magic.ensures.file, takes_length c.in_ok-read_magic-in-AtMagic.ensures.begins.2.1) c.requires
+
+pub returns-in_ok-read_magic-in-AtMagic-clause-nexts : goal.returns-in_ok-read_magic-in-AtMagic-clause-nexts
+returns-in_ok-read_magic-in-AtMagic-clause-nexts g c = next_after c.read_frame.result c.args.self.now c.read_magic.new.self c.read_frame.new.self _ _ _ c.read_magic.ensures.file c.in_ok-read_magic-in-AtMagic.ensures.begins c.read_frame.ensures.nexts
+
+pub returns-in_ok-read_magic-in-AtMagic-clause-keeps : goal.returns-in_ok-read_magic-in-AtMagic-clause-keeps
+returns-in_ok-read_magic-in-AtMagic-clause-keeps g c = keeps_then [] [] c.read_magic.ensures.keeps c.read_frame.ensures.keeps

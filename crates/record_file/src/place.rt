@@ -4,7 +4,7 @@ use crate::RecordFault;
 
 /// What the next call of [`Frames::next`](crate::Frames::next) meets.
 #[derive(Clone, Copy, Debug, PartialEq, Eq)]
-pub enum Status {
+pub enum Place {
     /// The record's first four bytes.
     AtMagic,
     /// A frame, or the end of the record.

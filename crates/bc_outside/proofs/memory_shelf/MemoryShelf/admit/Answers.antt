@@ -1,0 +1,8 @@
+use Rattle.std.proofs.Common.{[], ◌∷◌, ◌≡◌, ◌++◌, ◌∙◌, ap, refl}
+use Rattle.bc_outside.proofs.Shelved.{held_append}
+use Rattle.bc_outside.proofs.memory_shelf.MemoryShelf.admit.Goals as goal
+
+pub invariant_of-self-2 : goal.invariant_of-self-2
+invariant_of-self-2 c =
+    let held = rw (← c.self.view_is) at c.requires.held in
+    (c.self.invariant.0, rw (c.push_reserved-2.ensures.items, c.reserve-2.ensures.items) (held_append c.self.inside.files.items c.self.inside.opened.items (_ ∷ []) c.self.invariant.1 (held, λ ended. absurd cc, tt)))

@@ -1,0 +1,35 @@
+//! Names that a shelf was asked for.
+
+ghost use Rattle.std.specs.Prelude.{◌≡◌, ℕ, List, IfOk};
+
+use std::alloc::{AllocError, Global};
+use std::marker::Model;
+
+/// The name of a file that was asked for.
+#[derive(Debug, Drop)]
+pub struct AskedName {
+    bytes: Vec<u8>,
+}
+
+impl Model for AskedName {
+    ghost Value = { List ℕ };
+
+    ghost view = { λ name. name.bytes.items };
+}
+
+impl AskedName {
+    /// A copy of this name.
+    pub fn new(alloc: Global, name: &str) -> Result<Self, AllocError>
+        ensures { IfOk result (λ asked. asked ≡ name.now) }
+    {
+        let bytes = Vec::from_slice(alloc, name.as_bytes())?;
+        Ok(AskedName { bytes })
+    }
+
+    /// The bytes of the name.
+    pub fn as_bytes(&self) -> &[u8]
+        ensures { result.now ≡ self.now }
+    {
+        &self.bytes
+    }
+}

@@ -1,0 +1,183 @@
+-- The events of a record, one after the other.
+use Rattle.std.proofs.Common.{◌≡◌, ◌≢◌, ℕ, ◌+◌, ◌≤◌, Bool, true, false, List, [], ◌∷◌, ◌++◌, length, take, Option, Some, None, Result, Ok, Err, refl, sym, ap, subst, ◌∙◌, append_assoc, append-nil, arith}
+use Rattle.bc_outside.specs.Told.{ShelfTold}
+use Rattle.bc_outside.specs.Calls.{Takes, WritesAll}
+use Rattle.bc_outside.specs.declared.trouble.Trouble.{Trouble}
+use Rattle.bc_outside.specs.declared.trouble.Trouble.TheVariants as troubles
+use Rattle.bc_outside.proofs.Taking.{takes_none, takes_then}
+use Rattle.bc_words.specs.Outcome.{Outcome}
+use Rattle.bc_words.specs.declared.refusal.Refusal.{Refusal}
+use Rattle.record_file.specs.Record as record_file
+use Rattle.record_file.specs.Record.{Events, with_event, fault_event}
+use Rattle.record_file.specs.Frames.{Reading, Nexts, CanFollow, coming}
+use Rattle.record_file.specs.declared.event.Event.{Event}
+use Rattle.record_file.specs.declared.fault.FrameStop.{FrameStop}
+use Rattle.record_file.specs.declared.fault.FrameStop.TheVariants as stops
+use Rattle.spec_replay.specs.Lines.{tick_line}
+use Rattle.spec_replay.specs.Ticks.{Store, store_after, handle_tick}
+use Rattle.spec_replay.specs.Run.{Run, End, done, no_command, over, after_lines, replay_events, record_end, with_events}
+use Rattle.beacon_node.specs.declared.status.Status.{Status}
+use Rattle.beacon_node.specs.declared.status.Status.TheVariants as statuses
+use Rattle.beacon_node.specs.Answers.{breaks_off, lags, end_of, WritesLines}
+use Rattle.beacon_node.specs.inside.Statuses.{no_frame, unwritten}
+use Rattle.beacon_node.specs.inside.Progress.{rest_of, Progress, Ended, EventsOver}
+use Rattle.beacon_node.specs.inside.Stores.{Handles, told_outcome}
+use Rattle.beacon_node.proofs.Reaching.{reaches_none, reaches_front, no_lines, lines_behind, lines_front}
+
+-- at the beginning nothing was done
+pub no_progress : (store : Store) (place : Reading) (told : ShelfTold) (written : List ℕ) → Progress store place told written store place told written
+no_progress store place told written = record {
+  bytes = [];
+  taken = takes_none place.file told;
+  file = refl;
+  lines = [];
+  wrote = sym (append-nil written);
+  comes = λ behind. refl;
+}
+
+-- no events are to come
+none_left : (number : ℕ) (store : Store) (end : record_file.End) → with_events number store (record { events = []; end = end }) ≡ over (record_end 0 end)
+unfolding replay_events
+none_left number store end = refl
+
+no_more_lines : (number : ℕ) (store : Store) (rest : Events) → rest.events ≡ [] → (with_events number store rest).lines ≡ []
+unfolding replay_events
+no_more_lines number store rest e = rw e refl
+
+-- the record is at its end
+pub over_done : (store : Store) (place place_then : Reading) (told told_then : ShelfTold) (written : List ℕ) → Nexts (Ok None) place place_then told told_then → EventsOver statuses.Done store place told told_then written written
+over_done store place place_then told told_then written h =
+    let ends : (behind : List ℕ) → CanFollow true behind → rest_of store place (h.bytes ++ behind) ≡ over done =
+    λ behind can. ap (with_events (place.events + 1) store) (h.gives.1 behind ∙ ap (coming place_then) (can refl) ∙ h.gives.2) ∙ none_left (place.events + 1) store record_file.done in
+    record {
+      bytes = h.bytes;
+      met = true;
+      taken = rw h.gives.0 at h.taken;
+      ended = λ behind can. rw (ends behind can) (record { ends = λ _. refl; lines = no_lines false [] written (reaches_none false) });
+      pace = rw (sym (append-nil h.bytes), ends [] (λ _. refl)) (no_lines false [] written (reaches_none false));
+    }
+
+-- a frame could not be read
+pub over_stop : (stop : FrameStop) (store : Store) (place place_then : Reading) (told told_then : ShelfTold) (written : List ℕ) → Nexts (Err stop) place place_then told told_then → EventsOver (no_frame place.events stop) store place told told_then written written
+over_stop (stops.Fault reason) store place place_then told told_then written h =
+    let ends : (behind : List ℕ) → CanFollow h.met behind → rest_of store place (h.bytes ++ behind) ≡ over (record_end 0 (record_file.fault (fault_event place.events reason) reason)) =
+    λ behind can. ap (with_events (place.events + 1) store) (h.gives behind can) ∙ none_left (place.events + 1) store (record_file.fault (fault_event place.events reason) reason) in
+    record {
+      bytes = h.bytes;
+      met = h.met;
+      taken = h.taken;
+      ended = λ behind can. rw (ends behind can) (record { ends = λ _. refl; lines = no_lines false [] written (reaches_none false) });
+      pace = rw (sym (append-nil h.bytes), ends [] (λ _. refl)) (no_lines false [] written (reaches_none false));
+    }
+over_stop stops.ReadFault store place place_then told told_then written h =
+    let none : (rest_of store place h.bytes).lines ≡ [] = no_more_lines (place.events + 1) store (coming place h.bytes) (rw (sym (append-nil h.bytes), h.gives.1 []) h.gives.2) in
+    record {
+      bytes = h.bytes;
+      met = false;
+      taken = rw h.gives.0 at h.taken;
+      ended = λ behind can. record { ends = λ never. cc; lines = no_lines true _ written (reaches_front 0 _ (omega arith)) };
+      pace = rw none (no_lines false [] written (reaches_none false));
+    }
+over_stop stops.NoMemory store place place_then told told_then written h = record {
+  bytes = h.bytes;
+  met = false;
+  taken = rw h.gives.0 at h.taken;
+  ended = λ behind can. record { ends = λ never. cc; lines = no_lines true _ written (reaches_front 0 _ (omega arith)) };
+  pace = no_lines true _ written (reaches_front 0 _ (omega arith));
+}
+
+-- what an answer of the store tells is the outcome of the handler
+handled : {U : Type 0} (answer : Result U Refusal) (old new : Store) (outcome : Outcome Store) → Handles answer old new outcome → (told_outcome answer new ≡ outcome) × (store_after old outcome ≡ new)
+handled (Ok u) old new outcome h = (sym h, ap (store_after old) h)
+handled (Err refusal) old new outcome h = (sym h.1, ap (store_after old) h.1 ∙ sym h.0)
+
+-- the run of an event and of those behind it
+event_run : {U : Type 0} (number : ℕ) (old new : Store) (event : Event) (rest : Events) (answer : Result U Refusal) → Handles answer old new (handle_tick old event.payload)
+    → with_events number old (with_event event rest) ≡ after_lines (tick_line number (told_outcome answer new) new) (with_events (number + 1) new rest)
+unfolding replay_events
+event_run number old new event rest answer h =
+    let k = handled answer old new (handle_tick old event.payload) h in
+    rw (k.0, ← k.1) refl
+
+module _ {U : Type 0} (event : Event) (place place_then : Reading) (old new : Store) (answer : Result U Refusal) (told told_then : ShelfTold)
+    (next : Nexts (Ok (Some event)) place place_then told told_then) (counted : place_then.events ≡ place.events + 1) (handles : Handles answer old new (handle_tick old event.payload)) where
+  comes_behind : (behind : List ℕ) → rest_of old place (next.bytes ++ behind) ≡ after_lines (tick_line place_then.events (told_outcome answer new) new) (rest_of new place_then behind)
+  comes_behind behind = ap (with_events (place.events + 1) old) (next.gives.1 behind) ∙ rw (← counted) (event_run place_then.events old new event (coming place_then behind) answer handles)
+
+  -- the line was written
+  pub line_progress : (written written_then : List ℕ) → place_then.file ≡ place.file → WritesAll {V = Unit {0}} (tick_line place_then.events (told_outcome answer new) new) (Ok tt) (record { taken = written; faults = 0; reliable = true }) (record { taken = written_then; faults = 0; reliable = true })
+      → Progress old place told written new place_then told_then written_then
+  line_progress written written_then file wrote = record {
+    bytes = next.bytes;
+    taken = rw next.gives.0 at next.taken;
+    file = file;
+    lines = tick_line place_then.events (told_outcome answer new) new;
+    wrote = wrote;
+    comes = comes_behind;
+  }
+
+  -- a front of the line was written
+  front_over : (status : Status) (n : ℕ) (written written_then : List ℕ) → breaks_off status ≡ true → lags status ≡ true → n ≤ length (tick_line place_then.events (told_outcome answer new) new) → written_then ≡ written ++ take n (tick_line place_then.events (told_outcome answer new) new)
+      → EventsOver status old place told told_then written written_then
+  front_over status n written written_then off late within wrote = record {
+    bytes = next.bytes;
+    met = false;
+    taken = rw next.gives.0 at next.taken;
+    ended = λ behind can. record {
+      ends = λ never. absurd (let no : true ≡ false = sym off ∙ never in cc);
+      lines = rw (off, comes_behind behind) (lines_front (tick_line place_then.events (told_outcome answer new) new) _ n within wrote);
+    };
+    pace = rw (late, sym (append-nil next.bytes), comes_behind []) (lines_front (tick_line place_then.events (told_outcome answer new) new) _ n within wrote);
+  }
+
+  -- the line could not be written
+  pub line_over : (trouble : Trouble) (written written_then : List ℕ) → WritesAll {V = Unit {0}} (tick_line place_then.events (told_outcome answer new) new) (Err trouble) (record { taken = written; faults = 0; reliable = true }) (record { taken = written_then; faults = 0; reliable = true })
+      → EventsOver (unwritten trouble) old place told told_then written written_then
+  line_over troubles.Failed written written_then wrote = front_over statuses.WriteFault wrote.0 written written_then refl refl wrote.1 wrote.2
+  line_over troubles.NoMemory written written_then wrote = front_over statuses.NoMemory wrote.0 written written_then refl refl wrote.1 wrote.2
+
+-- one step more
+pub progress_then : {store mid next : Store} {place place_mid place_next : Reading} {s t u : ShelfTold} {w x y : List ℕ} → Progress store place s w mid place_mid t x → Progress mid place_mid t x next place_next u y → Progress store place s w next place_next u y
+progress_then {store} {mid} {next} {place} {place_mid} {place_next} {s} {t} {u} {w} {x} {y} h k = record {
+  bytes = h.bytes ++ k.bytes;
+  taken = takes_then h.taken (rw h.file at k.taken);
+  file = k.file ∙ h.file;
+  lines = h.lines ++ k.lines;
+  wrote = k.wrote ∙ ap (λ bs. bs ++ k.lines) h.wrote ∙ append_assoc w h.lines k.lines;
+  comes = λ behind. ap (rest_of store place) (append_assoc h.bytes k.bytes behind) ∙ h.comes (k.bytes ++ behind) ∙ ap (after_lines h.lines) (k.comes behind)
+      ∙ ap (λ (lines : List ℕ). record { lines = lines; end = (rest_of next place_next behind).end; files = (rest_of next place_next behind).files }) (sym (append_assoc h.lines k.lines (rest_of next place_next behind).lines));
+}
+
+-- the run is over behind some events
+pub over_then : {status : Status} {store mid : Store} {place place_mid : Reading} {s t u : ShelfTold} {w x y : List ℕ} → Progress store place s w mid place_mid t x → EventsOver status mid place_mid t u x y → EventsOver status store place s u w y
+over_then {status} {store} {mid} {place} {place_mid} {s} {t} {u} {w} {x} {y} h k = record {
+  bytes = h.bytes ++ k.bytes;
+  met = k.met;
+  taken = takes_then h.taken (rw h.file at k.taken);
+  ended = λ behind can.
+      let is = ap (rest_of store place) (append_assoc h.bytes k.bytes behind) ∙ h.comes (k.bytes ++ behind) in
+      let e = k.ended behind can in
+      rw is (record { ends = e.ends; lines = lines_behind (breaks_off status) h.lines (rest_of mid place_mid (k.bytes ++ behind)).lines h.wrote e.lines });
+  pace = rw (h.comes k.bytes) (lines_behind (lags status) h.lines (rest_of mid place_mid k.bytes).lines h.wrote k.pace);
+}
+
+-- events ask for no file
+replay_events-files : (number : ℕ) (store : Store) (events : List Event) (end : End) → (replay_events number store events end).files ≡ 0
+unfolding replay_events
+replay_events-files number store [] end = refl
+replay_events-files number store (event ∷ events) end = replay_events-files (number + 1) (store_after store (handle_tick store event.payload)) events end
+
+pub with_events-files : (number : ℕ) (store : Store) (rest : Events) → (with_events number store rest).files ≡ 0
+with_events-files number store rest = replay_events-files number store rest.events (record_end 0 rest.end)
+
+-- a run of events doesn't end as one of words that are no command
+never_no_command : (number : ℕ) (store : Store) (events : List Event) (end : record_file.End) → (replay_events number store events (record_end 0 end)).end ≡ Some no_command → ⊥
+unfolding replay_events
+never_no_command number store [] record_file.done e = cc
+never_no_command number store [] (record_file.fault event reason) e = cc
+never_no_command number store (event ∷ events) end e = never_no_command (number + 1) (store_after store (handle_tick store event.payload)) events end e
+
+pub over_command : (status : Status) (store : Store) (place : Reading) (told told_then : ShelfTold) (written written_then : List ℕ) → EventsOver status store place told told_then written written_then → status ≢ statuses.Words
+over_command status store place told told_then written written_then h = λ is.
+    let e = (h.ended [] (λ _. refl)).ends (rw is refl) in
+    never_no_command (place.events + 1) store (coming place (h.bytes ++ [])).events (coming place (h.bytes ++ [])).end (rw is at e)

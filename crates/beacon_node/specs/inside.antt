@@ -1,0 +1,6 @@
+pub mod Files
+pub mod GenesisAnswers
+pub mod Progress
+pub mod Reading
+pub mod Statuses
+pub mod Stores

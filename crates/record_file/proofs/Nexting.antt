@@ -1,0 +1,116 @@
+-- What `next` answers, by what was taken and found.
+use Rattle.std.proofs.Common.{◌≡◌, ◌≤◌, ◌<◌, ℕ, ◌+◌, Bool, true, false, List, [], ◌++◌, length, take, drop, Option, Some, None, Result, Ok, Err, refl, sym, ap, ◌∙◌, append_assoc, arith}
+use Rattle.std.specs.Str.{bytes_eq}
+use Rattle.bc_outside.specs.Told.{ShelfTold}
+use Rattle.bc_outside.specs.declared.trouble.Trouble.{Trouble}
+use Rattle.bc_outside.specs.declared.trouble.Trouble.TheVariants as troubles
+use Rattle.bc_outside.proofs.Taking.{takes_none, takes_then}
+use Rattle.record_file.specs.declared.event.Event.{Event}
+use Rattle.record_file.specs.declared.fault.RecordFault.{RecordFault}
+use Rattle.record_file.specs.declared.fault.RecordFault.TheVariants.{BadMagic}
+use Rattle.record_file.specs.declared.fault.FrameStop.{FrameStop}
+use Rattle.record_file.specs.declared.fault.FrameStop.TheVariants.{Fault, ReadFault, NoMemory}
+use Rattle.record_file.specs.declared.found.Found.{Found}
+use Rattle.record_file.specs.declared.found.Found.TheVariants as found
+use Rattle.record_file.specs.declared.place.Place.TheVariants.{AtMagic, AtFrame, Stopped}
+use Rattle.record_file.specs.Record.{magic, most_events}
+use Rattle.record_file.specs.Stops.{stop_of}
+use Rattle.record_file.specs.Frames.{Reading, events_at, coming, Comes, Gives, Nexts, Moves}
+use Rattle.record_file.specs.inside.Found.{is_short}
+use Rattle.record_file.specs.inside.Fetched.{Fetched, Shows, Finds, Fills, Begins}
+use Rattle.record_file.proofs.Coming.{comes_as, ended_comes, fault_comes, short_comes, frame_comes, magic_comes, no_magic_comes, short_magic_comes, long_enough}
+
+module _ (file events : ℕ) (old new : List ℕ) (s t : ShelfTold) (le : events ≤ most_events) where
+  pub next_ended : Fetched file true old new s t → Shows events found.Ended new → Nexts (Ok None) (record { file = file; events = events; place = AtFrame; buffered = old }) (record { file = file; events = events; place = AtFrame; buffered = new }) s t
+  next_ended h shows = record {
+    bytes = h.bytes;
+    met = true;
+    taken = h.taken;
+    gives = (refl, λ behind. comes_as AtFrame events old h.bytes new behind h.behind, ended_comes events le new shows);
+  }
+
+  pub next_fault : (reason : RecordFault) → Fetched file (is_short (found.Fault reason)) old new s t → Shows events (found.Fault reason) new → Nexts (Err (Fault reason)) (record { file = file; events = events; place = AtFrame; buffered = old }) (record { file = file; events = events; place = Stopped reason; buffered = new }) s t
+  next_fault reason h shows = record {
+    bytes = h.bytes;
+    met = is_short (found.Fault reason);
+    taken = h.taken;
+    gives = λ behind can. comes_as AtFrame events old h.bytes new behind h.behind ∙ fault_comes events le reason new behind shows can;
+  }
+
+  pub next_frame : (kind size : ℕ) (payload rest : List ℕ) → events < most_events → Fetched file false old new s t → Shows events (found.Frame kind size) new → payload ≡ take size (drop 5 new) → rest ≡ drop (5 + size) new
+      → Nexts (Ok (Some (record { kind = kind; payload = payload }))) (record { file = file; events = events; place = AtFrame; buffered = old }) (record { file = file; events = events + 1; place = AtFrame; buffered = rest }) s t
+  next_frame kind size payload rest lt h shows p r = record {
+    bytes = h.bytes;
+    met = false;
+    taken = h.taken;
+    gives = (refl, λ behind. comes_as AtFrame events old h.bytes new behind h.behind ∙ rw (p, r) (frame_comes events kind size new behind lt shows));
+  }
+
+  pub next_no_memory : Fetched file false old new s t → Nexts (Err NoMemory) (record { file = file; events = events; place = AtFrame; buffered = old }) (record { file = file; events = events; place = AtFrame; buffered = new }) s t
+  next_no_memory h = record { bytes = h.bytes; met = false; taken = h.taken; gives = (refl, λ behind. comes_as AtFrame events old h.bytes new behind h.behind) }
+
+  pub next_fails : (trouble : Trouble) → Finds (Err trouble) events file old new s t → Nexts (Err (stop_of trouble)) (record { file = file; events = events; place = AtFrame; buffered = old }) (record { file = file; events = events; place = AtFrame; buffered = new }) s t
+  next_fails troubles.Failed (h, (f, short, shows)) = record {
+    bytes = h.bytes;
+    met = false;
+    taken = h.taken;
+    gives = (refl, λ behind. comes_as AtFrame events old h.bytes new behind h.behind, short_comes events le f new short shows);
+  }
+  next_fails troubles.NoMemory (h, (f, short, shows)) = next_no_memory h
+
+-- the record's first bytes
+module _ (file : ℕ) (old new : List ℕ) (s t : ShelfTold) where
+  pub begin_fails : (trouble : Trouble) → Fills {T = Unit {0}} (Err trouble) 4 file old new s t → Begins (Err (stop_of trouble)) (record { file = file; events = 0; place = AtMagic; buffered = old }) (record { file = file; events = 0; place = AtMagic; buffered = new }) s t
+  begin_fails troubles.Failed (h, short) = (
+    record {
+      bytes = h.bytes;
+      met = false;
+      taken = h.taken;
+      gives = (refl, λ behind. comes_as AtMagic 0 old h.bytes new behind h.behind, short_magic_comes 0 new short);
+    },
+    refl,
+  )
+  begin_fails troubles.NoMemory (h, short) = (
+    record {
+      bytes = h.bytes;
+      met = false;
+      taken = h.taken;
+      gives = (refl, λ behind. comes_as AtMagic 0 old h.bytes new behind h.behind);
+    },
+    refl,
+  )
+
+  pub begin_fault : Fills {T = Unit {0}} (Ok tt) 4 file old new s t → bytes_eq (take 4 new) magic ≡ false → Begins (Err (Fault BadMagic)) (record { file = file; events = 0; place = AtMagic; buffered = old }) (record { file = file; events = 0; place = Stopped BadMagic; buffered = new }) s t
+  begin_fault (met, h, short, long) e = (
+    record {
+      bytes = h.bytes;
+      met = met;
+      taken = h.taken;
+      gives = λ behind can. comes_as AtMagic 0 old h.bytes new behind h.behind ∙ no_magic_comes 0 met new behind short e can;
+    },
+    (refl, refl),
+  )
+
+  pub begin_ok : (rest : List ℕ) → Fills {T = Unit {0}} (Ok tt) 4 file old new s t → bytes_eq (take 4 new) magic ≡ true → rest ≡ drop 4 new → Begins (Ok tt) (record { file = file; events = 0; place = AtMagic; buffered = old }) (record { file = file; events = 0; place = AtFrame; buffered = rest }) s t
+  begin_ok rest (false, h, short, long) e r = (refl, refl, (h.bytes, h.taken, λ behind. comes_as AtMagic 0 old h.bytes new behind h.behind ∙ rw r (magic_comes new behind e)))
+  begin_ok rest (true, h, short, long) e r = let lt = long refl in let k = long_enough 4 new e in absurd (omega (arith, lt, k))
+
+-- one call after the other
+after : (result : Result (Option Event) FrameStop) (first bytes : List ℕ) (met : Bool) (old mid new : Reading) → mid.events ≡ old.events → Comes first old mid → Gives result bytes met mid new → Gives result (first ++ bytes) met old new
+after (Ok (Some event)) first bytes met old mid new e c g = (g.0, λ behind. ap (coming old) (append_assoc first bytes behind) ∙ c (bytes ++ behind) ∙ g.1 behind)
+after (Ok None) first bytes met old mid new e c g = (g.0, λ behind. ap (coming old) (append_assoc first bytes behind) ∙ c (bytes ++ behind) ∙ g.1 behind, g.2)
+after (Err (Fault reason)) first bytes met old mid new e c g = λ behind can. ap (coming old) (append_assoc first bytes behind) ∙ c (bytes ++ behind) ∙ rw (← e) (g behind can)
+after (Err ReadFault) first bytes met old mid new e c g = (g.0, λ behind. ap (coming old) (append_assoc first bytes behind) ∙ c (bytes ++ behind) ∙ g.1 behind, g.2)
+after (Err NoMemory) first bytes met old mid new e c g = (g.0, λ behind. ap (coming old) (append_assoc first bytes behind) ∙ c (bytes ++ behind) ∙ g.1 behind)
+
+pub next_after : (result : Result (Option Event) FrameStop) (old mid new : Reading) (s t u : ShelfTold) → mid.file ≡ old.file → Begins (Ok tt) old mid s t → Nexts result mid new t u → Nexts result old new s u
+next_after result old mid new s t u same (e, is_at, (first, taken, comes)) n = record {
+  bytes = first ++ n.bytes;
+  met = n.met;
+  taken = takes_then taken (rw same at n.taken);
+  gives = after result first n.bytes n.met old mid new e comes n.gives;
+}
+
+pub next_stopped : (file events : ℕ) (reason : RecordFault) (buffered : List ℕ) (s : ShelfTold) → Nexts (Err (Fault reason)) (record { file = file; events = events; place = Stopped reason; buffered = buffered }) (record { file = file; events = events; place = Stopped reason; buffered = buffered }) s s
+unfolding events_at
+next_stopped file events reason buffered s = record { bytes = []; met = false; taken = takes_none file s; gives = λ behind can. refl }
