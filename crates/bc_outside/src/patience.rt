@@ -88,7 +88,7 @@ pub fn write<W: Write>(
                 *cause = None;
                 return Err(Trouble::Failed);
             }
-            Ok(n) => return Ok(n),
+            Ok(taken) => return Ok(taken),
             Err(error) => {
                 let again = faults.count(&error);
                 *cause = Some(error);
