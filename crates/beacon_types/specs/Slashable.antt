@@ -3,7 +3,7 @@ use Rattle.std.specs.Prelude.{◌≡◌, ◌<◌, ◌⊎◌}
 use Rattle.beacon_types.specs.declared.attestation_data.AttestationData.{AttestationData}
 
 -- a double vote: two votes for one target epoch; or a surround vote: the first begins before the second and ends behind it
-unfoldable pub IsSlashableData : AttestationData → AttestationData → Type 0
-IsSlashableData a b =
-    ((a ≡ b → ⊥) × (a.target.epoch ≡ b.target.epoch))
-    ⊎ ((a.source.epoch < b.source.epoch) × (b.target.epoch < a.target.epoch))
+unfoldable pub is_slashable_attestation_data : AttestationData → AttestationData → Type 0
+is_slashable_attestation_data data_1 data_2 =
+    ((data_1 ≡ data_2 → ⊥) × (data_1.target.epoch ≡ data_2.target.epoch))
+    ⊎ ((data_1.source.epoch < data_2.source.epoch) × (data_2.target.epoch < data_1.target.epoch))

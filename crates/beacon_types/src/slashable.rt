@@ -1,15 +1,15 @@
 //! Which votes of one validator are slashable together.
 
 ghost use Rattle.std.specs.Prelude.{IsTrue, ◌↔◌};
-ghost use Rattle.beacon_types.specs.Slashable.{IsSlashableData};
+ghost use Rattle.beacon_types.specs.Slashable.{is_slashable_attestation_data};
 
 use crate::attestation_data::AttestationData;
 
 /// Whether the votes are a double vote, or the first surrounds the second (beacon-chain.md,
 /// "is_slashable_attestation_data").
-#[tactic(auto, unfolding(crate::specs::Slashable::IsSlashableData))]
+#[tactic(auto, unfolding(crate::specs::Slashable::is_slashable_attestation_data))]
 pub fn is_slashable_data(a: &AttestationData, b: &AttestationData) -> bool
-    ensures { IsTrue result ↔ IsSlashableData a.now b.now }
+    ensures { IsTrue result ↔ is_slashable_attestation_data a.now b.now }
 {
     let double = a != b && a.target.epoch == b.target.epoch;
     let surround = a.source.epoch < b.source.epoch && b.target.epoch < a.target.epoch;

@@ -4,7 +4,7 @@ use Rattle.std.proofs.Common.{◌≡◌, ℕ, ◌+◌, ◌<◌, ◌≤◌, ◌�
 use Rattle.std.proofs.lemmas.Bool.{cases_order}
 use Rattle.beacon_types.specs.declared.checkpoint.Checkpoint.{Checkpoint}
 use Rattle.beacon_types.specs.declared.attestation_data.AttestationData.{AttestationData}
-use Rattle.beacon_types.specs.Slashable.{IsSlashableData}
+use Rattle.beacon_types.specs.Slashable.{is_slashable_attestation_data}
 use Rattle.ffg_law.specs.declared.link.Link.{Link}
 use Rattle.ffg_law.specs.Weights.{among, both, IsTwoThirds, IsThird}
 use Rattle.ffg_law.specs.Links.{Voted, links_of, IsOneOf, IsJustified, IsChain, Reaches, IsFinalized, AreApart, IsSlashable, Conflict, link_of, HaveTwoThirds, AThirdIsConvicted}
@@ -212,8 +212,8 @@ third_of_conflict weights first second some other r set holds =
     omega (arith, grown, shared)
 
 -- votes for such links are slashable attestations, in one of both orders
-pub slashable_data : (a b : AttestationData) → IsSlashable (link_of a) (link_of b) → IsSlashableData a b ⊎ IsSlashableData b a
-unfolding IsSlashableData
+pub slashable_data : (a b : AttestationData) → IsSlashable (link_of a) (link_of b) → is_slashable_attestation_data a b ⊎ is_slashable_attestation_data b a
+unfolding is_slashable_attestation_data
 slashable_data a b (inl double) = inl (inl (λ same. double.1 (ap (λ (d : AttestationData). d.target) same), double.0))
 slashable_data a b (inr (inl around)) = inl (inr around)
 slashable_data a b (inr (inr around)) = inr (inr around)

@@ -3,7 +3,7 @@
 //! They do nothing when they run. A list of links has the latest first, and a set of validators is a list of indices.
 
 ghost use Rattle.std.specs.Prelude.{◌≡◌, ◌<◌, ◌⊎◌, min};
-ghost use Rattle.beacon_types.specs.Slashable.{IsSlashableData};
+ghost use Rattle.beacon_types.specs.Slashable.{is_slashable_attestation_data};
 ghost use Rattle.ffg_law.specs.Weights.{IsTwoThirds, IsThird, among, both};
 ghost use Rattle.ffg_law.specs.Links.{IsChain, IsFinalized, AreApart, Conflict, HaveTwoThirds, AThirdIsConvicted, IsSlashable, link_of, voted, links_of};
 ghost use Rattle.ffg_law.specs.Histories.{IsLarge, IsHistory, last_from, nothing_justified, genesis_checkpoint, finalized_of, made_by, AreLinked, IsFinalLinked};
@@ -52,7 +52,7 @@ pub fn finals_conflict(
 /// Votes for two links that nobody may vote both for are slashable attestations, in one of both orders.
 pub fn votes_are_slashable(first: &AttestationData, second: &AttestationData)
     requires { IsSlashable (link_of first.now) (link_of second.now) }
-    ensures { IsSlashableData first.now second.now ⊎ IsSlashableData second.now first.now }
+    ensures { is_slashable_attestation_data first.now second.now ⊎ is_slashable_attestation_data second.now first.now }
 {}
 
 /// Two sets of two thirds share at least a third.
