@@ -1,7 +1,7 @@
 //! One small loop for each form of loop that the lemmas of this crate are for: their users copy it.
 
 ghost use Rattle.std.specs.Prelude.{◌≡◌, ℕ, ◌+◌, ◌<◌, ◌≤◌, ◌==◌, length, slice_index_or, Option, map};
-ghost use Rattle.bc_words.specs.Outcome.{Outcome, Moves, Changes, GivesExactly, Gives, checked_add, checked_sub, checked_sum, each_from, bind, done};
+ghost use Rattle.bc_words.specs.Outcome.{Outcome, Moves, Changes, GivesExactly, Gives, checked_add, checked_sub, each_from, bind, done};
 ghost use Rattle.bc_words.specs.Events.{StoreMoves, on_the_way, accepted};
 ghost use Rattle.bc_words.specs.Searches.{least_from, first_from};
 
@@ -44,18 +44,6 @@ pub fn first_less(least: u64, wanted: u64, count: u64) -> Result<Option<u64>, St
         }
     }
     Ok(None)
-}
-
-/// A sum from left to right.
-#[tactic(auto, using(crate::proofs::Sums::sum_by_number))]
-pub fn sum_of(numbers: &[u64]) -> Result<u64, Stop>
-    ensures { GivesExactly result (checked_sum numbers.now) }
-{
-    let mut sum = 0;
-    for number in numbers {
-        sum = checked_add(sum, *number)?;
-    }
-    Ok(sum)
 }
 
 /// A step on the way to an event's outcome.

@@ -14,7 +14,7 @@ mod steps;
 mod stop;
 mod store_stop;
 
-pub use arithmetic::{checked_add, checked_mul, checked_sub};
+pub use arithmetic::{checked_add, checked_mul, checked_sub, checked_sum};
 pub use refusal::Refusal;
 pub use square_root::isqrt;
 pub use steps::Steps;
@@ -27,7 +27,7 @@ mod examples;
 #[cfg(test)]
 mod tests {
     use super::*;
-    use crate::examples::{add_indices, add_to_store, first_equal, first_less, sum_of};
+    use crate::examples::{add_indices, add_to_store, first_equal, first_less};
     use std::marker::Brand;
     use std::sync::ledger::{Blank, Ledger};
 
@@ -83,8 +83,8 @@ mod tests {
         assert_eq!(rt; first_less(3, 1, 9), Ok(Some(2)));
         assert_eq!(rt; first_less(3, 9, 3), Ok(None));
         assert!(rt; first_less(3, 9, 5).is_err());
-        assert_eq!(rt; sum_of(&[4, 7, 7]), Ok(18));
-        assert_eq!(rt; sum_of(&[u64::MAX, 1]), overflow);
+        assert_eq!(rt; checked_sum(&[4, 7, 7]), Ok(18));
+        assert_eq!(rt; checked_sum(&[u64::MAX, 1]), overflow);
     }
 
     #[test]

@@ -1,6 +1,6 @@
 use Rattle.std.proofs.Common.{◌≡◌, ℕ, drop}
 use Rattle.bc_words.specs.Outcome.{checked_sum_from, checked_sum}
-use Rattle.bc_words.proofs.examples.sum_of.Given as goal
+use Rattle.bc_words.proofs.arithmetic.checked_sum.Given as goal
 
 abbrev pub invariant-loop-number : goal.invariant-loop-number
 invariant-loop-number l =
