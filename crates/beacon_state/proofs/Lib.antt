@@ -1,4 +1,5 @@
-pub mod Parts
+pub mod Regrouped
+pub mod PartsOfGroups
 pub mod Unread
 pub mod FirstFault
 pub mod Balances

@@ -2,10 +2,11 @@
 use Rattle.std.specs.Prelude.{◌*◌, List, length, map, replicate}
 use Rattle.ssz_codec.specs.declared.layout.Field.TheVariants.{Variable}
 use Rattle.ssz_codec.specs.Layout.{fixed_length, OffsetsFit}
+use Rattle.ssz_codec.specs.Containers.{layout_of, parts_of}
 use Rattle.beacon_types.specs.declared.pending_attestation.PendingAttestation.{PendingAttestation}
 use Rattle.beacon_types.specs.Containers.{pending_attestation_codec}
 use Rattle.spec_state.specs.declared.plain.PlainState.{PlainState}
-use Rattle.spec_state.specs.States.{state_row}
+use Rattle.spec_state.specs.States.{state_fields}
 
 -- the offsets of a list of pending attestations fit
 unfoldable pub ListFits : List PendingAttestation → Type 0
@@ -15,4 +16,4 @@ ListFits xs = OffsetsFit (replicate (length xs) Variable) (map pending_attestati
 pub record HasWriting (s : PlainState) : Type 0 where
   pub previous : ListFits s.previous_epoch_attestations
   pub current : ListFits s.current_epoch_attestations
-  pub whole : OffsetsFit (state_row s.preset).fields ((state_row s.preset).parts s) (fixed_length (state_row s.preset).fields)
+  pub whole : OffsetsFit (layout_of (state_fields s.preset)) (parts_of (state_fields s.preset) s) (fixed_length (layout_of (state_fields s.preset)))

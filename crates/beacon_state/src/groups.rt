@@ -1,20 +1,23 @@
 //! Reading the fields of a state in groups of neighbours. Parts come from cutting the state, values go into the state.
 
-ghost use Rattle.std.specs.Prelude.{◌≡◌, map, take, drop, length};
+ghost use Rattle.std.specs.Prelude.{◌≡◌, map};
 ghost use Rattle.ssz_codec.specs.Reads.{ReadsAs};
-ghost use Rattle.spec_state.specs.States.{clock_row, history_row, eth1_row, registry_row, pending_row, finality_row, state_row, state_of, parse_groups, votes_limit, attestations_limit};
+ghost use Rattle.ssz_codec.specs.Containers.{all_read};
+ghost use Rattle.spec_state.specs.States.{votes_limit, attestations_limit};
+ghost use Rattle.beacon_state.specs.inside.Groups.{clock_fields, history_fields, eth1_fields, registry_fields, pending_fields, finality_fields, state_of, read_groups as of_groups};
 ghost use Rattle.bc_preset.specs.Presets.{IsPreset};
 
+use crate::parts::{Clock, Eth1, Finality, History, Pending, Registry};
 use bc_preset::Preset;
 use beacon_types::{BeaconBlockHeader, Checkpoint, Eth1Data, Fork, PendingAttestation, Validator};
 use hash_tree::Root;
-use spec_state::{Clock, Eth1, Finality, History, Pending, PlainState, Registry};
+use spec_state::PlainState;
 use ssz_codec::{Ssz, SszFault, read_items, read_list, read_variable_list};
 use std::alloc::Global;
 
-#[tactic(auto, unfolding(spec_state::specs::States::clock_row))]
+#[tactic(auto, unfolding(crate::specs::inside::Groups::clock_fields))]
 fn read_clock(alloc: Global, parts: &[&[u8]]) -> Result<Clock, SszFault>
-    ensures { ReadsAs result (clock_row.deserialize (map (λ part. part.now) parts.now)) }
+    ensures { ReadsAs result (clock_fields.deserialize all_read (map (λ part. part.now) parts.now)) }
 {
     match parts {
         [
@@ -34,9 +37,9 @@ fn read_clock(alloc: Global, parts: &[&[u8]]) -> Result<Clock, SszFault>
     }
 }
 
-#[tactic(auto, unfolding(spec_state::specs::States::history_row))]
+#[tactic(auto, unfolding(crate::specs::inside::Groups::history_fields))]
 fn read_history(alloc: Global, preset: &Preset, parts: &[&[u8]]) -> Result<History, SszFault>
-    ensures { ReadsAs result ((history_row preset.now).deserialize (map (λ part. part.now) parts.now)) }
+    ensures { ReadsAs result ((history_fields preset.now).deserialize all_read (map (λ part. part.now) parts.now)) }
 {
     let count = preset.slots_per_historical_root as usize;
     match parts {
@@ -54,10 +57,10 @@ fn read_history(alloc: Global, preset: &Preset, parts: &[&[u8]]) -> Result<Histo
     }
 }
 
-#[tactic(auto, unfolding(spec_state::specs::States::eth1_row))]
+#[tactic(auto, unfolding(crate::specs::inside::Groups::eth1_fields))]
 fn read_eth1(alloc: Global, preset: &Preset, parts: &[&[u8]]) -> Result<Eth1, SszFault>
     requires { IsPreset preset.now }
-    ensures { ReadsAs result ((eth1_row preset.now).deserialize (map (λ part. part.now) parts.now)) }
+    ensures { ReadsAs result ((eth1_fields preset.now).deserialize all_read (map (λ part. part.now) parts.now)) }
 {
     let limit = votes_limit_of(preset);
     match parts {
@@ -70,9 +73,9 @@ fn read_eth1(alloc: Global, preset: &Preset, parts: &[&[u8]]) -> Result<Eth1, Ss
     }
 }
 
-#[tactic(auto, unfolding(spec_state::specs::States::registry_row))]
+#[tactic(auto, unfolding(crate::specs::inside::Groups::registry_fields))]
 fn read_registry(alloc: Global, preset: &Preset, parts: &[&[u8]]) -> Result<Registry, SszFault>
-    ensures { ReadsAs result ((registry_row preset.now).deserialize (map (λ part. part.now) parts.now)) }
+    ensures { ReadsAs result ((registry_fields preset.now).deserialize all_read (map (λ part. part.now) parts.now)) }
 {
     let limit = preset.validator_registry_limit;
     let mixes = preset.epochs_per_historical_vector as usize;
@@ -88,10 +91,10 @@ fn read_registry(alloc: Global, preset: &Preset, parts: &[&[u8]]) -> Result<Regi
     }
 }
 
-#[tactic(auto, unfolding(spec_state::specs::States::pending_row))]
+#[tactic(auto, unfolding(crate::specs::inside::Groups::pending_fields))]
 fn read_pending(alloc: Global, preset: &Preset, parts: &[&[u8]]) -> Result<Pending, SszFault>
     requires { IsPreset preset.now }
-    ensures { ReadsAs result ((pending_row preset.now).deserialize (map (λ part. part.now) parts.now)) }
+    ensures { ReadsAs result ((pending_fields preset.now).deserialize all_read (map (λ part. part.now) parts.now)) }
 {
     let limit = attestations_limit_of(preset);
     match parts {
@@ -103,9 +106,9 @@ fn read_pending(alloc: Global, preset: &Preset, parts: &[&[u8]]) -> Result<Pendi
     }
 }
 
-#[tactic(auto, unfolding(spec_state::specs::States::finality_row))]
+#[tactic(auto, unfolding(crate::specs::inside::Groups::finality_fields))]
 fn read_finality(alloc: Global, parts: &[&[u8]]) -> Result<Finality, SszFault>
-    ensures { ReadsAs result (finality_row.deserialize (map (λ part. part.now) parts.now)) }
+    ensures { ReadsAs result (finality_fields.deserialize all_read (map (λ part. part.now) parts.now)) }
 {
     match parts {
         [bits, previous, current, finalized] => Ok(Finality {
@@ -209,8 +212,8 @@ fn plain_state(
 }
 
 /// Reads the groups, each from its own parts.
-#[tactic(auto, unfolding(spec_state::specs::States::parse_groups))]
-fn read_groups(
+#[tactic(auto, unfolding(crate::specs::inside::Groups::read_groups))]
+pub(crate) fn read_groups(
     alloc: Global,
     preset: &Preset,
     clock: &[&[u8]],
@@ -221,7 +224,7 @@ fn read_groups(
     finality: &[&[u8]],
 ) -> Result<PlainState, SszFault>
     requires { IsPreset preset.now }
-    ensures { ReadsAs result (parse_groups preset.now (map (λ part. part.now) clock.now) (map (λ part. part.now) history.now) (map (λ part. part.now) eth1.now) (map (λ part. part.now) registry.now) (map (λ part. part.now) pending.now) (map (λ part. part.now) finality.now)) }
+    ensures { ReadsAs result (of_groups preset.now (map (λ part. part.now) clock.now) (map (λ part. part.now) history.now) (map (λ part. part.now) eth1.now) (map (λ part. part.now) registry.now) (map (λ part. part.now) pending.now) (map (λ part. part.now) finality.now)) }
 {
     let clock = read_clock(alloc, clock)?;
     let history = read_history(alloc, preset, history)?;
@@ -230,24 +233,4 @@ fn read_groups(
     let pending = read_pending(alloc, preset, pending)?;
     let finality = read_finality(alloc, finality)?;
     Ok(plain_state(preset, clock, history, eth1, registry, pending, finality))
-}
-
-/// Reads the fields of a state from its 21 parts.
-pub(crate) fn read_fields(
-    alloc: Global,
-    preset: &Preset,
-    parts: &[&[u8]],
-) -> Result<PlainState, SszFault>
-    requires preset { IsPreset preset.now }
-    requires count { length parts.now ≡ 21 }
-    ensures { ReadsAs result ((state_row preset.now).deserialize (map (λ part. part.now) parts.now)) }
-{
-    let (clock, parts) = parts.split_at(5);
-    let (history, parts) = parts.split_at(3);
-    let (eth1, parts) = parts.split_at(3);
-    let (registry, parts) = parts.split_at(4);
-    let (pending, finality) = parts.split_at(2);
-    read_groups(
-        alloc, preset, clock, history, eth1, registry, pending, finality,
-    )
 }

@@ -7,6 +7,7 @@ mod genesis;
 mod groups;
 mod in_range;
 mod lookups;
+mod parts;
 mod reading;
 mod roots;
 mod state;

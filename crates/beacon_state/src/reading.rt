@@ -1,14 +1,15 @@
 //! Reading a state: bytes come from the genesis file.
 
-ghost use Rattle.std.specs.Prelude.{◌≡◌, ◌<◌, ◌^◌, IfOk};
+ghost use Rattle.std.specs.Prelude.{◌≡◌, ◌<◌, ◌^◌, length, map, take, drop, IfOk};
 ghost use Rattle.ssz_codec.specs.Layout.{fixed_length};
+ghost use Rattle.ssz_codec.specs.Containers.{layout_of, all_read};
 ghost use Rattle.ssz_codec.specs.Reads.{ReadsAs, Reads};
 ghost use Rattle.bc_preset.specs.Presets.{IsPreset};
-ghost use Rattle.spec_state.specs.States.{state_row, state_codec};
+ghost use Rattle.spec_state.specs.States.{state_fields, state_codec};
 ghost use Rattle.spec_state.specs.Limits.{IsState, IsInRange};
 ghost use Rattle.beacon_state.specs.Writing.{HasWriting};
 
-use crate::groups::read_fields;
+use crate::groups::read_groups;
 use crate::state::State;
 use bc_preset::Preset;
 use spec_state::PlainState;
@@ -16,10 +17,10 @@ use ssz_codec::{Field, SszFault, cut};
 use std::alloc::Global;
 
 /// How the 21 fields stand in the fixed part.
-#[tactic(auto, unfolding(spec_state::specs::States::state_row, spec_state::specs::States::clock_row, spec_state::specs::States::history_row, spec_state::specs::States::eth1_row, spec_state::specs::States::registry_row, spec_state::specs::States::pending_row, spec_state::specs::States::finality_row), using(bc_preset::proofs::Bounds::preset_bounds))]
-pub(crate) fn state_fields(preset: &Preset) -> [Field; 21]
+#[tactic(auto, unfolding(spec_state::specs::States::state_fields), using(bc_preset::proofs::Bounds::preset_bounds))]
+pub(crate) fn state_layout(preset: &Preset) -> [Field; 21]
     requires { IsPreset preset.now }
-    ensures fields { result ≡ (state_row preset.now).fields }
+    ensures layout { result ≡ layout_of (state_fields preset.now) }
     ensures room { fixed_length result < 2 ^ 32 }
 {
     let roots = Field::Fixed(preset.slots_per_historical_root as usize * 32);
@@ -50,15 +51,31 @@ pub(crate) fn state_fields(preset: &Preset) -> [Field; 21]
     ]
 }
 
+/// Reads the fields of a state from its 21 parts.
+fn read_fields(alloc: Global, preset: &Preset, parts: &[&[u8]]) -> Result<PlainState, SszFault>
+    requires preset { IsPreset preset.now }
+    requires count { length parts.now ≡ 21 }
+    ensures { ReadsAs result ((state_fields preset.now).deserialize all_read (map (λ part. part.now) parts.now)) }
+{
+    let (clock, parts) = parts.split_at(5);
+    let (history, parts) = parts.split_at(3);
+    let (eth1, parts) = parts.split_at(3);
+    let (registry, parts) = parts.split_at(4);
+    let (pending, finality) = parts.split_at(2);
+    read_groups(
+        alloc, preset, clock, history, eth1, registry, pending, finality,
+    )
+}
+
 /// Reads the plain state.
 #[tactic(auto, unfolding(spec_state::specs::States::state_codec))]
 fn read_plain(alloc: Global, preset: &Preset, bytes: &[u8]) -> Result<PlainState, SszFault>
     requires { IsPreset preset.now }
     ensures { ReadsAs result ((state_codec preset.now).deserialize bytes.now) }
 {
-    let fields = state_fields(preset);
+    let layout = state_layout(preset);
     let mut parts = [bytes; 21];
-    cut(bytes, &fields, &mut parts)?;
+    cut(bytes, &layout, &mut parts)?;
     read_fields(alloc, preset, &parts)
 }
 

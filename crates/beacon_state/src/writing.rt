@@ -2,23 +2,25 @@
 
 ghost use Rattle.std.specs.Prelude.{◌≡◌, ◌++◌, Some, OnOk, IfOk};
 ghost use Rattle.ssz_codec.specs.Layout.{fixed_length};
-ghost use Rattle.spec_state.specs.States.{clock_row, history_row, eth1_row, registry_row, pending_row, finality_row, state_row, state_codec, clock_of, history_of, eth1_of, registry_of, pending_of, finality_of};
+ghost use Rattle.ssz_codec.specs.Containers.{layout_of, parts_of};
+ghost use Rattle.spec_state.specs.States.{state_fields, state_codec};
+ghost use Rattle.beacon_state.specs.inside.Groups.{clock_fields, history_fields, eth1_fields, registry_fields, pending_fields, finality_fields, clock_of, history_of, eth1_of, registry_of, pending_of, finality_of};
 ghost use Rattle.spec_state.specs.Limits.{IsState};
 ghost use Rattle.bc_preset.specs.Presets.{IsPreset};
 ghost use Rattle.bc_preset.specs.declared.presets.Preset.{Preset};
 ghost use Rattle.spec_state.specs.declared.plain.PlainState.{PlainState};
 ghost use Rattle.beacon_state.specs.Writing.{ListFits, HasWriting};
 
-use crate::reading::state_fields;
+use crate::reading::state_layout;
 use crate::state::State;
 use crate::written::{Written, join};
 use bc_preset::Preset;
 use bc_words::NoMemory;
 use std::alloc::Global;
 
-#[tactic(auto, unfolding(spec_state::specs::States::clock_row))]
+#[tactic(auto, unfolding(crate::specs::inside::Groups::clock_fields))]
 fn add_clock(alloc: Global, s: &State, out: &mut Written) -> Result<(), NoMemory>
-    ensures { OnOk result (out.new ≡ out.old ++ clock_row.parts (clock_of s.now)) }
+    ensures { OnOk result (out.new ≡ out.old ++ parts_of clock_fields (clock_of s.now)) }
 {
     out.add(alloc, &s.genesis_time())?;
     out.add(alloc, &s.genesis_validators_root())?;
@@ -28,9 +30,9 @@ fn add_clock(alloc: Global, s: &State, out: &mut Written) -> Result<(), NoMemory
     Ok(())
 }
 
-#[tactic(auto, unfolding(spec_state::specs::States::history_row))]
+#[tactic(auto, unfolding(crate::specs::inside::Groups::history_fields))]
 fn add_history(alloc: Global, s: &State, out: &mut Written) -> Result<(), NoMemory>
-    ensures { OnOk result (out.new ≡ out.old ++ (history_row s.now.preset).parts (history_of s.now)) }
+    ensures { OnOk result (out.new ≡ out.old ++ parts_of (history_fields s.now.preset) (history_of s.now)) }
 {
     out.add_items(alloc, s.block_roots())?;
     out.add_items(alloc, s.state_roots())?;
@@ -38,9 +40,9 @@ fn add_history(alloc: Global, s: &State, out: &mut Written) -> Result<(), NoMemo
     Ok(())
 }
 
-#[tactic(auto, unfolding(spec_state::specs::States::eth1_row))]
+#[tactic(auto, unfolding(crate::specs::inside::Groups::eth1_fields))]
 fn add_eth1(alloc: Global, s: &State, out: &mut Written) -> Result<(), NoMemory>
-    ensures { OnOk result (out.new ≡ out.old ++ (eth1_row s.now.preset).parts (eth1_of s.now)) }
+    ensures { OnOk result (out.new ≡ out.old ++ parts_of (eth1_fields s.now.preset) (eth1_of s.now)) }
 {
     out.add(alloc, &s.eth1_data())?;
     out.add_items(alloc, s.eth1_data_votes())?;
@@ -48,9 +50,9 @@ fn add_eth1(alloc: Global, s: &State, out: &mut Written) -> Result<(), NoMemory>
     Ok(())
 }
 
-#[tactic(auto, unfolding(spec_state::specs::States::registry_row))]
+#[tactic(auto, unfolding(crate::specs::inside::Groups::registry_fields))]
 fn add_registry(alloc: Global, s: &State, out: &mut Written) -> Result<(), NoMemory>
-    ensures { OnOk result (out.new ≡ out.old ++ (registry_row s.now.preset).parts (registry_of s.now)) }
+    ensures { OnOk result (out.new ≡ out.old ++ parts_of (registry_fields s.now.preset) (registry_of s.now)) }
 {
     out.add_items(alloc, s.validators())?;
     out.add_items(alloc, s.balances())?;
@@ -59,11 +61,11 @@ fn add_registry(alloc: Global, s: &State, out: &mut Written) -> Result<(), NoMem
     Ok(())
 }
 
-#[tactic(auto, unfolding(spec_state::specs::States::pending_row, crate::specs::Writing::ListFits), using(bc_preset::proofs::Bounds::preset_bounds))]
+#[tactic(auto, unfolding(crate::specs::inside::Groups::pending_fields, crate::specs::Writing::ListFits), using(bc_preset::proofs::Bounds::preset_bounds))]
 fn add_pending(alloc: Global, s: &State, out: &mut Written) -> Result<(), NoMemory>
     requires previous { ListFits s.now.previous_epoch_attestations }
     requires current { ListFits s.now.current_epoch_attestations }
-    ensures { OnOk result (out.new ≡ out.old ++ (pending_row s.now.preset).parts (pending_of s.now)) }
+    ensures { OnOk result (out.new ≡ out.old ++ parts_of (pending_fields s.now.preset) (pending_of s.now)) }
 {
     let _preset = s.preset();
     out.add_list(alloc, s.previous_epoch_attestations())?;
@@ -71,9 +73,9 @@ fn add_pending(alloc: Global, s: &State, out: &mut Written) -> Result<(), NoMemo
     Ok(())
 }
 
-#[tactic(auto, unfolding(spec_state::specs::States::finality_row))]
+#[tactic(auto, unfolding(crate::specs::inside::Groups::finality_fields))]
 fn add_finality(alloc: Global, s: &State, out: &mut Written) -> Result<(), NoMemory>
-    ensures { OnOk result (out.new ≡ out.old ++ finality_row.parts (finality_of s.now)) }
+    ensures { OnOk result (out.new ≡ out.old ++ parts_of finality_fields (finality_of s.now)) }
 {
     out.add(alloc, &s.justification_bits())?;
     out.add(alloc, &s.previous_justified_checkpoint())?;
@@ -83,10 +85,10 @@ fn add_finality(alloc: Global, s: &State, out: &mut Written) -> Result<(), NoMem
 }
 
 /// Writes each of the 21 fields.
-#[tactic(auto, unfolding(spec_state::specs::States::state_row))]
+#[tactic(auto, unfolding(spec_state::specs::States::state_fields, crate::specs::inside::Groups::clock_fields, crate::specs::inside::Groups::history_fields, crate::specs::inside::Groups::eth1_fields, crate::specs::inside::Groups::registry_fields, crate::specs::inside::Groups::pending_fields, crate::specs::inside::Groups::finality_fields))]
 fn write_fields(alloc: Global, s: &State) -> Result<Written, NoMemory>
     requires { HasWriting s.now }
-    ensures { IfOk result (λ out. out ≡ (state_row s.now.preset).parts s.now) }
+    ensures { IfOk result (λ out. out ≡ parts_of (state_fields s.now.preset) s.now) }
 {
     let mut out = Written::new(alloc);
     add_clock(alloc, s, &mut out)?;
@@ -99,10 +101,10 @@ fn write_fields(alloc: Global, s: &State) -> Result<Written, NoMemory>
 }
 
 /// The length of the fixed part.
-#[tactic(auto, unfolding(spec_state::specs::States::state_row, spec_state::specs::States::clock_row, spec_state::specs::States::history_row, spec_state::specs::States::eth1_row, spec_state::specs::States::registry_row, spec_state::specs::States::pending_row, spec_state::specs::States::finality_row), using(bc_preset::proofs::Bounds::preset_bounds))]
+#[tactic(auto, unfolding(spec_state::specs::States::state_fields), using(bc_preset::proofs::Bounds::preset_bounds))]
 fn head_of(preset: &Preset) -> u64
     requires { IsPreset preset.now }
-    ensures { result ≡ fixed_length (state_row preset.now).fields }
+    ensures { result ≡ fixed_length (layout_of (state_fields preset.now)) }
 {
     let roots = 32 * preset.slots_per_historical_root;
     let mixes = 32 * preset.epochs_per_historical_vector;
@@ -117,8 +119,8 @@ fn write_plain(alloc: Global, s: &State) -> Result<Vec<u8>, NoMemory>
     ensures { IfOk result (λ bytes. bytes.items ≡ (state_codec s.now.preset).serialize s.now) }
 {
     let parts = write_fields(alloc, s)?;
-    let fields = state_fields(s.preset());
-    join(alloc, &fields, &parts, head_of(s.preset()))
+    let layout = state_layout(s.preset());
+    join(alloc, &layout, &parts, head_of(s.preset()))
 }
 
 impl State {

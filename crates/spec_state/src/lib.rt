@@ -5,9 +5,7 @@
 #![tactic(auto)]
 
 mod fault;
-mod parts;
 mod plain;
 
 pub use fault::{GenesisFault, ValidatorFault};
-pub use parts::{Clock, Eth1, Finality, History, Pending, Registry};
 pub use plain::PlainState;

@@ -93,13 +93,23 @@ abbrev pub all_read : {S : Type 0} → S → List (List ℕ) → Option S
 all_read s [] = Some s
 all_read s (part ∷ parts) = None
 
+-- how all fields stand in the fixed part, and the parts and roots of all fields of a container
+abbrev pub layout_of : {S B : Type 0} → Fields S B → List Field
+layout_of q = q.layout []
+
+abbrev pub parts_of : {S B : Type 0} → Fields S B → S → List (List ℕ)
+parts_of q s = q.parts (q.values s) []
+
+abbrev pub roots_of : {S B : Type 0} → Fields S B → S → List (List ℕ)
+roots_of q s = q.roots (q.values s) []
+
 -- The container of the fields. Its root is that of the fields' roots, in the tree over as many leaves as it has fields.
 abbrev pub container_of : {S : Type 0} → Fields S S → Codec S
 container_of q = record {
-  field = field_of (q.layout []);
+  field = field_of (layout_of q);
   basic = false;
-  Within = λ s. q.Within (q.values s) × OffsetsFit (q.layout []) (q.parts (q.values s) []) (fixed_length (q.layout []));
-  serialize = λ s. joined (q.layout []) (q.parts (q.values s) []);
-  deserialize = λ bytes. cut (q.layout []) bytes and_then λ parts. q.deserialize all_read parts;
-  hash_tree_root = λ s. merkleize (q.roots (q.values s) []) (length (q.layout []));
+  Within = λ s. q.Within (q.values s) × OffsetsFit (layout_of q) (parts_of q s) (fixed_length (layout_of q));
+  serialize = λ s. joined (layout_of q) (parts_of q s);
+  deserialize = λ bytes. cut (layout_of q) bytes and_then λ parts. q.deserialize all_read parts;
+  hash_tree_root = λ s. merkleize (roots_of q s) (length (layout_of q));
 }

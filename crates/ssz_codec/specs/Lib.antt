@@ -4,7 +4,6 @@ pub mod Basic
 pub mod BitLists
 pub mod Lists
 pub mod Containers
-pub mod Rows
 pub mod Lawful
 pub mod Reads
 pub mod Offsets

@@ -3,4 +3,3 @@ pub mod Basic
 pub mod BitLists
 pub mod Lists
 pub mod Containers
-pub mod Rows

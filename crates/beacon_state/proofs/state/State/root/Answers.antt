@@ -1,10 +1,10 @@
 use Rattle.std.proofs.Common.{refl}
-use Rattle.spec_state.specs.States.{clock_row, history_row, eth1_row, registry_row, pending_row, finality_row, state_row, state_codec}
+use Rattle.spec_state.specs.States.{state_fields, state_codec}
 use Rattle.beacon_state.proofs.state.State.root.Goals as goal
 
 -- the root of each field, and what it is taken of
 pub returns : goal.returns
-unfolding clock_row history_row eth1_row registry_row pending_row finality_row state_row state_codec
+unfolding state_fields state_codec
 returns c = rw (
   c.fields_root.ensures,
   c.root.ensures,

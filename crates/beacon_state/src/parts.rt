@@ -6,7 +6,7 @@ use ssz_codec::Items;
 
 /// The first five fields: where the chain stands.
 #[derive(Drop)]
-pub struct Clock {
+pub(crate) struct Clock {
     /// When the chain began, in seconds since 1970.
     pub genesis_time: u64,
     /// The root of the validators at the beginning.
@@ -21,7 +21,7 @@ pub struct Clock {
 
 /// The next three: roots of blocks and states.
 #[derive(Drop)]
-pub struct History {
+pub(crate) struct History {
     /// The roots of the latest blocks, by slot.
     pub block_roots: Items<Root>,
     /// The roots of the latest states, by slot.
@@ -32,7 +32,7 @@ pub struct History {
 
 /// The next three: the deposit contract.
 #[derive(Drop)]
-pub struct Eth1 {
+pub(crate) struct Eth1 {
     /// What is known of the deposit contract.
     pub eth1_data: Eth1Data,
     /// The votes for it in this period.
@@ -43,7 +43,7 @@ pub struct Eth1 {
 
 /// The next four: validators and what is kept by epoch.
 #[derive(Drop)]
-pub struct Registry {
+pub(crate) struct Registry {
     /// The registry.
     pub validators: Items<Validator>,
     /// The balance of each validator, in Gwei.
@@ -56,7 +56,7 @@ pub struct Registry {
 
 /// The next two: attestations that wait for the epoch's end.
 #[derive(Drop)]
-pub struct Pending {
+pub(crate) struct Pending {
     /// The attestations of the previous epoch.
     pub previous_epoch_attestations: Items<PendingAttestation>,
     /// The attestations of the current epoch.
@@ -65,7 +65,7 @@ pub struct Pending {
 
 /// The last four: justification and finality.
 #[derive(Drop)]
-pub struct Finality {
+pub(crate) struct Finality {
     /// Which of the latest four epochs are justified, the current one first.
     pub justification_bits: [bool; 4],
     /// The justified checkpoint of the previous epoch.
