@@ -5,3 +5,4 @@ pub mod Accessors
 pub mod States
 pub mod Limits
 pub mod Genesis
+pub mod Soundness

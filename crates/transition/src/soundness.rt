@@ -1,0 +1,56 @@
+//! Sound states: the condition of the state transition's calls.
+
+ghost use Rattle.std.specs.Prelude.{◌≡◌, ◌↔◌, ◌&&◌, IsTrue, IfOk, None};
+ghost use Rattle.spec_state.specs.declared.plain.PlainState.{PlainState};
+ghost use Rattle.spec_state.specs.Genesis.{genesis_fault};
+ghost use Rattle.spec_state.specs.Soundness.{IsSound, IsSoundWithinEpoch};
+ghost use Rattle.transition.specs.inside.Tests.{figures_test};
+
+use crate::pending::{Pending, attestations_are_sound, epoch_of};
+use bc_words::NoMemory;
+use beacon_state::State;
+use std::alloc::Global;
+
+/// Whether balances, header and checkpoints are sound, and nothing is pending before the first epoch.
+fn figures_are_sound(state: &State) -> bool
+    ensures { result ≡ figures_test state.now }
+{
+    let previous = epoch_of(state, Pending::Previous);
+    let current = epoch_of(state, Pending::Current);
+    state.balances_len() == state.validators_len()
+        && state.latest_block_header().slot <= state.slot()
+        && state.previous_justified_checkpoint().epoch <= previous
+        && state.current_justified_checkpoint().epoch <= previous
+        && state.finalized_checkpoint().epoch <= previous
+        && (current != 0 || state.previous_epoch_attestations_len() == 0)
+}
+
+/// Whether all three hold.
+fn all_hold(figures: bool, previous: bool, current: bool) -> bool
+    ensures { result ≡ (figures && (previous && current)) }
+{
+    figures && previous && current
+}
+
+/// Whether the state is sound, so that it may be given to the state transition.
+#[tactic(auto, using(crate::proofs::Tests::sound_exactly))]
+pub fn is_sound(alloc: Global, state: &State) -> Result<bool, NoMemory>
+    ensures { IfOk result (λ sound. IsTrue sound ↔ IsSound state.now) }
+{
+    let _preset = state.preset();
+    let previous = attestations_are_sound(alloc, state, Pending::Previous)?;
+    let current = attestations_are_sound(alloc, state, Pending::Current)?;
+    Ok(all_hold(figures_are_sound(state), previous, current))
+}
+
+/// The law that a genesis that the check accepts is sound. It does nothing when it runs.
+pub fn genesis_is_sound()
+    ensures { (state : PlainState) → genesis_fault state ≡ None → IsSound state }
+{}
+
+/// The law that a sound state has what the parts of epoch processing behind justification need. It does nothing when it
+/// runs.
+#[tactic(auto, using(crate::proofs::Tests::also_within))]
+pub fn sound_within_epoch()
+    ensures { (state : PlainState) → IsSound state → IsSoundWithinEpoch state }
+{}
