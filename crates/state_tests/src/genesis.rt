@@ -84,7 +84,7 @@ fn place_validators(bytes: &mut Vec<u8>) {
 }
 
 /// A genesis of 64 validators.
-fn genesis(alloc: Global) -> Result<Vec<u8>, AllocError> {
+pub fn genesis(alloc: Global) -> Result<Vec<u8>, AllocError> {
     let mut bytes = vec![in alloc; 0; 15_313]?;
     place_fields(&mut bytes);
     place_offsets(&mut bytes);
