@@ -3,7 +3,7 @@
 use Rattle.std.specs.Prelude.{List, Bool}
 use Rattle.ssz_codec.specs.Codec.{Codec}
 use Rattle.ssz_codec.specs.Containers.{Fields, fields_of, ◌▹◌∶◌, container_of}
-use Rattle.ssz_codec.specs.Basic.{uint64, boolean, bytes4, bytes32, bytes48}
+use Rattle.ssz_codec.specs.Basic.{uint64, boolean, bytes4, bytes32, bytes48, bytes96}
 use Rattle.ssz_codec.specs.BitLists.{bitlist}
 use Rattle.beacon_types.specs.declared.pending_attestation.PendingAttestation.{PendingAttestation}
 use Rattle.beacon_types.specs.declared.fork.Fork.{Fork}
@@ -13,6 +13,9 @@ use Rattle.beacon_types.specs.declared.attestation_data.AttestationData.{Attesta
 use Rattle.beacon_types.specs.declared.eth1_data.Eth1Data.{Eth1Data}
 use Rattle.beacon_types.specs.declared.block_header.BeaconBlockHeader.{BeaconBlockHeader}
 use Rattle.beacon_types.specs.declared.voluntary_exit.VoluntaryExit.{VoluntaryExit}
+use Rattle.beacon_types.specs.declared.deposit_data.DepositData.{DepositData}
+use Rattle.beacon_types.specs.declared.signed_header.SignedBeaconBlockHeader.{SignedBeaconBlockHeader}
+use Rattle.beacon_types.specs.declared.signed_exit.SignedVoluntaryExit.{SignedVoluntaryExit}
 
 -- Fork
 abbrev pub fork_fields : Fields Fork Fork
@@ -105,3 +108,32 @@ pending_attestation_fields = fields_of (λ bits content delay proposer. record {
 
 abbrev pub pending_attestation_codec : Codec PendingAttestation
 pending_attestation_codec = container_of pending_attestation_fields
+
+-- DepositData
+abbrev pub deposit_data_fields : Fields DepositData DepositData
+deposit_data_fields = fields_of (λ pubkey withdrawal_credentials amount signature. record { pubkey = pubkey; withdrawal_credentials = withdrawal_credentials; amount = amount; signature = signature })
+    ▹ (λ v. v.pubkey) ∶ bytes48
+    ▹ (λ v. v.withdrawal_credentials) ∶ bytes32
+    ▹ (λ v. v.amount) ∶ uint64
+    ▹ (λ v. v.signature) ∶ bytes96
+
+abbrev pub deposit_data_codec : Codec DepositData
+deposit_data_codec = container_of deposit_data_fields
+
+-- SignedBeaconBlockHeader
+abbrev pub signed_header_fields : Fields SignedBeaconBlockHeader SignedBeaconBlockHeader
+signed_header_fields = fields_of (λ message signature. record { message = message; signature = signature })
+    ▹ (λ v. v.message) ∶ block_header_codec
+    ▹ (λ v. v.signature) ∶ bytes96
+
+abbrev pub signed_header_codec : Codec SignedBeaconBlockHeader
+signed_header_codec = container_of signed_header_fields
+
+-- SignedVoluntaryExit
+abbrev pub signed_exit_fields : Fields SignedVoluntaryExit SignedVoluntaryExit
+signed_exit_fields = fields_of (λ message signature. record { message = message; signature = signature })
+    ▹ (λ v. v.message) ∶ voluntary_exit_codec
+    ▹ (λ v. v.signature) ∶ bytes96
+
+abbrev pub signed_exit_codec : Codec SignedVoluntaryExit
+signed_exit_codec = container_of signed_exit_fields

@@ -4,7 +4,7 @@ use Rattle.ssz_codec.specs.Lawful.{IsLawful, IsFixed}
 use Rattle.ssz_codec.specs.laws.Containers.{start, ◌▸◌, container_of_lawful}
 use Rattle.ssz_codec.specs.laws.Basic.{uint64_lawful, boolean_lawful, bytes_lawful, bytes32_lawful}
 use Rattle.ssz_codec.specs.laws.BitLists.{bitlist_lawful}
-use Rattle.beacon_types.specs.Containers.{fork_fields, fork_codec, checkpoint_fields, checkpoint_codec, validator_fields, validator_codec, attestation_data_fields, attestation_data_codec, eth1_data_fields, eth1_data_codec, block_header_fields, block_header_codec, voluntary_exit_fields, voluntary_exit_codec, aggregation_bits_codec, pending_attestation_fields, pending_attestation_codec}
+use Rattle.beacon_types.specs.Containers.{fork_fields, fork_codec, checkpoint_fields, checkpoint_codec, validator_fields, validator_codec, attestation_data_fields, attestation_data_codec, eth1_data_fields, eth1_data_codec, block_header_fields, block_header_codec, voluntary_exit_fields, voluntary_exit_codec, aggregation_bits_codec, pending_attestation_fields, pending_attestation_codec, deposit_data_fields, deposit_data_codec, signed_header_fields, signed_header_codec, signed_exit_fields, signed_exit_codec}
 
 pub fork_lawful : IsLawful fork_codec
 fork_lawful = container_of_lawful fork_fields (λ v. refl) (λ a. refl) (start ▸ bytes_lawful 4 ▸ bytes_lawful 4 ▸ uint64_lawful)
@@ -37,7 +37,16 @@ pub pending_attestation_lawful : IsLawful pending_attestation_codec
 pending_attestation_lawful = container_of_lawful pending_attestation_fields (λ v. refl) (λ a. refl)
     (start ▸ aggregation_bits_lawful ▸ attestation_data_lawful ▸ uint64_lawful ▸ uint64_lawful)
 
--- each but the last is of fixed size
+pub deposit_data_lawful : IsLawful deposit_data_codec
+deposit_data_lawful = container_of_lawful deposit_data_fields (λ v. refl) (λ a. refl) (start ▸ bytes_lawful 48 ▸ bytes32_lawful ▸ uint64_lawful ▸ bytes_lawful 96)
+
+pub signed_header_lawful : IsLawful signed_header_codec
+signed_header_lawful = container_of_lawful signed_header_fields (λ v. refl) (λ a. refl) (start ▸ block_header_lawful ▸ bytes_lawful 96)
+
+pub signed_exit_lawful : IsLawful signed_exit_codec
+signed_exit_lawful = container_of_lawful signed_exit_fields (λ v. refl) (λ a. refl) (start ▸ voluntary_exit_lawful ▸ bytes_lawful 96)
+
+-- those of fixed size
 pub fork_fixed : IsFixed fork_codec.field
 fork_fixed = omega arith
 
@@ -58,3 +67,12 @@ block_header_fixed = omega arith
 
 pub voluntary_exit_fixed : IsFixed voluntary_exit_codec.field
 voluntary_exit_fixed = omega arith
+
+pub deposit_data_fixed : IsFixed deposit_data_codec.field
+deposit_data_fixed = omega arith
+
+pub signed_header_fixed : IsFixed signed_header_codec.field
+signed_header_fixed = omega arith
+
+pub signed_exit_fixed : IsFixed signed_exit_codec.field
+signed_exit_fixed = omega arith
