@@ -9,7 +9,7 @@ use beacon_types::{
     AttestationData, BeaconBlockHeader, Checkpoint, Eth1Data, Fork, PendingAttestation, Validator,
 };
 use hash_tree::Root;
-use ssz_codec::{Ssz, reads_back};
+use ssz_codec::Ssz;
 use std::alloc::Global;
 
 /// A value of a list of the state.
@@ -78,22 +78,9 @@ impl InRange for PendingAttestation {
     ) -> Result<Vec<PendingAttestation>, NoMemory> {
         let mut copies = Vec::with_capacity(alloc, values.len())?;
         for attestation in values {
-            copies.push(copy_of(alloc, attestation)?)?;
+            copies.push(attestation.copy()?)?;
         }
         Ok(copies)
-    }
-}
-
-/// The attestation once more: what its writing reads as.
-fn copy_of(alloc: Global, attestation: &PendingAttestation) -> Result<PendingAttestation, NoMemory>
-    ensures { IfOk result (λ copy. copy ≡ attestation.now) }
-{
-    attestation_in_range(attestation);
-    reads_back::<PendingAttestation>();
-    let bytes = attestation.write(alloc)?;
-    match PendingAttestation::read(alloc, &bytes) {
-        Ok(copy) => Ok(copy),
-        Err(_) => Err(NoMemory),
     }
 }
 

@@ -1,6 +1,6 @@
 //! An attestation that waits in the state for the end of its epoch.
 
-ghost use Rattle.std.specs.Prelude.{◌≡◌, ◌==◌, ◌≤◌, length, slice_get, refl};
+ghost use Rattle.std.specs.Prelude.{◌≡◌, ◌==◌, ◌≤◌, length, slice_get, refl, IfOk, IsTrue, ◌↔◌};
 ghost use Rattle.beacon_types.specs.Containers.{aggregation_bits_codec, pending_attestation_codec};
 ghost use Rattle.beacon_types.specs.laws.Containers.{aggregation_bits_lawful, pending_attestation_lawful};
 
@@ -67,6 +67,24 @@ impl AggregationBits {
     }
 }
 
+impl AggregationBits {
+    /// The same bits once more.
+    pub fn copy(&self) -> Result<AggregationBits, NoMemory>
+        ensures { IfOk result (λ bits. bits ≡ self.now) }
+    {
+        let _len = self.len();
+        let bits = self.bits.copy()?;
+        Ok(AggregationBits { bits })
+    }
+
+    /// Whether these are the same bits.
+    pub fn equals(&self, other: &AggregationBits) -> bool
+        ensures { IsTrue result ↔ (self.now ≡ other.now) }
+    {
+        self.bits.equals(&other.bits)
+    }
+}
+
 impl Leaf for AggregationBits {
     ghost root_of = { aggregation_bits_codec.hash_tree_root };
 
@@ -107,6 +125,31 @@ pub struct PendingAttestation {
     pub inclusion_delay: u64,
     /// Who proposed that block.
     pub proposer_index: u64,
+}
+
+impl PendingAttestation {
+    /// The same attestation once more.
+    pub fn copy(&self) -> Result<PendingAttestation, NoMemory>
+        ensures { IfOk result (λ copy. copy ≡ self.now) }
+    {
+        let aggregation_bits = self.aggregation_bits.copy()?;
+        Ok(PendingAttestation {
+            aggregation_bits,
+            content: self.content,
+            inclusion_delay: self.inclusion_delay,
+            proposer_index: self.proposer_index,
+        })
+    }
+
+    /// Whether it is the same attestation.
+    pub fn equals(&self, other: &PendingAttestation) -> bool
+        ensures { IsTrue result ↔ (self.now ≡ other.now) }
+    {
+        self.aggregation_bits.equals(&other.aggregation_bits)
+            && self.content == other.content
+            && self.inclusion_delay == other.inclusion_delay
+            && self.proposer_index == other.proposer_index
+    }
 }
 
 impl Leaf for PendingAttestation {

@@ -2,7 +2,7 @@
 //!
 //! Bytes come from containers; bits go to those who look up which members attested, and roots to the containers.
 
-ghost use Rattle.std.specs.Prelude.{◌≡◌, ℕ, ◌+◌, ◌*◌, ◌/◌, ◌^◌, ◌<◌, ◌≤◌, List, Bool, length, slice_get, take, OnOk, OnErr, IfOk, Some, ◌++◌, ◌==◌};
+ghost use Rattle.std.specs.Prelude.{◌≡◌, ℕ, ◌+◌, ◌*◌, ◌/◌, ◌^◌, ◌<◌, ◌≤◌, List, Bool, length, slice_get, take, OnOk, OnErr, IfOk, IsTrue, ◌↔◌, Some, ◌++◌, ◌==◌};
 ghost use Rattle.hash_tree.specs.Merkle.{byte_chunks, bit_chunk_count};
 ghost use Rattle.ssz_codec.specs.Basic.{number_bits};
 ghost use Rattle.ssz_codec.specs.BitLists.{parse_bit_list, bit_list_bytes, bitlist};
@@ -69,6 +69,24 @@ impl BitList {
         }
         let byte = self.bytes[(index / 8) as usize];
         Some(byte >> (index % 8) & 1 == 1)
+    }
+
+    /// The same bits once more.
+    pub fn copy(&self) -> Result<BitList, NoMemory>
+        ensures { IfOk result (λ bits. bits ≡ self.now) }
+    {
+        let bytes = Vec::from_slice(*self.bytes.allocator(), &self.bytes)?;
+        Ok(BitList {
+            bytes,
+            len: self.len,
+        })
+    }
+
+    /// Whether these are the same bits.
+    pub fn equals(&self, other: &BitList) -> bool
+        ensures { IsTrue result ↔ (self.now ≡ other.now) }
+    {
+        self.len == other.len && self.bytes == other.bytes
     }
 
     /// The writing, behind what is written already. Where memory is refused, a part of it may stand there.

@@ -1,6 +1,6 @@
 //! A list of values, which contracts see as the list alone.
 
-ghost use Rattle.std.specs.Prelude.{◌≡◌, ◌==◌, [], ◌∷◌, ◌++◌, length, slice_get, OnOk, OnErr};
+ghost use Rattle.std.specs.Prelude.{◌≡◌, ◌==◌, [], ◌∷◌, ◌++◌, length, slice_get, OnOk, OnErr, IfOk};
 ghost use Rattle.std.specs.Option.{option_map};
 
 use bc_words::NoMemory;
@@ -82,5 +82,15 @@ impl<T: Drop> Items<T> {
     {
         self.values.push(value)?;
         Ok(())
+    }
+}
+
+impl<T: Copy> Items<T> {
+    /// The same values once more.
+    pub fn copy(&self) -> Result<Items<T>, NoMemory>
+        ensures { IfOk result (λ items. items ≡ self.now) }
+    {
+        let values = Vec::from_slice(*self.values.allocator(), self.values.as_slice())?;
+        Ok(Items { values })
     }
 }

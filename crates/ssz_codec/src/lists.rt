@@ -1,6 +1,7 @@
 //! Reading vectors and lists: the bytes come from the readers of containers.
 
-ghost use Rattle.std.specs.Prelude.{◌≡◌, ◌<◌, ◌≤◌, ◌*◌, ◌/◌, ◌^◌, length, map, replicate, MatchResult, Some};
+ghost use Rattle.std.specs.Prelude.{◌≡◌, ◌<◌, ◌≤◌, ◌*◌, ◌/◌, ◌^◌, ◌++◌, length, take, map, replicate, MatchResult, OnOk, OnErr, Some};
+ghost use Rattle.std.specs.List.{flat_map};
 ghost use Rattle.ssz_codec.specs.declared.layout.Field.TheVariants.{Variable};
 ghost use Rattle.ssz_codec.specs.Lists.{parse_items, parse_list, parse_parts, parse_variable_list};
 ghost use Rattle.ssz_codec.specs.Layout.{cut};
@@ -10,6 +11,8 @@ use crate::fault::SszFault;
 use crate::items::Items;
 use crate::layout::{self, Field};
 use crate::ssz::Ssz;
+use crate::writer::Writer;
+use bc_words::NoMemory;
 use std::alloc::Global;
 
 /// Reads so many values of fixed size, one after another: a vector. The size is the codec's.
@@ -103,4 +106,15 @@ pub fn read_variable_list<T: Ssz>(
     }
     let parts = cut_list(alloc, bytes, count)?;
     read_parts(alloc, &parts)
+}
+
+/// Writes values one after another. Where memory is refused, some of them may stand there.
+pub fn append_items<T: Ssz>(values: &[T], out: &mut Writer) -> Result<(), NoMemory>
+    ensures ok { OnOk result (out.new ≡ out.old ++ flat_map T.codec.serialize values.now) }
+    ensures err { OnErr result (take (length out.old) out.new ≡ out.old) }
+{
+    for value in values {
+        value.write_to(out)?;
+    }
+    Ok(())
 }

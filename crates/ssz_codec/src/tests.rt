@@ -1,6 +1,9 @@
 //! Cutting, writing and reading lists, each once.
 
+ghost use Rattle.std.proofs.Common.{rules};
+
 use super::*;
+use hash_tree::Root;
 use std::test::Fail;
 
 /// How many bytes are taken, or 99.
@@ -46,5 +49,31 @@ fn written_and_read(rt: HostRuntime) -> Result<(), Fail> {
     let bools = read_variable_list::<bool>(rt.alloc(), &listed, 2);
     assert!(rt; bools.is_err());
     assert_eq!(rt; read_variable_list::<bool>(rt.alloc(), &[], 2)?.len(), 0);
+    Ok(())
+}
+
+/// The limit of a short list.
+#[derive(Drop)]
+struct Two;
+
+impl ListLimit for Two {
+    ghost LIMIT = { 2 };
+
+    const LIMIT: u64 = 2;
+
+    ghost low = { Prim.search rules };
+}
+
+#[test]
+fn limited_and_copied(rt: HostRuntime) -> Result<(), Fail> {
+    let bytes = [7; 96];
+    let roots = LimitedList::<Root, Two>::read(rt.alloc(), &bytes[..64])?;
+    assert_eq!(rt; roots.len(), 2);
+    assert_eq!(rt; roots.write(rt.alloc())?.as_slice(), &bytes[..64]);
+    assert!(rt; LimitedList::<Root, Two>::read(rt.alloc(), &bytes).is_err());
+    let bits = BitList::read(rt.alloc(), b"\x0b", 3)?;
+    let copy = bits.copy()?;
+    assert!(rt; bits.equals(&copy));
+    assert_eq!(rt; copy.write(rt.alloc())?.as_slice(), b"\x0b".as_slice());
     Ok(())
 }
