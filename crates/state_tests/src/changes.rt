@@ -4,7 +4,7 @@ use crate::genesis::genesis;
 use bc_preset::Preset;
 use bc_words::PushStop;
 use beacon_state::State;
-use beacon_types::{Checkpoint, Eth1Data};
+use beacon_types::{Checkpoint, Eth1Data, Validator};
 use std::process::Abort;
 use std::test::Fail;
 use transition::is_sound;
@@ -36,31 +36,41 @@ fn fields_change(rt: &impl Abort, state: &mut State) {
     assert_eq!(rt; state.justification_bits(), [true, false, true, false]);
 }
 
-/// Vectors, and the registry.
-fn places_change(rt: &impl Abort, state: &mut State) -> Result<(), Fail> {
+/// Validators and balances.
+fn registry_changes(rt: &impl Abort, state: &mut State) -> Result<(), Fail> {
     assert_eq!(rt; state.validators_len(), 64);
     assert_eq!(rt; state.balances_len(), 64);
-    let Some(last) = state.validators_at(63) else {
-        return Ok(());
+    let validator = Validator {
+        pubkey: [9; 48],
+        withdrawal_credentials: [0; 32],
+        effective_balance: 1,
+        slashed: true,
+        activation_eligibility_epoch: 2,
+        activation_epoch: 3,
+        exit_epoch: 4,
+        withdrawable_epoch: 5,
     };
-    let mut last = *last;
-    last.slashed = true;
-    state.set_validators_at(0, last)?;
+    state.set_validators_at(0, validator)?;
     state.set_balances_at(63, 7)?;
-    state.push_validators(last)?;
+    state.push_validators(validator)?;
     state.push_balances(8)?;
-    assert_eq!(rt; state.validators_at(64), Some(&last));
-    assert_eq!(rt; state.validators_at(65), None);
+    assert_eq!(rt; state.validators_at(0), Some(&validator));
+    assert_eq!(rt; state.validators_at(64), Some(&validator));
     assert_eq!(rt; state.balances_at(63), Some(7));
     assert_eq!(rt; state.balances_at(64), Some(8));
-    if state.block_roots_len() == 64 && state.state_roots_len() == 64 {
-        state.set_block_roots_at(63, [5; 32])?;
-        state.set_state_roots_at(0, [6; 32])?;
-    }
-    if state.randao_mixes_len() == 64 && state.slashings_len() == 64 {
-        state.set_randao_mixes_at(1, [7; 32])?;
-        state.set_slashings_at(2, 9)?;
-    }
+    Ok(())
+}
+
+/// Vectors.
+fn vectors_change(rt: &impl Abort, state: &mut State) -> Result<(), Fail> {
+    assert_eq!(rt; state.block_roots_len(), 64);
+    assert_eq!(rt; state.state_roots_len(), 64);
+    assert_eq!(rt; state.randao_mixes_len(), 64);
+    assert_eq!(rt; state.slashings_len(), 64);
+    state.set_block_roots_at(63, [5; 32])?;
+    state.set_state_roots_at(0, [6; 32])?;
+    state.set_randao_mixes_at(1, [7; 32])?;
+    state.set_slashings_at(2, 9)?;
     assert_eq!(rt; state.block_roots_at(63), Some(&[5; 32]));
     assert_eq!(rt; state.state_roots_at(0), Some(&[6; 32]));
     assert_eq!(rt; state.randao_mixes_at(1), Some(&[7; 32]));
@@ -76,11 +86,17 @@ fn votes_fill(rt: &impl Abort, state: &mut State) -> Result<(), Fail> {
     assert_eq!(rt; state.push_eth1_data_votes(VOTE), Err(PushStop::Full));
     assert_eq!(rt; state.eth1_data_votes_len(), 32);
     assert_eq!(rt; state.eth1_data_votes_at(31), Some(&VOTE));
+    Ok(())
+}
+
+/// Lists that are emptied, moved or grow at an epoch's end.
+fn lists_change(rt: &impl Abort, state: &mut State) -> Result<(), Fail> {
     state.clear_eth1_data_votes()?;
     assert_eq!(rt; state.eth1_data_votes_len(), 0);
     state.push_historical_roots([8; 32])?;
     assert_eq!(rt; state.historical_roots_at(0), Some(&[8; 32]));
     state.rotate_attestations()?;
+    assert_eq!(rt; state.current_epoch_attestations_len(), 0);
     Ok(())
 }
 
@@ -108,9 +124,10 @@ fn state_changes(rt: &(impl AllocGlobal + Abort), state: &mut State) -> Result<(
     soundness_goes(rt, state)?;
     share_stays(rt, state)?;
     fields_change(rt, state);
-    places_change(rt, state)?;
+    registry_changes(rt, state)?;
+    vectors_change(rt, state)?;
     votes_fill(rt, state)?;
-    Ok(())
+    lists_change(rt, state)
 }
 
 #[test]
