@@ -115,12 +115,11 @@ impl<'a, R: Files> DiskShelf<'a, R> {
         }
     }
 
-    /// The last fault: the place of the file's name among those that were asked for, counted from 0, and its cause.
-    pub fn last_fault(&self) -> Option<(usize, &Error)> {
-        match &self.cause {
-            Some(error) => Some((self.last, error)),
-            None => None,
-        }
+    /// The last fault: the name of the file that it fell on, and its cause.
+    pub fn last_fault(&self) -> Option<(&[u8], &Error)> {
+        let name = self.asked.get(self.last)?;
+        let error = self.cause.as_ref()?;
+        Some((name.as_bytes(), error))
     }
 
     // Opens a file, for which there is room.

@@ -3,14 +3,26 @@
 use crate::status::Status;
 use crate::words::replay_files;
 use std::fmt;
+use std::io::Error;
+
+/// Why the outside failed: the name of the file that was asked for, where it was one, and the operating system's cause.
+#[derive(Clone, Copy)]
+pub struct Cause<'a> {
+    /// The file's name.
+    pub name: Option<&'a str>,
+    /// What the operating system said.
+    pub error: &'a Error,
+}
 
 /// A status beside the words that it answers. It prints one line.
 #[derive(Drop)]
-pub struct Explanation<'a> {
+pub struct Explanation<'a, 'b> {
     /// The status.
     pub status: &'a Status,
     /// The command words.
     pub words: &'a [String],
+    /// Why the outside failed, where it is known.
+    pub cause: Option<Cause<'b>>,
 }
 
 /// The names of the three files, or placeholders where the words are no command.
@@ -21,7 +33,26 @@ fn names_in(words: &[String]) -> (&str, &str, &str) {
     }
 }
 
-impl fmt::Display for Explanation<'_> {
+/// A fault of the outside, with what is known of its cause.
+fn write_cause<W: fmt::Write>(
+    f: &mut fmt::Formatter<W>,
+    status: &str,
+    what: &str,
+    cause: Option<Cause<'_>>,
+) -> fmt::Result {
+    match cause {
+        Some(
+            Cause {
+                name: Some(name),
+                error,
+            },
+        ) => write!(f, "{status}: {name:?}: {error}"),
+        Some(Cause { name: None, error }) => write!(f, "{status}: {what}: {error}"),
+        None => write!(f, "{status}: {what}"),
+    }
+}
+
+impl fmt::Display for Explanation<'_, '_> {
     fn fmt<W: fmt::Write>(&self, f: &mut fmt::Formatter<W>) -> fmt::Result {
         let (config, genesis, record) = names_in(self.words);
         match self.status {
@@ -32,14 +63,26 @@ impl fmt::Display for Explanation<'_> {
             ),
             Status::Config(fault) => write!(f, "Config: {config:?}: {fault}"),
             Status::Genesis(part) => write!(f, "Genesis: {genesis:?}: {part}"),
+            Status::Record {
+                event: 0,
+                fault,
+                ..
+            } => write!(f, "Record: {record:?}: at its head: {fault}"),
             Status::Record { event, fault, .. } => {
                 write!(f, "Record: {record:?}: event {event}: {fault}")
             }
-            Status::ReadFault => write!(
+            Status::ReadFault => write_cause(
                 f,
-                "ReadFault: {config:?}, {genesis:?} or {record:?} could not be opened or read"
+                "ReadFault",
+                "a file could not be opened or read",
+                self.cause,
             ),
-            Status::WriteFault => write!(f, "WriteFault: the lines could not be written"),
+            Status::WriteFault => write_cause(
+                f,
+                "WriteFault",
+                "the lines could not be written",
+                self.cause,
+            ),
             Status::NoMemory => write!(f, "NoMemory: memory ran out"),
         }
     }

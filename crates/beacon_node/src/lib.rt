@@ -5,13 +5,17 @@ mod events;
 mod explanation;
 mod genesis;
 mod lines;
+mod program;
 mod reading;
 mod replay;
 mod status;
 mod store;
+#[cfg(test)]
+mod tests;
 mod top;
 mod words;
 
-pub use explanation::Explanation;
+pub use explanation::{Cause, Explanation};
+pub use program::run;
 pub use status::Status;
 pub use top::beacon_main;

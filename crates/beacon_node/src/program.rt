@@ -1,0 +1,85 @@
+//! The program over a runtime: its words, the disk and standard output go to `beacon_main`, and its status to the caller.
+
+use crate::explanation::{Cause, Explanation};
+use crate::status::Status;
+use crate::top::beacon_main;
+use bc_outside::{DiskShelf, StdSink};
+use std::io::{Eprint, Print};
+use std::rt::{Env, Files};
+use std::{env, io};
+
+/// The words behind the program's name. A word that isn't text is none of a command.
+fn words_of<R: Env + AllocGlobal>(rt: &R) -> Result<Vec<String>, Status> {
+    let mut words = Vec::new(rt.alloc());
+    match env::args(rt) {
+        Ok(args) => {
+            for word in args.skip(1) {
+                if words.push(word).is_err() {
+                    return Err(Status::NoMemory);
+                }
+            }
+            Ok(words)
+        }
+        Err(error) if error.kind() == io::ErrorKind::OutOfMemory => Err(Status::NoMemory),
+        Err(_) => Err(Status::Words),
+    }
+}
+
+/// Says on one line of standard error why there are no words.
+fn explain_words<R: Eprint>(rt: &R, status: &Status) {
+    let _ = match status {
+        Status::Words => eprintln!(rt; "Words: a word isn't text in UTF-8"),
+        _ => eprintln!(rt; "NoMemory: memory ran out"),
+    };
+}
+
+/// Why the outside failed, where the status says that it did.
+fn cause_of<'a, R: Files, W: io::Write>(
+    status: &Status,
+    shelf: &'a DiskShelf<'_, R>,
+    out: &'a StdSink<W>,
+) -> Option<Cause<'a>> {
+    match status {
+        Status::ReadFault => {
+            let (name, error) = shelf.last_fault()?;
+            Some(Cause {
+                name: str::from_utf8(name).ok(),
+                error,
+            })
+        }
+        Status::WriteFault => Some(Cause {
+            name: None,
+            error: out.last_cause()?,
+        }),
+        _ => None,
+    }
+}
+
+/// Says on one line of standard error what a status means, unless the record was read to its end.
+fn explain<R: Eprint>(rt: &R, status: &Status, words: &[String], cause: Option<Cause<'_>>) {
+    if status.number() != 0 {
+        let explanation = Explanation {
+            status,
+            words,
+            cause,
+        };
+        let _ = eprintln!(rt; "{explanation}");
+    }
+}
+
+/// Runs the command that the program's words are, over the disk and standard output, and answers the number that the
+/// program ends with. Where it isn't 0, one line on standard error says why.
+pub fn run<R: Env + Files + Print + Eprint + AllocGlobal>(rt: &R) -> u8 {
+    let words = match words_of(rt) {
+        Ok(words) => words,
+        Err(status) => {
+            explain_words(rt, &status);
+            return status.number();
+        }
+    };
+    let mut shelf = DiskShelf::new(rt.alloc(), rt);
+    let mut out = StdSink::new(rt.alloc(), io::writer(rt));
+    let status = beacon_main(rt.alloc(), &words, &mut shelf, &mut out);
+    explain(rt, &status, &words, cause_of(&status, &shelf, &out));
+    status.number()
+}

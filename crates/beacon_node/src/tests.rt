@@ -1,0 +1,110 @@
+//! The texts of the statuses.
+
+use crate::{Cause, Explanation, Status};
+use bc_preset::ConfigFault;
+use record_file::RecordFault;
+use spec_state::GenesisFault;
+use std::alloc::Global;
+use std::io::{Error, ErrorKind};
+use std::process::Abort;
+use std::test::Fail;
+
+// Compares the text of a status of `replay c g r`.
+fn says(
+    rt: &impl Abort,
+    alloc: Global,
+    status: Status,
+    cause: Option<Cause<'_>>,
+    text: &str,
+) -> Result<(), Fail> {
+    let mut words = Vec::new(alloc);
+    for word in ["replay", "c", "g", "r"] {
+        words.push(String::from_str(alloc, word)?)?;
+    }
+    let explanation = Explanation {
+        status: &status,
+        words: &words,
+        cause,
+    };
+    let said = format!(in alloc; "{explanation}")?;
+    assert!(rt; said.as_str() == text);
+    Ok(())
+}
+
+// A fault of the only record.
+fn record(event: u32, fault: RecordFault) -> Status {
+    Status::Record {
+        which: 0,
+        event,
+        fault,
+    }
+}
+
+#[test]
+fn texts_of_the_files(rt: HostRuntime) -> Result<(), Fail> {
+    let alloc = rt.alloc();
+    let config = Status::Config(ConfigFault::TooLong);
+    says(
+        &rt,
+        alloc,
+        config,
+        None,
+        "Config: \"c\": the file is longer than 65536 bytes",
+    )?;
+    let genesis = Status::Genesis(GenesisFault::NotAWriting);
+    says(
+        &rt,
+        alloc,
+        genesis,
+        None,
+        "Genesis: \"g\": the bytes are no state of the preset",
+    )?;
+    let torn = record(2, RecordFault::Torn);
+    says(
+        &rt,
+        alloc,
+        torn,
+        None,
+        "Record: \"r\": event 2: the record ends inside the event",
+    )?;
+    let head = record(0, RecordFault::BadMagic);
+    says(
+        &rt,
+        alloc,
+        head,
+        None,
+        "Record: \"r\": at its head: a record begins with BCR1",
+    )
+}
+
+#[test]
+fn texts_of_the_outside(rt: HostRuntime) -> Result<(), Fail> {
+    let alloc = rt.alloc();
+    let error = Error::from(ErrorKind::NotFound);
+    let read = Some(Cause {
+        name: Some("g"),
+        error: &error,
+    });
+    says(
+        &rt,
+        alloc,
+        Status::ReadFault,
+        read,
+        "ReadFault: \"g\": entity not found",
+    )?;
+    let write = Some(Cause {
+        name: None,
+        error: &error,
+    });
+    let written = "WriteFault: the lines could not be written: entity not found";
+    says(&rt, alloc, Status::WriteFault, write, written)?;
+    let words = "Words: expected the words `replay CONFIG GENESIS RECORD`";
+    says(&rt, alloc, Status::Words, None, words)?;
+    says(
+        &rt,
+        alloc,
+        Status::NoMemory,
+        None,
+        "NoMemory: memory ran out",
+    )
+}
