@@ -1,0 +1,191 @@
+-- The root of two halves is that of their items, and what is put into a half is put into the whole.
+use Rattle.std.proofs.Common.{◌≡◌, ℕ, zero, suc, ◌+◌, ◌-◌, ◌<◌, ◌≤◌, ◌^◌, List, [], ◌∷◌, ◌++◌, length, map, take, drop, max, min, refl, sym, ap, subst, ◌∙◌, arith, inl, inr, length-append, length-drop}
+use Rattle.std.proofs.lemmas.List.{append-nil, take_all, drop_all, length-map, map-append, length-take, take-append-drop}
+use Rattle.hash_tree.specs.Merkle.{hash, merkle_root}
+use Rattle.hash_tree.proofs.Halves.{merkle_root-halves}
+use Rattle.std.proofs.lemmas.Bool.{cases_lt}
+use Rattle.shared_tree.specs.declared.node.Kind.{Kind}
+use Rattle.shared_tree.specs.declared.node.Kind.TheVariants.{Absent, Item, Pair}
+use Rattle.shared_tree.specs.inside.Nodes.{AreHalves, seen}
+use Rattle.shared_tree.specs.inside.Puts.{put_at}
+use Rattle.shared_tree.proofs.Puts.{put_left, put_right, length_put}
+
+module _ {A : Type 0} where
+  pub front : (xs ys : List A) (n : ℕ) → length xs ≤ n → (0 < length ys → length xs ≡ n) → take n (xs ++ ys) ≡ xs
+  front xs [] n low full = ap (λ (l : List A). take n l) (append-nil xs) ∙ take_all n xs low
+  front [] (y ∷ ys) zero low full = refl
+  front [] (y ∷ ys) (suc n) low full = absurd (omega (arith, full (omega arith)))
+  front (x ∷ xs) (y ∷ ys) zero low full = absurd (omega arith)
+  front (x ∷ xs) (y ∷ ys) (suc n) low full = ap (λ (r : List A). x ∷ r) (front xs (y ∷ ys) n (omega arith) (λ some. omega (arith, full (omega arith))))
+
+  pub back : (xs ys : List A) (n : ℕ) → length xs ≤ n → (0 < length ys → length xs ≡ n) → drop n (xs ++ ys) ≡ ys
+  back xs [] n low full = ap (λ (l : List A). drop n l) (append-nil xs) ∙ drop_all n xs low
+  back [] (y ∷ ys) zero low full = refl
+  back [] (y ∷ ys) (suc n) low full = absurd (omega (arith, full (omega arith)))
+  back (x ∷ xs) (y ∷ ys) zero low full = absurd (omega arith)
+  back (x ∷ xs) (y ∷ ys) (suc n) low full = back xs (y ∷ ys) n (omega arith) (λ some. omega (arith, full (omega arith)))
+
+pub root_of_halves : {A : Type 0} (root_of : A → List ℕ) (left right : ℕ × List A) → AreHalves left right → hash (merkle_root left.0 (map root_of left.1) ++ merkle_root right.0 (map root_of right.1)) ≡ merkle_root (suc left.0) (map root_of (left.1 ++ right.1))
+root_of_halves root_of left right h =
+    let low : length (map root_of left.1) ≤ 2 ^ left.0 = omega (arith, h.left_fits, length-map left.1 root_of) in
+    let full : 0 < length (map root_of right.1) → length (map root_of left.1) ≡ 2 ^ left.0 = λ some. omega (arith, h.left_first (omega (arith, length-map right.1 root_of)), length-map left.1 root_of) in
+    let chunks : map root_of (left.1 ++ right.1) ≡ map root_of left.1 ++ map root_of right.1 = map-append root_of left.1 right.1 in
+    let whole = merkle_root-halves (suc left.0) left.0 (map root_of left.1 ++ map root_of right.1) (map root_of left.1) (map root_of right.1) refl
+    (sym (front (map root_of left.1) (map root_of right.1) (2 ^ left.0) low full))
+    (sym (back (map root_of left.1) (map root_of right.1) (2 ^ left.0) low full)) in
+    ap (λ (d : ℕ). hash (merkle_root left.0 (map root_of left.1) ++ merkle_root d (map root_of right.1))) (sym h.same_depth) ∙ (sym whole ∙ ap (merkle_root (suc left.0)) (sym chunks))
+
+-- two empty trees of one depth
+pub empty_halves : {A : Type 0} (depth : ℕ) (left right : ℕ × List A) → left ≡ (depth, []) → right ≡ left → AreHalves left right
+empty_halves depth left right is same =
+    let left_empty : length left.1 ≡ 0 = ap (λ (v : ℕ × List _). length v.1) is in
+    let right_empty : length right.1 ≡ length left.1 = ap (λ (v : ℕ × List _). length v.1) same in
+    record {
+      same_depth = sym (ap (λ (v : ℕ × List _). v.0) same);
+      left_fits = omega arith;
+      right_fits = omega arith;
+      left_first = λ some. absurd (omega arith);
+    }
+
+-- a place in the left half is none behind its items
+place_left : {A : Type 0} (left right : ℕ × List A) (at : ℕ) → AreHalves left right → at < 2 ^ left.0 → at ≤ length (left.1 ++ right.1) → at ≤ length left.1
+place_left left right at h low within =
+    let long = length-append left.1 right.1 in
+    elim (cases_lt 0 (length right.1)) as (λ _. at ≤ length left.1) [
+      | inl some ↦ let full : length left.1 ≡ 2 ^ left.0 = h.left_first some in omega arith
+      | inr none ↦ omega arith
+    ]
+
+-- where a place is in the right half, the left one is full
+full_left : {A : Type 0} (left right : ℕ × List A) (at : ℕ) → AreHalves left right → 2 ^ left.0 ≤ at → at ≤ length (left.1 ++ right.1) → length left.1 ≡ 2 ^ left.0
+full_left left right at h high within =
+    let long = length-append left.1 right.1 in
+    let fits = h.left_fits in
+    elim (cases_lt 0 (length right.1)) as (λ _. length left.1 ≡ 2 ^ left.0) [
+      | inl some ↦ h.left_first some
+      | inr none ↦ omega arith
+    ]
+
+-- a tree with an item put into its left half
+pub put_halves_left : {A : Type 0} (left right new : ℕ × List A) (at : ℕ) (item : A) → AreHalves left right → at < 2 ^ left.0 → at ≤ length (left.1 ++ right.1) → new ≡ (left.0, put_at left.1 at item) → AreHalves new right
+put_halves_left left right new at item h low within is =
+    let first = h.left_first in
+    let fits = h.left_fits in
+    let place : at ≤ length left.1 = place_left left right at h low within in
+    let long : length new.1 ≡ max (length left.1) (at + 1) = ap (λ (v : ℕ × List _). length v.1) is ∙ length_put left.1 at item place in
+    let wide : 2 ^ new.0 ≡ 2 ^ left.0 = ap (λ (v : ℕ × List _). 2 ^ v.0) is in
+    record {
+      same_depth = ap (λ (v : ℕ × List _). v.0) is ∙ h.same_depth;
+      left_fits = omega arith;
+      right_fits = h.right_fits;
+      left_first = λ some. let full : length left.1 ≡ 2 ^ left.0 = first some in omega arith;
+    }
+
+pub put_value_left : {A : Type 0} (left right new : ℕ × List A) (at : ℕ) (item : A) → AreHalves left right → at < 2 ^ left.0 → new ≡ (left.0, put_at left.1 at item) → ◌≡◌ {A = ℕ × List A} (suc new.0, new.1 ++ right.1) (suc left.0, put_at (left.1 ++ right.1) at item)
+put_value_left left right new at item h low is =
+    ap (λ (v : ℕ × List _). (suc v.0, v.1 ++ right.1)) is
+    ∙ ap (λ (items : List _). (suc left.0, items)) (sym (put_left left.1 right.1 at item (λ some. let full : length left.1 ≡ 2 ^ left.0 = h.left_first some in omega arith)))
+
+-- and into its right half
+pub put_halves_right : {A : Type 0} (left right new : ℕ × List A) (at : ℕ) (item : A) → AreHalves left right → 2 ^ left.0 ≤ at → at < 2 ^ left.0 + 2 ^ left.0 → at ≤ length (left.1 ++ right.1) → new ≡ (right.0, put_at right.1 (at - 2 ^ left.0) item) → AreHalves left new
+put_halves_right left right new at item h high low within is =
+    let full : length left.1 ≡ 2 ^ left.0 = full_left left right at h high within in
+    let place : at - 2 ^ left.0 ≤ length right.1 = omega (arith, length-append left.1 right.1) in
+    let right_fits = h.right_fits in
+    let same : 2 ^ right.0 ≡ 2 ^ left.0 = ap (λ (d : ℕ). 2 ^ d) (sym h.same_depth) in
+    let long : length new.1 ≡ max (length right.1) (at - 2 ^ left.0 + 1) = ap (λ (v : ℕ × List _). length v.1) is ∙ length_put right.1 (at - 2 ^ left.0) item place in
+    let wide : 2 ^ new.0 ≡ 2 ^ right.0 = ap (λ (v : ℕ × List _). 2 ^ v.0) is in
+    record {
+      same_depth = h.same_depth ∙ sym (ap (λ (v : ℕ × List _). v.0) is);
+      left_fits = h.left_fits;
+      right_fits = omega arith;
+      left_first = λ some. full;
+    }
+
+pub put_value_right : {A : Type 0} (left right new : ℕ × List A) (at : ℕ) (item : A) → AreHalves left right → 2 ^ left.0 ≤ at → at ≤ length (left.1 ++ right.1) → new ≡ (right.0, put_at right.1 (at - 2 ^ left.0) item) → ◌≡◌ {A = ℕ × List A} (suc left.0, left.1 ++ new.1) (suc left.0, put_at (left.1 ++ right.1) at item)
+put_value_right left right new at item h high within is =
+    let full : length left.1 ≡ 2 ^ left.0 = full_left left right at h high within in
+    ap (λ (v : ℕ × List _). (suc left.0, left.1 ++ v.1)) is
+    ∙ ap (λ (items : List _). (suc left.0, items)) (sym (put_right left.1 right.1 (2 ^ left.0) at item full high))
+
+-- the items from a place on, cut at a later one
+pub cut_after : {A : Type 0} (from middle : ℕ) (items : List A) → from ≤ middle → drop from (take middle items) ++ drop middle items ≡ drop from items
+cut_after zero middle items h = take-append-drop middle items
+cut_after (suc from) zero items h = absurd (omega arith)
+cut_after (suc from) (suc middle) [] h = refl
+cut_after (suc from) (suc middle) (x ∷ items) h = cut_after from middle items (omega arith)
+
+built_halves : {A : Type 0} (from depth half : ℕ) (items middle : List A) (left right : ℕ × List A) → half ≡ 2 ^ depth → length items ≤ from + half + half → middle ≡ take (from + half) items → left ≡ (depth, drop from middle) → right ≡ (depth, drop (from + half) items) → AreHalves left right
+built_halves from depth half items middle left right width room m l r =
+    let middle_long : length middle ≡ min (from + half) (length items) = ap length m ∙ length-take (from + half) items in
+    let left_long : length left.1 ≡ length middle - from = ap (λ (v : ℕ × List _). length v.1) l ∙ length-drop from middle in
+    let right_long : length right.1 ≡ length items - (from + half) = ap (λ (v : ℕ × List _). length v.1) r ∙ length-drop (from + half) items in
+    let left_wide : 2 ^ left.0 ≡ 2 ^ depth = ap (λ (v : ℕ × List _). 2 ^ v.0) l in
+    let right_wide : 2 ^ right.0 ≡ 2 ^ depth = ap (λ (v : ℕ × List _). 2 ^ v.0) r in
+    record {
+      same_depth = ap (λ (v : ℕ × List _). v.0) l ∙ sym (ap (λ (v : ℕ × List _). v.0) r);
+      left_fits = omega arith;
+      right_fits = omega arith;
+      left_first = λ some. omega arith;
+    }
+
+built_value : {A : Type 0} (from depth half : ℕ) (items middle : List A) (left right : ℕ × List A) → middle ≡ take (from + half) items → left ≡ (depth, drop from middle) → right ≡ (depth, drop (from + half) items) → ◌≡◌ {A = ℕ × List A} (suc left.0, left.1 ++ right.1) (suc depth, drop from items)
+built_value from depth half items middle left right m l r =
+    ap (λ (v : ℕ × List _). (suc v.0, v.1 ++ right.1)) l
+    ∙ (ap (λ (v : ℕ × List _). (suc depth, drop from middle ++ v.1)) r
+    ∙ (ap (λ (all : List _). (suc depth, drop from all ++ drop (from + half) items)) m
+    ∙ ap (λ (all : List _). (suc depth, all)) (cut_after from (from + half) items (omega arith))))
+
+-- the tree over the items from a place on, by its halves
+pub build_pair : {A : Type 0} (from depth half : ℕ) (items middle : List A) (left right : ℕ × List A) → 0 < depth → ((lower : ℕ) → depth ≡ suc lower → half ≡ 2 ^ lower) → half + half ≡ 2 ^ depth → length items ≤ from + 2 ^ depth → middle ≡ take (from + half) items → left ≡ (depth - 1, drop from middle) → right ≡ (depth - 1, drop (from + half) items) → AreHalves left right × (◌≡◌ {A = ℕ × List A} (suc left.0, left.1 ++ right.1) (depth, drop from items))
+build_pair from depth half items middle left right inner width twice room m l r =
+    let d : suc (depth - 1) ≡ depth = omega arith in (
+      built_halves from (depth - 1) half items middle left right (width (depth - 1) (sym d)) (omega arith) m l r,
+      built_value from (depth - 1) half items middle left right m l r ∙ ap (λ (k : ℕ). (k, drop from items)) d,
+    )
+
+no_front : {A : Type 0} (xs ys : List A) → length (xs ++ ys) ≡ 0 → xs ≡ []
+no_front [] ys h = refl
+no_front (x ∷ xs) ys h = absurd (omega arith)
+
+-- the left half of a tree without items
+pub lower_absent : {A : Type 0} (depth : ℕ) (node left right : ℕ × List A) → node ≡ (depth, []) → node ≡ (suc left.0, left.1 ++ right.1) → (0 < depth) × (left ≡ (depth - 1, []))
+lower_absent depth node left right without view =
+    let both = sym without ∙ view in
+    let d : depth ≡ suc left.0 = ap (λ (v : ℕ × List _). v.0) both in
+    let none : length (left.1 ++ right.1) ≡ 0 = sym (ap (λ (v : ℕ × List _). length v.1) both) in
+    (omega arith, ap (λ (items : List _). (left.0, items)) (no_front left.1 right.1 none) ∙ ap (λ (k : ℕ). (k, [])) (omega arith))
+
+-- what a call puts into a half it puts into the whole
+pub put_into_left : {A : Type 0} (node left right sub new other : ℕ × List A) (depth half at : ℕ) (item : A) → AreHalves left right → node ≡ (suc left.0, left.1 ++ right.1) → depth ≡ node.0 → ((lower : ℕ) → depth ≡ suc lower → half ≡ 2 ^ lower) → at < half → at ≤ length node.1 → sub ≡ left → new ≡ (depth - 1, put_at sub.1 at item) → other ≡ right → AreHalves new other × (◌≡◌ {A = ℕ × List A} (suc new.0, new.1 ++ other.1) (depth, put_at node.1 at item))
+put_into_left node left right sub new other depth half at item h view same lower low within sub_is new_is other_is =
+    let d : depth ≡ suc left.0 = same ∙ ap (λ (v : ℕ × List _). v.0) view in
+    let width : half ≡ 2 ^ left.0 = lower left.0 d in
+    let is : new ≡ (left.0, put_at left.1 at item) = new_is ∙ (ap (λ (k : ℕ). (k, put_at sub.1 at item)) (omega arith) ∙ ap (λ (v : ℕ × List _). (left.0, put_at v.1 at item)) sub_is) in
+    let place : at ≤ length (left.1 ++ right.1) = omega (arith, ap (λ (v : ℕ × List _). length v.1) view) in (
+      subst (λ (r : ℕ × List _). AreHalves new r) (sym other_is) (put_halves_left left right new at item h (omega arith) place is),
+      ap (λ (r : ℕ × List _). (suc new.0, new.1 ++ r.1)) other_is
+          ∙ (put_value_left left right new at item h (omega arith) is
+          ∙ (ap (λ (k : ℕ). (k, put_at (left.1 ++ right.1) at item)) (sym d) ∙ ap (λ (v : ℕ × List _). (depth, put_at v.1 at item)) (sym view))),
+    )
+
+pub put_into_right : {A : Type 0} (node left right sub new other : ℕ × List A) (depth half at : ℕ) (item : A) → AreHalves left right → node ≡ (suc left.0, left.1 ++ right.1) → depth ≡ node.0 → ((lower : ℕ) → depth ≡ suc lower → half ≡ 2 ^ lower) → half + half ≡ 2 ^ depth → half ≤ at → at < 2 ^ depth → at ≤ length node.1 → sub ≡ right → new ≡ (depth - 1, put_at sub.1 (at - half) item) → other ≡ left → AreHalves other new × (◌≡◌ {A = ℕ × List A} (suc other.0, other.1 ++ new.1) (depth, put_at node.1 at item))
+put_into_right node left right sub new other depth half at item h view same lower twice high low within sub_is new_is other_is =
+    let d : depth ≡ suc left.0 = same ∙ ap (λ (v : ℕ × List _). v.0) view in
+    let same_depth = h.same_depth in
+    let width : half ≡ 2 ^ left.0 = lower left.0 d in
+    let is : new ≡ (right.0, put_at right.1 (at - 2 ^ left.0) item) = new_is ∙ (ap (λ (k : ℕ). (k, put_at sub.1 (at - half) item)) (omega arith) ∙ (ap (λ (v : ℕ × List _). (right.0, put_at v.1 (at - half) item)) sub_is ∙ ap (λ (k : ℕ). (right.0, put_at right.1 (at - k) item)) width)) in
+    let place : at ≤ length (left.1 ++ right.1) = omega (arith, ap (λ (v : ℕ × List _). length v.1) view) in (
+      subst (λ (l : ℕ × List _). AreHalves l new) (sym other_is) (put_halves_right left right new at item h (omega arith) (omega arith) place is),
+      ap (λ (l : ℕ × List _). (suc l.0, l.1 ++ new.1)) other_is
+          ∙ (put_value_right left right new at item h (omega arith) place is
+          ∙ (ap (λ (k : ℕ). (k, put_at (left.1 ++ right.1) at item)) (sym d) ∙ ap (λ (v : ℕ × List _). (depth, put_at v.1 at item)) (sym view))),
+    )
+
+-- what is put into a leaf is the leaf's item
+pub put_into_leaf : {A : Type 0} (kind : Kind A) (at : ℕ) (item : A) → ((x y : _) → kind ≡ Pair x y → ⊥) → at < 2 ^ (seen kind).0 → ◌≡◌ {A = ℕ × List A} (0, item ∷ []) ((seen kind).0, put_at (seen kind).1 at item)
+unfolding put_at
+put_into_leaf Absent at item leaf low = refl
+put_into_leaf (Item x) zero item leaf low = refl
+put_into_leaf (Item x) (suc at) item leaf low = absurd (omega arith)
+put_into_leaf (Pair x y) at item leaf low = absurd (leaf x y refl)

@@ -1,0 +1,57 @@
+-- Where an item that is put into two lists one behind the other goes.
+use Rattle.std.proofs.Common.{◌≡◌, ℕ, zero, suc, ◌+◌, ◌-◌, ◌<◌, ◌≤◌, List, [], ◌∷◌, ◌++◌, length, max, refl, sym, ap, ◌∙◌, arith}
+use Rattle.std.specs.Prelude.{slice_set, slice_get, None}
+use Rattle.std.proofs.lemmas.List.{append-nil}
+use Rattle.shared_tree.specs.inside.Puts.{put_at}
+
+module _ {A : Type 0} where
+  pub put_set : (xs : List A) (at : ℕ) (item : A) → at < length xs → put_at xs at item ≡ slice_set xs at item
+  unfolding put_at
+  put_set [] at item h = absurd (omega arith)
+  put_set (x ∷ xs) zero item h = refl
+  put_set (x ∷ xs) (suc at) item h = ap (λ (r : List A). x ∷ r) (put_set xs at item (omega arith))
+
+  pub put_push : (xs : List A) (at : ℕ) (item : A) → at ≡ length xs → put_at xs at item ≡ xs ++ item ∷ []
+  unfolding put_at
+  put_push [] at item h = refl
+  put_push (x ∷ xs) zero item h = absurd (omega arith)
+  put_push (x ∷ xs) (suc at) item h = ap (λ (r : List A). x ∷ r) (put_push xs at item (omega arith))
+
+  pub put_left : (xs ys : List A) (at : ℕ) (item : A) → (0 < length ys → at < length xs) → put_at (xs ++ ys) at item ≡ put_at xs at item ++ ys
+  unfolding put_at
+  put_left xs [] at item h = ap (λ (l : List A). put_at l at item) (append-nil xs) ∙ sym (append-nil (put_at xs at item))
+  put_left [] (y ∷ ys) at item h = absurd (omega (arith, h (omega arith)))
+  put_left (x ∷ xs) (y ∷ ys) zero item h = refl
+  put_left (x ∷ xs) (y ∷ ys) (suc at) item h = ap (λ (r : List A). x ∷ r) (put_left xs (y ∷ ys) at item (λ some. omega (arith, h (omega arith))))
+
+  pub put_right : (xs ys : List A) (n at : ℕ) (item : A) → length xs ≡ n → n ≤ at → put_at (xs ++ ys) at item ≡ xs ++ put_at ys (at - n) item
+  unfolding put_at
+  put_right [] ys n at item e h = ap (λ (k : ℕ). put_at ys k item) (omega arith)
+  put_right (x ∷ xs) ys n zero item e h = absurd (omega arith)
+  put_right (x ∷ xs) ys n (suc at) item e h = ap (λ (r : List A). x ∷ r) (put_right xs ys (length xs) at item refl (omega arith) ∙ ap (λ (k : ℕ). xs ++ put_at ys k item) (omega arith))
+
+  pub length_put : (xs : List A) (at : ℕ) (item : A) → at ≤ length xs → length (put_at xs at item) ≡ max (length xs) (at + 1)
+  unfolding put_at
+  length_put [] at item h = omega arith
+  length_put (x ∷ xs) zero item h = omega arith
+  length_put (x ∷ xs) (suc at) item h = omega (arith, length_put xs at item (omega arith))
+
+  pub get_left : (xs ys : List A) (at : ℕ) → (0 < length ys → at < length xs) → slice_get (xs ++ ys) at ≡ slice_get xs at
+  get_left xs [] at h = ap (λ (l : List A). slice_get l at) (append-nil xs)
+  get_left [] (y ∷ ys) at h = absurd (omega (arith, h (omega arith)))
+  get_left (x ∷ xs) (y ∷ ys) zero h = refl
+  get_left (x ∷ xs) (y ∷ ys) (suc at) h = get_left xs (y ∷ ys) at (λ some. omega (arith, h (omega arith)))
+
+  get_none : (xs : List A) (at : ℕ) → length xs ≤ at → slice_get xs at ≡ None
+  get_none [] at h = refl
+  get_none (x ∷ xs) zero h = absurd (omega arith)
+  get_none (x ∷ xs) (suc at) h = get_none xs at (omega arith)
+
+  get_behind : (xs ys : List A) (n at : ℕ) → length xs ≡ n → n ≤ at → slice_get (xs ++ ys) at ≡ slice_get ys (at - n)
+  get_behind [] ys n at e h = ap (λ (k : ℕ). slice_get ys k) (omega arith)
+  get_behind (x ∷ xs) ys n zero e h = absurd (omega arith)
+  get_behind (x ∷ xs) ys n (suc at) e h = get_behind xs ys (length xs) at refl (omega arith) ∙ ap (λ (k : ℕ). slice_get ys k) (omega arith)
+
+  pub get_right : (xs ys : List A) (n at : ℕ) → length xs ≤ n → (0 < length ys → length xs ≡ n) → n ≤ at → slice_get (xs ++ ys) at ≡ slice_get ys (at - n)
+  get_right xs [] n at low full h = ap (λ (l : List A). slice_get l at) (append-nil xs) ∙ get_none xs at (omega arith)
+  get_right xs (y ∷ ys) n at low full h = get_behind xs (y ∷ ys) n at (full (omega arith)) h

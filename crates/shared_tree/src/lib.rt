@@ -1,0 +1,19 @@
+//! Lists whose nodes are shared and keep their roots.
+//!
+//! Items come from the state above, and roots go back to it. A change makes the nodes of one path anew and shares the rest,
+//! so that many states of one chain cost little more than one.
+#![tactic(auto)]
+
+mod build;
+mod find;
+mod laws;
+mod node;
+mod put;
+mod shared_list;
+mod work;
+
+pub use laws::set_after_share;
+pub use shared_list::SharedList;
+
+#[cfg(test)]
+mod tests;

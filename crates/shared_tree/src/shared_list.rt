@@ -1,0 +1,154 @@
+//! A list of values with a root each.
+//!
+//! Items come from the state above. The tree of their roots is kept with them, so that the root of the list is there without
+//! work, and a change costs one path.
+
+ghost use Rattle.std.specs.Prelude.{◌≡◌, ◌+◌, ◌<◌, ◌≤◌, ◌^◌, [], ◌∷◌, length, map, slice_get, slice_set, IfOk, OnOk};
+ghost use Rattle.std.specs.Option.{option_map};
+ghost use Rattle.bc_words.specs.Outcome.{Pushes, Becomes, checked_push};
+ghost use Rattle.hash_tree.specs.Merkle.{merkleize, mix_in_length as mixed_in, depth_of as depth_for};
+ghost use Rattle.shared_tree.specs.inside.Puts.{put_at};
+
+use crate::build::{absent, build};
+use crate::find::find;
+use crate::node::Node;
+use crate::put::put;
+use crate::work::mix_step;
+use bc_words::{NoMemory, PushStop, Steps};
+use hash_tree::{Leaf, Root, depth_of, mix_in_length};
+use std::alloc::Global;
+use std::marker::Model;
+use std::rc::Rc;
+use std::sync::ledger::Ledger;
+
+/// The items in order, of which there may be so many. Contracts see the list and its limit.
+#[derive(Drop)]
+pub struct SharedList<T: Leaf + Drop> {
+    tree: Rc<Node<T>>,
+    depth: u32,
+    len: u64,
+    limit: u64,
+    root: Root,
+    alloc: Global,
+}
+
+impl<T: Leaf + Drop> Model for SharedList<T> {
+    ghost use Rattle.shared_tree.specs.Lists.{Limited};
+
+    ghost Value = { Limited T };
+
+    ghost use Rattle.shared_tree.specs.inside.Kept.{IsKept};
+
+    ghost view = { λ list. record { limit = list.limit; items = list.tree.value.1 } };
+
+    ghost invariant = { λ list. IsKept T.root_of list.tree.value list.depth list.len list.limit list.root };
+}
+
+impl<T: Leaf + Drop> SharedList<T> {
+    /// The list of these items. It hashes each inner node of the tree once.
+    pub fn from_vec(items: Vec<T>, limit: u64) -> Result<SharedList<T>, NoMemory>
+        requires low { limit ≤ 2 ^ 40 }
+        requires fits { length items.items ≤ limit }
+        ensures { IfOk result (λ list. list ≡ record { limit = limit; items = items.items }) }
+    {
+        let mut items = items;
+        let alloc = *items.allocator();
+        let len = items.len() as u64;
+        let depth = depth_of(limit);
+        let without = absent(alloc, depth)?;
+        let tree = build(alloc, &mut items, 0, depth, &without)?;
+        let root = mix_in_length(&tree.root(), len);
+        Ok(SharedList {
+            tree,
+            depth,
+            len,
+            limit,
+            root,
+            alloc,
+        })
+    }
+
+    /// How many items there are.
+    pub fn len(&self) -> u64
+        ensures { result ≡ length self.now.items }
+    {
+        self.len
+    }
+
+    /// How many items there may be.
+    pub fn limit(&self) -> u64
+        ensures limit { result ≡ self.now.limit }
+        ensures fits { length self.now.items ≤ self.now.limit }
+        ensures low { self.now.limit ≤ 2 ^ 40 }
+    {
+        self.limit
+    }
+
+    /// The item at a place. None exactly where the place is not below the length.
+    pub fn get(&self, i: u64) -> Option<&T>
+        ensures { option_map (λ x. x.now) result ≡ slice_get self.now.items i }
+    {
+        find(&self.tree, self.depth, i)
+    }
+
+    /// The root of the list (simple-serialize.md, "Merkleization"). It is kept.
+    pub fn root(&self) -> Root
+        ensures { result ≡ mixed_in (merkleize (map T.root_of self.now.items) self.now.limit) (length self.now.items) }
+    {
+        self.root
+    }
+
+    /// The root before the length is mixed in, which is that of a vector. It is kept.
+    #[tactic(auto, unfolding(hash_tree::specs::Merkle::merkleize))]
+    pub fn top(&self) -> Root
+        ensures { result ≡ merkleize (map T.root_of self.now.items) self.now.limit }
+    {
+        self.tree.root()
+    }
+
+    /// Another item at a place. A step for each level of the tree, and one for the length. Where memory is refused, the
+    /// list is as before and the item is dropped.
+    pub fn set<L: Ledger>(&mut self, i: u64, value: T, steps: &mut Steps<L>) -> Result<(), NoMemory>
+        requires { i < length self.old.items }
+        ensures set { Becomes result self.old self.new (record self.old { items = slice_set self.old.items i value }) }
+        ensures steps { OnOk result (steps.new ≡ steps.old + (depth_for self.old.limit + 1)) }
+        ensures at_most { steps.new ≤ steps.old + (depth_for self.old.limit + 1) }
+    {
+        let tree = put(&self.tree, self.depth, i, value, self.alloc, steps)?;
+        self.root = mix_step(&tree.root(), self.len, steps);
+        self.tree = tree;
+        Ok(())
+    }
+
+    /// One more item at the end. Full exactly where there are as many as there may be. A step for each level of the tree,
+    /// and one for the length. After a stop the list is as before and the item is dropped.
+    pub fn push<L: Ledger>(&mut self, value: T, steps: &mut Steps<L>) -> Result<(), PushStop>
+        ensures pushes { Pushes result self.old.items self.new.items (checked_push self.old.limit self.old.items value) }
+        ensures limit { self.new.limit ≡ self.old.limit }
+        ensures steps { OnOk result (steps.new ≡ steps.old + (depth_for self.old.limit + 1)) }
+        ensures at_most { steps.new ≤ steps.old + (depth_for self.old.limit + 1) }
+    {
+        if self.len >= self.limit {
+            return Err(PushStop::Full);
+        }
+        let tree = put(&self.tree, self.depth, self.len, value, self.alloc, steps)?;
+        self.root = mix_step(&tree.root(), self.len + 1, steps);
+        self.tree = tree;
+        self.len += 1;
+        Ok(())
+    }
+
+    /// An equal list, whose nodes are those of this one.
+    pub fn share(&self) -> Result<SharedList<T>, NoMemory>
+        ensures { IfOk result (λ list. list ≡ self.now) }
+    {
+        Ok(SharedList {
+            tree: self.tree.clone()?,
+            depth: self.depth,
+            len: self.len,
+            limit: self.limit,
+            root: self.root,
+            alloc: self.alloc,
+        })
+    }
+}

@@ -1,0 +1,94 @@
+//! Lists against the roots of their items.
+
+ghost use Rattle.std.specs.Prelude.{◌≡◌, ◌<◌};
+
+use crate::{SharedList, set_after_share};
+use bc_words::{PushStop, Steps};
+use hash_tree::{Root, merkle_leaves, mix_in_length, zero_hash};
+use std::alloc::Global;
+use std::marker::Brand;
+use std::sync::ledger::{Blank, Ledger};
+use std::test::Fail;
+
+/// What stands after three pushes to a list of at most two: the roots after each, and whether the third is full.
+fn three_pushes<L: Ledger>(alloc: Global, blank: Blank) -> Result<([Root; 4], bool), PushStop>
+    requires name { blank.name ≡ L.name }
+    requires parts { blank.parts ≡ L.parts }
+    requires some { 0 < blank.parts }
+{
+    let mut steps = Steps::<L>::new(blank);
+    let mut list = SharedList::<u64>::from_vec(Vec::new(alloc), 2)?;
+    let none = list.root();
+    list.push(7, &mut steps)?;
+    let one = list.root();
+    list.push(8, &mut steps)?;
+    let two = list.root();
+    let third = list.push(9, &mut steps);
+    let full = match third {
+        Err(PushStop::Full) => true,
+        _ => false,
+    };
+    Ok(([none, one, two, list.root()], full))
+}
+
+/// The roots of a list of three and of the list that it shares with, after one of its items was set, and that item in both.
+fn shared_and_set<L: Ledger>(
+    alloc: Global,
+    blank: Blank,
+) -> Result<(Root, Root, Option<u64>, Option<u64>), PushStop>
+    requires name { blank.name ≡ L.name }
+    requires parts { blank.parts ≡ L.parts }
+    requires some { 0 < blank.parts }
+{
+    let mut steps = Steps::<L>::new(blank);
+    let mut list = SharedList::<u64>::from_vec(vec![in alloc; 1, 2, 3]?, 1 << 40)?;
+    if list.len() != 3 {
+        return Err(PushStop::Full);
+    }
+    let (other, root) = set_after_share(&mut list, 1, 5, &mut steps)?;
+    Ok((
+        list.root(),
+        root,
+        list.get(1).copied(),
+        other.get(1).copied(),
+    ))
+}
+
+#[test]
+fn a_list_of_two_has_room_for_two(rt: HostRuntime) -> Result<(), Fail> {
+    let (roots, full) = three_pushes::<Brand>(rt.alloc(), Blank::new(1))?;
+    let two = mix_in_length(&merkle_leaves(&[7u64, 8], 1), 2);
+    assert_eq!(rt; roots[0], mix_in_length(&zero_hash(1), 0));
+    assert_eq!(rt; roots[1], mix_in_length(&merkle_leaves(&[7u64], 1), 1));
+    assert_eq!(rt; roots[2], two);
+    assert_eq!(rt; roots[3], two);
+    assert!(rt; full);
+    Ok(())
+}
+
+#[test]
+fn a_shared_list_stays(rt: HostRuntime) -> Result<(), Fail> {
+    let (list, other, there, here) = shared_and_set::<Brand>(rt.alloc(), Blank::new(1))?;
+    assert_eq!(rt; list, mix_in_length(&merkle_leaves(&[1u64, 5, 3], 40), 3));
+    assert_eq!(rt; other, mix_in_length(&merkle_leaves(&[1u64, 2, 3], 40), 3));
+    assert_eq!(rt; there, Some(5));
+    assert_eq!(rt; here, Some(2));
+    Ok(())
+}
+
+#[test]
+fn lists_of_any_length(rt: HostRuntime) -> Result<(), Fail> {
+    let alloc = rt.alloc();
+    let list = SharedList::<u64>::from_vec(vec![in alloc; 1, 2, 3, 4, 5]?, 11)?;
+    assert_eq!(rt; list.top(), merkle_leaves(&[1u64, 2, 3, 4, 5], 4));
+    assert_eq!(rt; list.limit(), 11);
+    assert_eq!(rt; list.get(4), Some(&5));
+    assert_eq!(rt; list.get(5), None);
+    let whole = SharedList::<u64>::from_vec(vec![in alloc; 1, 2]?, 2)?;
+    assert_eq!(rt;
+        whole.root(),
+        mix_in_length(&merkle_leaves(&[1u64, 2], 1), 2)
+    );
+    assert_eq!(rt; whole.share()?.root(), whole.root());
+    Ok(())
+}
