@@ -1,6 +1,6 @@
 //! Cutting, writing and reading lists, each once.
 
-ghost use Rattle.std.proofs.Common.{rules};
+ghost use Rattle.std.proofs.Common.{lit≤};
 
 use super::*;
 use hash_tree::Root;
@@ -61,7 +61,7 @@ impl ListLimit for Two {
 
     const LIMIT: u64 = 2;
 
-    ghost low = { Prim.search rules };
+    ghost low = { lit≤ tt };
 }
 
 #[test]
