@@ -1,14 +1,15 @@
 -- What a list keeps after a change.
-use Rattle.std.proofs.Common.{◌≡◌, ℕ, ◌+◌, ◌<◌, ◌≤◌, ◌^◌, List, [], ◌∷◌, ◌++◌, length, map, max, cond, sym, ap, ap₂, ◌∙◌, arith}
+use Rattle.std.proofs.Common.{◌≡◌, ℕ, ◌+◌, ◌<◌, ◌≤◌, ◌^◌, List, [], ◌∷◌, ◌++◌, length, map, max, cond, sym, ap, ap₂, subst, ◌∙◌, arith}
 use Rattle.std.specs.Prelude.{slice_set}
 use Rattle.std.proofs.Math.Pow.{pow_mono}
 use Rattle.std.proofs.lemmas.Bool.{lt-ltb, le-ltb}
 use Rattle.bc_words.specs.Outcome.{done, refused, checked_push}
 use Rattle.bc_words.specs.declared.refusal.Refusal.TheVariants.{ListFull}
 use Rattle.hash_tree.specs.Merkle.{merkle_root, merkleize, mix_in_length, depth_of}
-use Rattle.shared_tree.specs.Lists.{Limited}
+use Rattle.shared_tree.specs.Lists.{Limited, changed, AreChanges}
 use Rattle.shared_tree.specs.inside.Kept.{IsKept}
 use Rattle.shared_tree.specs.inside.Puts.{put_at}
+use Rattle.shared_tree.proofs.Changes.{length_changed}
 use Rattle.shared_tree.proofs.Puts.{put_set, put_push, length_put}
 
 -- the widest tree
@@ -85,3 +86,28 @@ push_full old limit len item tree view len_is full =
     let limits : limit ≡ old.limit = ap (λ (l : Limited _). l.limit) view in
     let more : old.limit ≤ length old.items = omega (arith, ap length items) in
     ap (λ b. cond b (done (old.items ++ item ∷ [])) (refused ListFull)) (le-ltb _ _ more)
+
+-- what many changes keep, and how the list is seen after them
+pub many_kept : {A : Type 0} (root_of : A → List ℕ) (tree new now : ℕ × List A) (depth len limit : ℕ) (changes : List (ℕ × A)) (old_root root top : List ℕ) → IsKept root_of tree depth len limit old_root → new ≡ (depth, changed tree.1 changes) → now ≡ new → top ≡ merkle_root now.0 (map root_of now.1) → root ≡ mix_in_length top len → IsKept root_of new depth len limit root
+many_kept root_of tree new now depth len limit changes old_root root top h is now_is top_is root_is =
+    let deep : new.0 ≡ depth = ap (λ (v : ℕ × List _). v.0) is in
+    let long : length new.1 ≡ length tree.1 = ap (λ (v : ℕ × List _). length v.1) is ∙ length_changed tree.1 changes in
+    let len_is : len ≡ length new.1 = h.len_is ∙ sym long in
+    record {
+      tree_depth = deep;
+      depth_is = h.depth_is;
+      low = h.low;
+      limit_low = h.limit_low;
+      wide = h.wide;
+      len_is = len_is;
+      fits = h.fits;
+      root_is = kept_root root_of new now depth len limit root top deep h.depth_is len_is now_is top_is root_is;
+    }
+
+pub many_value : {A : Type 0} (old : Limited A) (limit depth : ℕ) (changes : List (ℕ × A)) (tree new : ℕ × List A) → ◌≡◌ {A = Limited A} (record { limit = limit; items = tree.1 }) old → new ≡ (depth, changed tree.1 changes) → ◌≡◌ {A = Limited A} (record { limit = limit; items = new.1 }) (record { limit = old.limit; items = changed old.items changes })
+many_value old limit depth changes tree new view is =
+    ap₂ (λ (n : ℕ) (xs : List _). record { limit = n; items = xs }) (ap (λ (l : Limited _). l.limit) view)
+    (ap (λ (v : ℕ × List _). v.1) is ∙ ap (λ (l : Limited _). changed l.items changes) view)
+
+pub many_places : {A : Type 0} (old : Limited A) (limit : ℕ) (changes : List (ℕ × A)) (tree : ℕ × List A) → ◌≡◌ {A = Limited A} (record { limit = limit; items = tree.1 }) old → AreChanges 0 (length old.items) changes → AreChanges 0 (length tree.1) changes
+many_places old limit changes tree view h = subst (λ (n : ℕ). AreChanges 0 n changes) (ap (λ (l : Limited _). length l.items) (sym view)) h

@@ -2,7 +2,8 @@
 //!
 //! The nodes of one path are made anew, and all others are shared.
 
-ghost use Rattle.std.specs.Prelude.{◌≡◌, ◌+◌, ◌<◌, ◌≤◌, ◌^◌, length, IfOk, OnOk};
+ghost use Rattle.std.specs.Prelude.{◌≡◌, ◌+◌, ◌*◌, ◌<◌, ◌≤◌, ◌^◌, length, IfOk, OnOk};
+ghost use Rattle.shared_tree.specs.Lists.{AreChanges, changed};
 ghost use Rattle.shared_tree.specs.inside.Puts.{put_at};
 
 use crate::node::{Kind, Node, half_width};
@@ -42,4 +43,27 @@ pub(crate) fn put<T: Leaf + Drop, L: Ledger>(
     let right = put(right, depth - 1, at - half, item, alloc, steps)?;
     let left = left.clone()?;
     Ok(Rc::new(alloc, pair_step(left, right, steps))?)
+}
+
+/// The tree with each change made, the last one first. At most a step for each level and change.
+pub(crate) fn put_each<T: Leaf + Drop, L: Ledger>(
+    tree: &Rc<Node<T>>,
+    depth: u32,
+    changes: Vec<(u64, T)>,
+    alloc: Global,
+    steps: &mut Steps<L>,
+) -> Result<Rc<Node<T>>, NoMemory>
+    requires same { depth ≡ tree.now.value.0 }
+    requires low { depth ≤ 40 }
+    requires room { length tree.now.value.1 ≤ 2 ^ depth }
+    requires places { AreChanges 0 (length tree.now.value.1) changes.items }
+    ensures put { IfOk result (λ new. new.value ≡ (depth, changed tree.now.value.1 changes.items)) }
+    ensures at_most { steps.new ≤ steps.old + length changes.items * depth }
+{
+    let mut changes = changes;
+    let mut next = tree.clone()?;
+    'each: while let Some((at, item)) = changes.pop() {
+        next = put(&next, depth, at, item, alloc, steps)?;
+    }
+    Ok(next)
 }

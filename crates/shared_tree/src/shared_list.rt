@@ -3,16 +3,16 @@
 //! Items come from the state above. The tree of their roots is kept with them, so that the root of the list is there without
 //! work, and a change costs one path.
 
-ghost use Rattle.std.specs.Prelude.{◌≡◌, ◌+◌, ◌<◌, ◌≤◌, ◌^◌, [], ◌∷◌, length, map, slice_get, slice_set, IfOk, OnOk};
+ghost use Rattle.std.specs.Prelude.{◌≡◌, ◌+◌, ◌*◌, ◌<◌, ◌≤◌, ◌^◌, [], ◌∷◌, length, map, slice_get, slice_set, IfOk, OnOk};
 ghost use Rattle.std.specs.Option.{option_map};
 ghost use Rattle.bc_words.specs.Outcome.{Pushes, Becomes, checked_push};
 ghost use Rattle.hash_tree.specs.Merkle.{merkleize, mix_in_length as mixed_in, depth_of as depth_for};
-ghost use Rattle.shared_tree.specs.inside.Puts.{put_at};
+ghost use Rattle.shared_tree.specs.Lists.{AreChanges, changed};
 
 use crate::build::{absent, build};
 use crate::find::find;
 use crate::node::Node;
-use crate::put::put;
+use crate::put::{put, put_each};
 use crate::work::mix_step;
 use bc_words::{NoMemory, PushStop, Steps};
 use hash_tree::{Leaf, Root, depth_of, mix_in_length};
@@ -117,6 +117,23 @@ impl<T: Leaf + Drop> SharedList<T> {
         let tree = put(&self.tree, self.depth, i, value, self.alloc, steps)?;
         self.root = mix_step(&tree.root(), self.len, steps);
         self.tree = tree;
+        Ok(())
+    }
+
+    /// Other items at many places. At most a step for each level of the tree and change, and one for the length. Where
+    /// memory is refused, the list is as before and the items are dropped.
+    pub fn set_many<L: Ledger>(
+        &mut self,
+        changes: Vec<(u64, T)>,
+        steps: &mut Steps<L>,
+    ) -> Result<(), NoMemory>
+        requires places { AreChanges 0 (length self.old.items) changes.items }
+        ensures set { Becomes result self.old self.new (record self.old { items = changed self.old.items changes.items }) }
+        ensures at_most { steps.new ≤ steps.old + (length changes.items * depth_for self.old.limit + 1) }
+    {
+        let next = put_each(&self.tree, self.depth, changes, self.alloc, steps)?;
+        self.root = mix_step(&next.root(), self.len, steps);
+        self.tree = next;
         Ok(())
     }
 

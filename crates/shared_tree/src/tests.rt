@@ -3,7 +3,7 @@
 ghost use Rattle.std.specs.Prelude.{◌≡◌, ◌<◌};
 
 use crate::{SharedList, set_after_share};
-use bc_words::{PushStop, Steps};
+use bc_words::{NoMemory, PushStop, Steps};
 use hash_tree::{Root, merkle_leaves, mix_in_length, zero_hash};
 use std::alloc::Global;
 use std::marker::Brand;
@@ -90,5 +90,27 @@ fn lists_of_any_length(rt: HostRuntime) -> Result<(), Fail> {
         mix_in_length(&merkle_leaves(&[1u64, 2], 1), 2)
     );
     assert_eq!(rt; whole.share()?.root(), whole.root());
+    Ok(())
+}
+
+/// The root of a list of five after three of its items were set at once.
+fn many_set<L: Ledger>(alloc: Global, blank: Blank) -> Result<Root, NoMemory>
+    requires name { blank.name ≡ L.name }
+    requires parts { blank.parts ≡ L.parts }
+    requires some { 0 < blank.parts }
+{
+    let mut steps = Steps::<L>::new(blank);
+    let mut list = SharedList::<u64>::from_vec(vec![in alloc; 1, 2, 3, 4, 5]?, 1 << 40)?;
+    list.set_many(vec![in alloc; (0, 6), (3, 7), (4, 8)]?, &mut steps)?;
+    Ok(list.root())
+}
+
+#[test]
+fn many_items_are_set(rt: HostRuntime) -> Result<(), Fail> {
+    let root = many_set::<Brand>(rt.alloc(), Blank::new(1))?;
+    assert_eq!(rt;
+        root,
+        mix_in_length(&merkle_leaves(&[6u64, 2, 3, 7, 8], 40), 5)
+    );
     Ok(())
 }
