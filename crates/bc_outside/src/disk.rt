@@ -58,6 +58,11 @@ impl<F: Read + Drop> DiskFile<F> {
         self.place
     }
 
+    // How many bytes were handed out.
+    fn handed_out(&self) -> usize {
+        self.bytes.len()
+    }
+
     // Reads once, into the front of a piece.
     fn read(
         &mut self,
@@ -122,6 +127,11 @@ impl<'a, R: Files> DiskShelf<'a, R> {
         Some((name.as_bytes(), error))
     }
 
+    /// How many bytes were handed out of the file with this number, where it was opened.
+    pub fn handed_out(&self, file: usize) -> Option<usize> {
+        Some(self.opened.get(file)?.handed_out())
+    }
+
     // Opens a file, for which there is room.
     fn open_file(&mut self, name: &str) -> Result<u32, Trouble>
         requires { length (map (λ f. f.handed) self.old.files) < 2 ^ 32 }
@@ -182,11 +192,24 @@ impl<'a, R: Files> Shelf for DiskShelf<'a, R> {
     }
 }
 
+// How many line feeds a piece has.
+fn line_feeds(piece: &[u8]) -> u64 {
+    let mut count = 0u64;
+    for byte in piece {
+        if *byte == b'\n' {
+            count = count.saturating_add(1);
+        }
+    }
+    count
+}
+
 /// Standard output, or another writer of the operating system.
 #[derive(Drop)]
 pub struct StdSink<W: Write> {
     out: W,
     taken: Vec<Snapshot<u8>>,
+    // How many line feeds are among the bytes taken. It stays at its last number.
+    lines: u64,
     faults: FaultCounts,
     cause: Option<Error>,
 }
@@ -206,6 +229,7 @@ impl<W: Write> StdSink<W> {
         StdSink {
             out,
             taken: nothing_seen(alloc),
+            lines: 0,
             faults: FaultCounts::new(),
             cause: None,
         }
@@ -214,6 +238,11 @@ impl<W: Write> StdSink<W> {
     /// The cause of the last fault, where the writer gave one.
     pub fn last_cause(&self) -> Option<&Error> {
         self.cause.as_ref()
+    }
+
+    /// How many whole lines were taken.
+    pub fn lines(&self) -> u64 {
+        self.lines
     }
 
     // Writes from the front of a piece.
@@ -225,6 +254,7 @@ impl<W: Write> StdSink<W> {
         self.taken.reserve(piece.len())?;
         let n = patience::write(&mut self.out, piece, &mut self.faults, &mut self.cause)?;
         see(&mut self.taken, &piece[..n]);
+        self.lines = self.lines.saturating_add(line_feeds(&piece[..n]));
         Ok(n)
     }
 }

@@ -4,3 +4,4 @@ pub mod Steps
 pub mod OneByOne
 pub mod Readers
 pub mod Commands
+pub mod InMemory

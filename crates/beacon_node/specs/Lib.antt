@@ -1,3 +1,4 @@
 pub mod Answers
 pub mod Statuses
 pub mod inside
+pub mod laws

@@ -2,6 +2,9 @@
 
 use crate::status::Status;
 use crate::words::replay_files;
+use bc_preset::Preset;
+use beacon_state::shortest_state;
+use spec_state::GenesisFault;
 use std::fmt;
 use std::io::Error;
 
@@ -23,6 +26,10 @@ pub struct Explanation<'a, 'b> {
     pub words: &'a [String],
     /// Why the outside failed, where it is known.
     pub cause: Option<Cause<'b>>,
+    /// The event that was read or whose line was written, where the record was opened.
+    pub event: Option<u64>,
+    /// How many bytes were taken of the genesis file, where it was opened.
+    pub genesis_len: Option<usize>,
 }
 
 /// The names of the three files, or placeholders where the words are no command.
@@ -38,17 +45,42 @@ fn write_cause<W: fmt::Write>(
     f: &mut fmt::Formatter<W>,
     status: &str,
     what: &str,
-    cause: Option<Cause<'_>>,
+    explanation: &Explanation<'_, '_>,
 ) -> fmt::Result {
-    match cause {
+    write!(f, "{status}: ")?;
+    if let Some(event) = explanation.event {
+        write!(f, "event {event}: ")?;
+    }
+    match explanation.cause {
         Some(
             Cause {
                 name: Some(name),
                 error,
             },
-        ) => write!(f, "{status}: {name:?}: {error}"),
-        Some(Cause { name: None, error }) => write!(f, "{status}: {what}: {error}"),
-        None => write!(f, "{status}: {what}"),
+        ) => write!(f, "{name:?}: {error}"),
+        Some(Cause { name: None, error }) => write!(f, "{what}: {error}"),
+        None => write!(f, "{what}"),
+    }
+}
+
+/// A fault of the genesis state; where the file holds no state, its size beside those that a state has at least.
+fn write_genesis<W: fmt::Write>(
+    f: &mut fmt::Formatter<W>,
+    name: &str,
+    part: GenesisFault,
+    len: Option<usize>,
+) -> fmt::Result {
+    write!(f, "Genesis: {name:?}: {part}")?;
+    match (part, len) {
+        (GenesisFault::NotAWriting, Some(len)) => {
+            let minimal = shortest_state(&Preset::minimal());
+            let mainnet = shortest_state(&Preset::mainnet());
+            write!(
+                f,
+                ": the file has {len} bytes, and a state has at least {minimal} under the preset minimal and {mainnet} under mainnet"
+            )
+        }
+        _ => Ok(()),
     }
 }
 
@@ -62,7 +94,7 @@ impl fmt::Display for Explanation<'_, '_> {
                 "Words: expected the words `replay CONFIG GENESIS RECORD`"
             ),
             Status::Config(fault) => write!(f, "Config: {config:?}: {fault}"),
-            Status::Genesis(part) => write!(f, "Genesis: {genesis:?}: {part}"),
+            Status::Genesis(part) => write_genesis(f, genesis, *part, self.genesis_len),
             Status::Record {
                 event: 0,
                 fault,
@@ -75,13 +107,13 @@ impl fmt::Display for Explanation<'_, '_> {
                 f,
                 "ReadFault",
                 "a file could not be opened or read",
-                self.cause,
+                self,
             ),
             Status::WriteFault => write_cause(
                 f,
                 "WriteFault",
                 "the lines could not be written",
-                self.cause,
+                self,
             ),
             Status::NoMemory => write!(f, "NoMemory: memory ran out"),
         }

@@ -4,6 +4,7 @@
 mod events;
 mod explanation;
 mod genesis;
+mod law;
 mod lines;
 mod program;
 mod reading;
@@ -16,6 +17,7 @@ mod top;
 mod words;
 
 pub use explanation::{Cause, Explanation};
+pub use law::runs_in_memory;
 pub use program::run;
 pub use status::Status;
 pub use top::beacon_main;

@@ -55,13 +55,30 @@ fn cause_of<'a, R: Files, W: io::Write>(
     }
 }
 
+/// The number of the event that was read or whose line was written, where the record was opened: each event before it
+/// has its line.
+fn event_at<R: Files, W: io::Write>(shelf: &DiskShelf<'_, R>, out: &StdSink<W>) -> Option<u64> {
+    match shelf.handed_out(2) {
+        Some(_) => Some(out.lines().saturating_add(1)),
+        None => None,
+    }
+}
+
 /// Says on one line of standard error what a status means, unless the record was read to its end.
-fn explain<R: Eprint>(rt: &R, status: &Status, words: &[String], cause: Option<Cause<'_>>) {
+fn explain<R: Eprint + Files, W: io::Write>(
+    rt: &R,
+    status: &Status,
+    words: &[String],
+    shelf: &DiskShelf<'_, R>,
+    out: &StdSink<W>,
+) {
     if status.number() != 0 {
         let explanation = Explanation {
             status,
             words,
-            cause,
+            cause: cause_of(status, shelf, out),
+            event: event_at(shelf, out),
+            genesis_len: shelf.handed_out(1),
         };
         let _ = eprintln!(rt; "{explanation}");
     }
@@ -80,6 +97,6 @@ pub fn run<R: Env + Files + Print + Eprint + AllocGlobal>(rt: &R) -> u8 {
     let mut shelf = DiskShelf::new(rt.alloc(), rt);
     let mut out = StdSink::new(rt.alloc(), io::writer(rt));
     let status = beacon_main(rt.alloc(), &words, &mut shelf, &mut out);
-    explain(rt, &status, &words, cause_of(&status, &shelf, &out));
+    explain(rt, &status, &words, &shelf, &out);
     status.number()
 }

@@ -51,6 +51,8 @@ fn replay_genesis<F: Shelf, O: Sink>(
     };
     match read_genesis(alloc, config.preset(), &bytes) {
         Ok(genesis) => {
+            // A file of any size is in memory for no longer than it takes to read the state.
+            drop(bytes);
             let mut store = Store::at_genesis(genesis.time, genesis.root);
             replay_record(alloc, &mut store, record_name, shelf, out)
         }

@@ -9,12 +9,24 @@ use std::io::{Error, ErrorKind};
 use std::process::Abort;
 use std::test::Fail;
 
-// Compares the text of a status of `replay c g r`.
+// Compares the text of a status of `replay c g r`, of which the record wasn't opened.
 fn says(
     rt: &impl Abort,
     alloc: Global,
     status: Status,
     cause: Option<Cause<'_>>,
+    text: &str,
+) -> Result<(), Fail> {
+    says_at(rt, alloc, status, cause, None, text)
+}
+
+// Compares the text of a status of `replay c g r` at an event, where the genesis file has 7056 bytes.
+fn says_at(
+    rt: &impl Abort,
+    alloc: Global,
+    status: Status,
+    cause: Option<Cause<'_>>,
+    event: Option<u64>,
     text: &str,
 ) -> Result<(), Fail> {
     let mut words = Vec::new(alloc);
@@ -25,6 +37,8 @@ fn says(
         status: &status,
         words: &words,
         cause,
+        event,
+        genesis_len: Some(7056),
     };
     let said = format!(in alloc; "{explanation}")?;
     assert!(rt; said.as_str() == text);
@@ -57,8 +71,10 @@ fn texts_of_the_files(rt: HostRuntime) -> Result<(), Fail> {
         alloc,
         genesis,
         None,
-        "Genesis: \"g\": the bytes are no state of the preset",
+        "Genesis: \"g\": the bytes are no state of the preset: the file has 7056 bytes, and a state has at least 7057 under the preset minimal and 2687377 under mainnet",
     )?;
+    let slot = Status::Genesis(GenesisFault::Slot);
+    says(&rt, alloc, slot, None, "Genesis: \"g\": the slot is not 0")?;
     let torn = record(2, RecordFault::Torn);
     says(
         &rt,
@@ -106,5 +122,32 @@ fn texts_of_the_outside(rt: HostRuntime) -> Result<(), Fail> {
         Status::NoMemory,
         None,
         "NoMemory: memory ran out",
+    )
+}
+
+#[test]
+fn texts_in_the_record(rt: HostRuntime) -> Result<(), Fail> {
+    let alloc = rt.alloc();
+    let error = Error::from(ErrorKind::NotFound);
+    let read = Some(Cause {
+        name: Some("r"),
+        error: &error,
+    });
+    says_at(
+        &rt,
+        alloc,
+        Status::ReadFault,
+        read,
+        Some(3),
+        "ReadFault: event 3: \"r\": entity not found",
+    )?;
+    let written = "WriteFault: event 18446744073709551615: the lines could not be written";
+    says_at(
+        &rt,
+        alloc,
+        Status::WriteFault,
+        None,
+        Some(u64::MAX),
+        written,
     )
 }

@@ -17,4 +17,4 @@ mod written;
 
 pub use genesis::{empty_body_root, genesis_check};
 pub use state::State;
-pub use writing::{one_writing_of_states, state_reads_back};
+pub use writing::{one_writing_of_states, shortest_state, state_reads_back};

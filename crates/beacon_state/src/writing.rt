@@ -100,9 +100,9 @@ fn write_fields(alloc: Global, s: &State) -> Result<Written, NoMemory>
     Ok(out)
 }
 
-/// The length of the fixed part.
+/// The length of the fixed part of a writing, in bytes, which no state of the preset is shorter than.
 #[tactic(auto, unfolding(spec_state::specs::States::state_fields), using(bc_preset::proofs::Bounds::preset_bounds))]
-fn head_of(preset: &Preset) -> u64
+pub fn shortest_state(preset: &Preset) -> u64
     requires { IsPreset preset.now }
     ensures { result ≡ fixed_length (layout_of (state_fields preset.now)) }
 {
@@ -120,7 +120,7 @@ fn write_plain(alloc: Global, s: &State) -> Result<Vec<u8>, NoMemory>
 {
     let parts = write_fields(alloc, s)?;
     let layout = state_layout(s.preset());
-    join(alloc, &layout, &parts, head_of(s.preset()))
+    join(alloc, &layout, &parts, shortest_state(s.preset()))
 }
 
 impl State {
