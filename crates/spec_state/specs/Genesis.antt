@@ -3,7 +3,8 @@
 use Rattle.std.specs.Prelude.{ℕ, ◌+◌, ◌&&◌, not, Bool, List, [], ◌∷◌, length, replicate, Option, Some, None, Result, Ok, Err, nat_lt, nat_eq, ◌==◌, if◌then◌else◌}
 use Rattle.std.specs.List.{list_all}
 use Rattle.std.specs.Cmp.Lexicographic.{pointwise}
-use Rattle.hash_tree.specs.Merkle.{merkle_root, mix_in_length, byte_chunks}
+use Rattle.hash_tree.specs.Merkle.{merkleize, mix_in_length}
+use Rattle.ssz_codec.specs.Basic.{bytes96}
 use Rattle.bc_preset.specs.declared.presets.Preset.{Preset}
 use Rattle.beacon_types.specs.declared.block_header.BeaconBlockHeader.{BeaconBlockHeader}
 use Rattle.beacon_types.specs.declared.checkpoint.Checkpoint.{Checkpoint}
@@ -15,7 +16,7 @@ use Rattle.spec_state.specs.declared.fault.ValidatorFault.{ValidatorFault}
 use Rattle.spec_state.specs.declared.fault.ValidatorFault.TheVariants as validators
 use Rattle.spec_state.specs.declared.fault.GenesisFault.{GenesisFault}
 use Rattle.spec_state.specs.declared.fault.GenesisFault.TheVariants as parts
-use Rattle.spec_state.specs.Constants.{far_future_epoch, max_genesis_len}
+use Rattle.spec_state.specs.Constants.{far_future_epoch, max_genesis_len, max_proposer_slashings, max_attester_slashings, max_attestations, max_deposits, max_voluntary_exits}
 use Rattle.spec_state.specs.States.{state_codec}
 
 -- 32 zero bytes
@@ -25,16 +26,27 @@ zero_root = replicate 32 0
 abbrev pub zero_eth1_data : Eth1Data
 zero_eth1_data = record { deposit_root = zero_root; deposit_count = 0; block_hash = zero_root }
 
--- the root of the empty list in a tree of the depth
+-- the root of the empty list of at most so many values that are not basic
 abbrev pub empty_list_root : ℕ → List ℕ
-empty_list_root depth = mix_in_length (merkle_root depth []) 0
+empty_list_root limit = mix_in_length (merkleize [] limit) 0
 
--- The root of the empty block body: all fields zero, all lists empty (beacon-chain.md, "BeaconBlockBody"; the limits
--- of its lists are 16, 2, 128, 16 and 16).
+-- the roots of the fields of the empty block body, in order: all fields zero, all lists empty (beacon-chain.md,
+-- "BeaconBlockBody")
+abbrev pub empty_body_roots : List (List ℕ)
+empty_body_roots =
+    bytes96.hash_tree_root (replicate 96 0)
+    ∷ eth1_data_codec.hash_tree_root zero_eth1_data
+    ∷ zero_root
+    ∷ empty_list_root max_proposer_slashings
+    ∷ empty_list_root max_attester_slashings
+    ∷ empty_list_root max_attestations
+    ∷ empty_list_root max_deposits
+    ∷ empty_list_root max_voluntary_exits
+    ∷ []
+
+-- the root of the empty block body
 unfoldable pub empty_body_root : List ℕ
-empty_body_root =
-    merkle_root 3 (merkle_root 2 (byte_chunks (replicate 96 0)) ∷ eth1_data_codec.hash_tree_root zero_eth1_data ∷ zero_root
-    ∷ empty_list_root 4 ∷ empty_list_root 1 ∷ empty_list_root 7 ∷ empty_list_root 4 ∷ empty_list_root 4 ∷ [])
+empty_body_root = merkleize empty_body_roots (length empty_body_roots)
 
 -- the two roots are equal
 abbrev pub same_root : List ℕ → List ℕ → Bool
