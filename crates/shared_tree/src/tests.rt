@@ -90,6 +90,9 @@ fn lists_of_any_length(rt: HostRuntime) -> Result<(), Fail> {
         mix_in_length(&merkle_leaves(&[1u64, 2], 1), 2)
     );
     assert_eq!(rt; whole.share()?.root(), whole.root());
+    let none = SharedList::<u64>::from_vec(Vec::new(alloc), 1 << 40)?;
+    assert_eq!(rt; none.root(), mix_in_length(&zero_hash(40), 0));
+    assert_eq!(rt; none.len(), 0);
     Ok(())
 }
 
