@@ -1,6 +1,6 @@
 //! Roots of zero values, and a container of variable size read and written.
 
-ghost use Rattle.std.proofs.Common.{rules};
+ghost use Rattle.std.proofs.Common.{lit≤};
 
 use super::*;
 use hash_tree::{Leaf, Root};
@@ -132,7 +132,7 @@ impl ListLimit for Two {
 
     const LIMIT: u64 = 2;
 
-    ghost low = { Prim.search rules };
+    ghost low = { lit≤ tt };
 }
 
 // The root of the list of two attestations without indices, of at most two, computed as above.
