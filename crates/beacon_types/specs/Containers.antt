@@ -1,10 +1,11 @@
 -- The small containers of states and blocks, field by field in the order of the published specification (beacon-chain.md,
 -- "Containers").
-use Rattle.std.specs.Prelude.{List, Bool}
+use Rattle.std.specs.Prelude.{ℕ, ◌+◌, List, Bool}
 use Rattle.ssz_codec.specs.Codec.{Codec}
 use Rattle.ssz_codec.specs.Containers.{Fields, fields_of, ◌▹◌∶◌, container_of}
 use Rattle.ssz_codec.specs.Basic.{uint64, boolean, bytes4, bytes32, bytes48, bytes96}
 use Rattle.ssz_codec.specs.BitLists.{bitlist}
+use Rattle.ssz_codec.specs.Lists.{list_codec, vector_codec}
 use Rattle.beacon_types.specs.declared.pending_attestation.PendingAttestation.{PendingAttestation}
 use Rattle.beacon_types.specs.declared.fork.Fork.{Fork}
 use Rattle.beacon_types.specs.declared.checkpoint.Checkpoint.{Checkpoint}
@@ -14,6 +15,8 @@ use Rattle.beacon_types.specs.declared.eth1_data.Eth1Data.{Eth1Data}
 use Rattle.beacon_types.specs.declared.block_header.BeaconBlockHeader.{BeaconBlockHeader}
 use Rattle.beacon_types.specs.declared.voluntary_exit.VoluntaryExit.{VoluntaryExit}
 use Rattle.beacon_types.specs.declared.deposit_data.DepositData.{DepositData}
+use Rattle.beacon_types.specs.declared.indexed_attestation.IndexedAttestation.{IndexedAttestation}
+use Rattle.beacon_types.specs.declared.deposit.Deposit.{Deposit}
 use Rattle.beacon_types.specs.declared.signed_header.SignedBeaconBlockHeader.{SignedBeaconBlockHeader}
 use Rattle.beacon_types.specs.declared.signed_exit.SignedVoluntaryExit.{SignedVoluntaryExit}
 
@@ -94,9 +97,13 @@ voluntary_exit_fields = fields_of (λ epoch validator. record { epoch = epoch; v
 abbrev pub voluntary_exit_codec : Codec VoluntaryExit
 voluntary_exit_codec = container_of voluntary_exit_fields
 
+-- MAX_VALIDATORS_PER_COMMITTEE, which all presets share
+abbrev pub max_validators_per_committee : ℕ
+max_validators_per_committee = 2048
+
 -- Bitlist[MAX_VALIDATORS_PER_COMMITTEE]
 abbrev pub aggregation_bits_codec : Codec (List Bool)
-aggregation_bits_codec = bitlist 2048
+aggregation_bits_codec = bitlist max_validators_per_committee
 
 -- PendingAttestation; the published field data is called content
 abbrev pub pending_attestation_fields : Fields PendingAttestation PendingAttestation
@@ -119,6 +126,29 @@ deposit_data_fields = fields_of (λ pubkey withdrawal_credentials amount signatu
 
 abbrev pub deposit_data_codec : Codec DepositData
 deposit_data_codec = container_of deposit_data_fields
+
+-- IndexedAttestation; the published field data is called content
+abbrev pub indexed_attestation_fields : Fields IndexedAttestation IndexedAttestation
+indexed_attestation_fields = fields_of (λ indices content signature. record { attesting_indices = indices; content = content; signature = signature })
+    ▹ (λ v. v.attesting_indices) ∶ list_codec uint64 max_validators_per_committee
+    ▹ (λ v. v.content) ∶ attestation_data_codec
+    ▹ (λ v. v.signature) ∶ bytes96
+
+abbrev pub indexed_attestation_codec : Codec IndexedAttestation
+indexed_attestation_codec = container_of indexed_attestation_fields
+
+-- DEPOSIT_CONTRACT_TREE_DEPTH
+abbrev pub deposit_contract_tree_depth : ℕ
+deposit_contract_tree_depth = 32
+
+-- Deposit; the published field data is called content
+abbrev pub deposit_fields : Fields Deposit Deposit
+deposit_fields = fields_of (λ proof content. record { proof = proof; content = content })
+    ▹ (λ v. v.proof) ∶ vector_codec bytes32 (deposit_contract_tree_depth + 1)
+    ▹ (λ v. v.content) ∶ deposit_data_codec
+
+abbrev pub deposit_codec : Codec Deposit
+deposit_codec = container_of deposit_fields
 
 -- SignedBeaconBlockHeader
 abbrev pub signed_header_fields : Fields SignedBeaconBlockHeader SignedBeaconBlockHeader

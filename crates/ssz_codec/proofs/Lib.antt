@@ -1,4 +1,5 @@
 mod Cutting
 pub mod ItemsLoop
-pub mod VariableList
+pub mod ListOfParts
 pub mod HeldBits
+pub mod Halves

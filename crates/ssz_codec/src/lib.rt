@@ -12,9 +12,13 @@ mod items;
 mod layout;
 mod limited;
 mod lists;
+mod number_list;
+mod parts_writer;
 mod pieces;
+mod root_vector;
 mod roots;
 mod ssz;
+mod variable_list;
 mod writer;
 
 pub use bit_list::{BitList, bits_read_back, one_writing_of_bits};
@@ -23,9 +27,13 @@ pub use items::Items;
 pub use layout::{Field, cut};
 pub use limited::{LimitedList, ListLimit};
 pub use lists::{append_items, read_items, read_list, read_variable_list};
+pub use number_list::NumberList;
+pub use parts_writer::PartsWriter;
 pub use pieces::{Cut, Parts};
+pub use root_vector::{RootVector, VectorLength};
 pub use roots::{list_root, number_list_root, number_vector_root, variable_list_root, vector_root};
 pub use ssz::{FixedSsz, Ssz, one_writing, reads_back};
+pub use variable_list::{VariableList, VariableSsz};
 pub use writer::Writer;
 
 #[cfg(test)]

@@ -69,6 +69,18 @@ impl Writer {
         Ok(())
     }
 
+    /// What is written.
+    pub(crate) fn as_slice(&self) -> &[u8]
+        ensures { result.now ≡ self.now }
+    {
+        self.bytes.as_slice()
+    }
+
+    /// Where its memory comes from.
+    pub(crate) fn alloc(&self) -> Global {
+        *self.bytes.allocator()
+    }
+
     /// How many bytes are written.
     pub fn len(&self) -> usize
         ensures { result ≡ length self.now }

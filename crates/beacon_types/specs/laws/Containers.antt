@@ -1,10 +1,11 @@
 -- The containers keep the law of codecs. Proofs, not definitions.
-use Rattle.std.proofs.Common.{refl, arith}
+use Rattle.std.proofs.Common.{◌≤◌, ◌^◌, ◌+◌, refl, arith}
 use Rattle.ssz_codec.specs.Lawful.{IsLawful, IsFixed}
 use Rattle.ssz_codec.specs.laws.Containers.{start, ◌▸◌, container_of_lawful}
-use Rattle.ssz_codec.specs.laws.Basic.{uint64_lawful, boolean_lawful, bytes_lawful, bytes32_lawful}
+use Rattle.ssz_codec.specs.laws.Basic.{uint64_lawful, boolean_lawful, bytes_lawful, bytes32_lawful, uint64_is_fixed, bytes32_is_fixed}
 use Rattle.ssz_codec.specs.laws.BitLists.{bitlist_lawful}
-use Rattle.beacon_types.specs.Containers.{fork_fields, fork_codec, checkpoint_fields, checkpoint_codec, validator_fields, validator_codec, attestation_data_fields, attestation_data_codec, eth1_data_fields, eth1_data_codec, block_header_fields, block_header_codec, voluntary_exit_fields, voluntary_exit_codec, aggregation_bits_codec, pending_attestation_fields, pending_attestation_codec, deposit_data_fields, deposit_data_codec, signed_header_fields, signed_header_codec, signed_exit_fields, signed_exit_codec}
+use Rattle.ssz_codec.specs.laws.Lists.{list_lawful, vector_lawful}
+use Rattle.beacon_types.specs.Containers.{fork_fields, fork_codec, checkpoint_fields, checkpoint_codec, validator_fields, validator_codec, attestation_data_fields, attestation_data_codec, eth1_data_fields, eth1_data_codec, block_header_fields, block_header_codec, voluntary_exit_fields, voluntary_exit_codec, aggregation_bits_codec, pending_attestation_fields, pending_attestation_codec, deposit_data_fields, deposit_data_codec, max_validators_per_committee, indexed_attestation_fields, indexed_attestation_codec, deposit_contract_tree_depth, deposit_fields, deposit_codec, signed_header_fields, signed_header_codec, signed_exit_fields, signed_exit_codec}
 
 pub fork_lawful : IsLawful fork_codec
 fork_lawful = container_of_lawful fork_fields (λ v. refl) (λ a. refl) (start ▸ bytes_lawful 4 ▸ bytes_lawful 4 ▸ uint64_lawful)
@@ -40,6 +41,20 @@ pending_attestation_lawful = container_of_lawful pending_attestation_fields (λ 
 pub deposit_data_lawful : IsLawful deposit_data_codec
 deposit_data_lawful = container_of_lawful deposit_data_fields (λ v. refl) (λ a. refl) (start ▸ bytes_lawful 48 ▸ bytes32_lawful ▸ uint64_lawful ▸ bytes_lawful 96)
 
+pub max_members_low : max_validators_per_committee ≤ 2 ^ 40
+max_members_low = omega arith
+
+pub indexed_attestation_lawful : IsLawful indexed_attestation_codec
+indexed_attestation_lawful = container_of_lawful indexed_attestation_fields (λ v. refl) (λ a. refl)
+    (start ▸ list_lawful _ max_validators_per_committee uint64_is_fixed uint64_lawful ▸ attestation_data_lawful ▸ bytes_lawful 96)
+
+pub deposit_proof_low : deposit_contract_tree_depth + 1 ≤ 2 ^ 40
+deposit_proof_low = omega arith
+
+pub deposit_lawful : IsLawful deposit_codec
+deposit_lawful = container_of_lawful deposit_fields (λ v. refl) (λ a. refl)
+    (start ▸ vector_lawful _ (deposit_contract_tree_depth + 1) bytes32_is_fixed bytes32_lawful ▸ deposit_data_lawful)
+
 pub signed_header_lawful : IsLawful signed_header_codec
 signed_header_lawful = container_of_lawful signed_header_fields (λ v. refl) (λ a. refl) (start ▸ block_header_lawful ▸ bytes_lawful 96)
 
@@ -70,6 +85,9 @@ voluntary_exit_fixed = omega arith
 
 pub deposit_data_fixed : IsFixed deposit_data_codec.field
 deposit_data_fixed = omega arith
+
+pub deposit_fixed : IsFixed deposit_codec.field
+deposit_fixed = omega arith
 
 pub signed_header_fixed : IsFixed signed_header_codec.field
 signed_header_fixed = omega arith

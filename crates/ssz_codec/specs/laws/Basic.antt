@@ -36,6 +36,9 @@ uint64_lawful = record {
   size = λ v within. number_len v;
 }
 
+pub uint64_is_fixed : IsFixed uint64.field
+uint64_is_fixed = omega arith
+
 bool_sound : (bytes : List ℕ) (v : Bool) → parse_bool bytes ≡ Some v → bytes ≡ bool_bytes v
 bool_sound [] v e = absurd cc
 bool_sound (zero ∷ []) v e = ap bool_bytes (some_is false v e)

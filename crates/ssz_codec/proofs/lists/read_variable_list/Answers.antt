@@ -3,7 +3,7 @@ use Rattle.std.proofs.lemmas.Result.{err_from_is_err_and}
 use Rattle.std.proofs.lemmas.Bool.{eqb-true, eqb-false}
 use Rattle.ssz_codec.specs.Lists.{parse_parts}
 use Rattle.ssz_codec.specs.Reads.{ReadsAs}
-use Rattle.ssz_codec.proofs.VariableList.{list_none, list_short, list_past, list_over, list_uncut, list_cut}
+use Rattle.ssz_codec.proofs.ListOfParts.{list_none, list_short, list_past, list_over, list_uncut, list_cut}
 use Rattle.ssz_codec.proofs.lists.read_variable_list.Goals as goal
 
 pub returns-then-is_empty : goal.returns-then-is_empty

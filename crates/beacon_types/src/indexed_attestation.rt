@@ -1,0 +1,105 @@
+//! An attestation with the indices of its validators.
+
+ghost use Rattle.std.specs.Prelude.{◌≡◌, ℕ, ◌≤◌, ◌^◌, refl, IsTrue, ◌↔◌};
+ghost use Rattle.beacon_types.specs.Containers.{indexed_attestation_codec};
+ghost use Rattle.beacon_types.specs.laws.Containers.{indexed_attestation_lawful, max_members_low};
+
+use crate::attestation_data::AttestationData;
+use bc_words::NoMemory;
+use hash_tree::{Leaf, Root};
+use ssz_codec::{
+    Field, ListLimit, NumberList, Ssz, SszFault, VariableSsz, Writer, read_container,
+    root_of_container,
+};
+use std::alloc::Global;
+
+/// How many members a committee may have (phase 0 presets, "MAX_VALIDATORS_PER_COMMITTEE"; all presets share it).
+#[derive(Drop)]
+pub struct CommitteeLimit;
+
+impl ListLimit for CommitteeLimit {
+    ghost LIMIT = { 2048 };
+
+    const LIMIT: u64 = 2048;
+
+    ghost low = { max_members_low };
+}
+
+/// The indices of the validators that attested.
+pub type AttestingIndices = NumberList<CommitteeLimit>;
+
+/// A vote with the validators that signed it (beacon-chain.md, "IndexedAttestation").
+#[derive(Drop)]
+pub struct IndexedAttestation {
+    /// The validators.
+    pub attesting_indices: AttestingIndices,
+    /// What they voted for, the published field `data`.
+    pub content: AttestationData,
+    /// The signature, which is kept and not checked.
+    pub signature: [u8; 96],
+}
+
+impl IndexedAttestation {
+    /// Whether it is the same attestation.
+    pub fn equals(&self, other: &IndexedAttestation) -> bool
+        ensures { IsTrue result ↔ (self.now ≡ other.now) }
+    {
+        self.attesting_indices.equals(&other.attesting_indices)
+            && self.content == other.content
+            && self.signature == other.signature
+    }
+}
+
+impl Leaf for IndexedAttestation {
+    ghost root_of = { indexed_attestation_codec.hash_tree_root };
+
+    fn root(&self) -> Root {
+        root_of_container!(self, attesting_indices, content, signature)
+    }
+}
+
+impl Ssz for IndexedAttestation {
+    ghost codec = { indexed_attestation_codec };
+
+    fn field() -> Field {
+        Field::Variable
+    }
+
+    fn parse(alloc: Global, bytes: &[u8]) -> Result<IndexedAttestation, SszFault> {
+        read_container!(
+            alloc,
+            bytes,
+            IndexedAttestation {
+                attesting_indices: AttestingIndices,
+                content: AttestationData,
+                signature: [u8; 96]
+            }
+        )
+    }
+
+    #[tactic(auto, unfolding(ssz_codec::specs::Layout::joined, ssz_codec::specs::Layout::fixed_parts, ssz_codec::specs::Layout::variable_parts))]
+    fn append_to(&self, out: &mut Writer) -> Result<(), NoMemory> {
+        out.put_u32(228)?;
+        self.content.write_to(out)?;
+        self.signature.write_to(out)?;
+        self.attesting_indices.write_to(out)?;
+        Ok(())
+    }
+
+    ghost lawful = { indexed_attestation_lawful };
+
+    ghost roots = { refl };
+}
+
+impl VariableSsz for IndexedAttestation {
+    fn copy(&self) -> Result<IndexedAttestation, NoMemory> {
+        let attesting_indices = self.attesting_indices.copy()?;
+        Ok(IndexedAttestation {
+            attesting_indices,
+            content: self.content,
+            signature: self.signature,
+        })
+    }
+
+    ghost is_variable = { refl };
+}

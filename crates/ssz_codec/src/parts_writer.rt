@@ -1,0 +1,80 @@
+//! A container, or a list of variable parts, while it is written: the fixed part and the variable parts grow in two
+//! buffers, and are joined at the end. Values come from the writers of containers, and the bytes go to theirs.
+
+ghost use Rattle.std.specs.Prelude.{◌≡◌, ◌+◌, ◌++◌, length, take, OnOk, OnErr};
+ghost use Rattle.ssz_codec.specs.declared.layout.Field.TheVariants.{Variable};
+ghost use Rattle.ssz_codec.specs.Layout.{offset_bytes};
+ghost use Rattle.ssz_codec.specs.inside.Halves.{nothing_written, with_part, whole_of};
+
+use crate::layout::Field;
+use crate::ssz::Ssz;
+use crate::writer::Writer;
+use bc_words::NoMemory;
+use std::alloc::Global;
+use std::marker::Model;
+
+/// What is written so far of a container (simple-serialize.md, "Serialization"). Where memory is refused, it is of no use
+/// any more.
+#[derive(Drop)]
+pub struct PartsWriter {
+    fixed: Writer,
+    variable: Writer,
+    start: u64,
+}
+
+impl Model for PartsWriter {
+    ghost use Rattle.ssz_codec.specs.inside.Halves.{Halves};
+
+    ghost Value = { Halves };
+
+    ghost view = { λ w. record { fixed = w.fixed; variable = w.variable; start = w.start } };
+}
+
+impl PartsWriter {
+    /// Nothing is written yet. The whole fixed part will have that length.
+    pub fn new(alloc: Global, fixed_length: u64) -> PartsWriter
+        ensures { result ≡ nothing_written fixed_length }
+    {
+        PartsWriter {
+            fixed: Writer::new(alloc),
+            variable: Writer::new(alloc),
+            start: fixed_length,
+        }
+    }
+
+    /// The offset of the variable part that comes next, in four bytes. One that has no room there is cut.
+    #[tactic(auto, unfolding(crate::specs::Layout::offset_bytes))]
+    fn put_offset(&mut self) -> Result<(), NoMemory>
+        ensures { OnOk result (self.new ≡ record { fixed = self.old.fixed ++ offset_bytes (self.old.start + length self.old.variable); variable = self.old.variable; start = self.old.start }) }
+    {
+        let offset = u128::from(self.start) + self.variable.len() as u128;
+        self.fixed.put_bytes(&offset.to_le_bytes()[..4])
+    }
+
+    /// A variable part.
+    pub fn add_variable<T: Ssz>(&mut self, value: &T) -> Result<(), NoMemory>
+        ensures { OnOk result (self.new ≡ with_part Variable (T.codec.serialize value.now) self.old) }
+    {
+        self.put_offset()?;
+        value.write_to(&mut self.variable)
+    }
+
+    /// The next field.
+    pub fn add<T: Ssz>(&mut self, value: &T) -> Result<(), NoMemory>
+        ensures { OnOk result (self.new ≡ with_part T.codec.field (T.codec.serialize value.now) self.old) }
+    {
+        match T::field() {
+            Field::Fixed(_) => value.write_to(&mut self.fixed),
+            Field::Variable => self.add_variable(value),
+        }
+    }
+
+    /// All that is written goes behind these bytes. Where memory is refused, a part of it may stand there.
+    pub fn append_to(&self, out: &mut Writer) -> Result<(), NoMemory>
+        ensures ok { OnOk result (out.new ≡ out.old ++ whole_of self.now) }
+        ensures err { OnErr result (take (length out.old) out.new ≡ out.old) }
+    {
+        out.put_bytes(self.fixed.as_slice())?;
+        out.put_bytes(self.variable.as_slice())
+    }
+}

@@ -1,0 +1,167 @@
+//! Lists of values of variable size whose type says how many there may be, as blocks have of attestations. Bytes come
+//! from containers, which are read, written and rooted with such a field as with any other.
+
+ghost use Rattle.std.specs.Prelude.{◌≡◌, ◌==◌, ◌≤◌, ◌*◌, ◌^◌, ◌++◌, length, map, replicate, take, refl, OnOk, OnErr, IfOk};
+ghost use Rattle.ssz_codec.specs.declared.layout.Field.TheVariants.{Variable};
+ghost use Rattle.ssz_codec.specs.Layout.{joined};
+ghost use Rattle.ssz_codec.specs.Lists.{variable_list_codec};
+ghost use Rattle.ssz_codec.specs.laws.Lists.{variable_list_lawful};
+ghost use Rattle.ssz_codec.specs.inside.Halves.{nothing_written, with_variable_parts};
+
+use crate::fault::SszFault;
+use crate::items::Items;
+use crate::layout::Field;
+use crate::limited::ListLimit;
+use crate::lists::read_variable_list;
+use crate::parts_writer::PartsWriter;
+use crate::roots::variable_list_root;
+use crate::ssz::Ssz;
+use crate::writer::Writer;
+use bc_words::NoMemory;
+use hash_tree::{Leaf, Root};
+use std::alloc::Global;
+use std::marker::{Model, PhantomData};
+
+/// A value of variable size: a list of such values is written with an offset for each.
+pub trait VariableSsz: Ssz {
+    /// The same value once more.
+    fn copy(&self) -> Result<Self, NoMemory>
+        ensures { IfOk result (λ copy. copy ≡ self.now) };
+
+    /// Its size is variable.
+    ghost is_variable: { Self.Ssz.codec.field ≡ Variable };
+}
+
+/// A list of values of variable size, of which there may be at most `L` (simple-serialize.md, "List[T, N]"). Clauses see
+/// it as the list alone.
+#[derive(Drop)]
+pub struct VariableList<T: VariableSsz, L: ListLimit> {
+    values: Items<T>,
+    limit: PhantomData<L>,
+}
+
+impl<T: VariableSsz, L: ListLimit> Model for VariableList<T, L> {
+    ghost use Rattle.std.specs.Prelude.{List, ◌≤◌, length};
+
+    ghost Value = { List T };
+
+    ghost view = { λ list. list.values };
+
+    ghost invariant = { λ list. length list.values ≤ L.LIMIT };
+}
+
+impl<T: VariableSsz, L: ListLimit> VariableList<T, L> {
+    /// The list of these values, of which there must not be more than the limit.
+    pub fn from_items(values: Items<T>) -> VariableList<T, L>
+        requires { length values ≤ L.LIMIT }
+        ensures { result ≡ values }
+    {
+        VariableList {
+            values,
+            limit: PhantomData,
+        }
+    }
+
+    /// All of them.
+    pub fn as_slice(&self) -> &[T]
+        ensures same { result.now ≡ self.now }
+        ensures limit { length self.now ≤ L.LIMIT }
+    {
+        self.values.as_slice()
+    }
+
+    /// How many there are.
+    pub fn len(&self) -> u64
+        ensures same { result ≡ length self.now }
+        ensures limit { length self.now ≤ L.LIMIT }
+    {
+        self.values.len() as u64
+    }
+
+    /// Whether there is none.
+    pub fn is_empty(&self) -> bool
+        ensures { result ≡ (length self.now == 0) }
+    {
+        self.values.is_empty()
+    }
+
+    /// The same values once more.
+    pub fn copy(&self, alloc: Global) -> Result<VariableList<T, L>, NoMemory>
+        ensures { IfOk result (λ copy. copy ≡ self.now) }
+    {
+        let _len = self.len();
+        let values = copy_all(alloc, self.values.as_slice())?;
+        Ok(VariableList {
+            values,
+            limit: PhantomData,
+        })
+    }
+}
+
+/// The same values once more.
+fn copy_all<T: VariableSsz>(alloc: Global, values: &[T]) -> Result<Items<T>, NoMemory>
+    ensures { IfOk result (λ copies. copies ≡ values.now) }
+{
+    let mut copies = Vec::with_capacity(alloc, values.len())?;
+    for value in values {
+        copies.push(value.copy()?)?;
+    }
+    Ok(Items::from_vec(copies))
+}
+
+/// The offsets and the writings of the values.
+fn write_parts<T: Ssz>(alloc: Global, values: &[T]) -> Result<PartsWriter, NoMemory>
+    requires { length values.now ≤ 2 ^ 40 }
+    ensures { IfOk result (λ parts. parts ≡ with_variable_parts (map T.codec.serialize values.now) (nothing_written (4 * length values.now))) }
+{
+    let mut parts = PartsWriter::new(alloc, 4 * values.len() as u64);
+    for value in values {
+        parts.add_variable(value)?;
+    }
+    Ok(parts)
+}
+
+/// Writes a list of values of variable size. Where memory is refused, a part of it may stand there.
+#[tactic(auto, using(crate::proofs::Halves::list_joined))]
+fn append_list<T: Ssz>(values: &[T], out: &mut Writer) -> Result<(), NoMemory>
+    requires { length values.now ≤ 2 ^ 40 }
+    ensures ok { OnOk result (out.new ≡ out.old ++ joined (replicate (length values.now) Variable) (map T.codec.serialize values.now)) }
+    ensures err { OnErr result (take (length out.old) out.new ≡ out.old) }
+{
+    let parts = write_parts(out.alloc(), values)?;
+    parts.append_to(out)
+}
+
+impl<T: VariableSsz, L: ListLimit> Leaf for VariableList<T, L> {
+    ghost root_of = { (variable_list_codec T.Ssz.codec L.LIMIT).hash_tree_root };
+
+    fn root(&self) -> Root {
+        let _low = L::LIMIT;
+        variable_list_root(self.as_slice(), L::LIMIT)
+    }
+}
+
+impl<T: VariableSsz, L: ListLimit> Ssz for VariableList<T, L> {
+    ghost codec = { variable_list_codec T.Ssz.codec L.LIMIT };
+
+    fn field() -> Field {
+        Field::Variable
+    }
+
+    fn parse(alloc: Global, bytes: &[u8]) -> Result<VariableList<T, L>, SszFault> {
+        let values = read_variable_list(alloc, bytes, L::LIMIT)?;
+        Ok(VariableList {
+            values,
+            limit: PhantomData,
+        })
+    }
+
+    fn append_to(&self, out: &mut Writer) -> Result<(), NoMemory> {
+        let _low = L::LIMIT;
+        append_list(self.as_slice(), out)
+    }
+
+    ghost lawful = { variable_list_lawful T.Ssz.codec L.LIMIT T.Ssz.lawful };
+
+    ghost roots = { refl };
+}
