@@ -2,10 +2,13 @@
 
 ghost use Rattle.std.specs.Prelude.{◌≤◌};
 
+mod made_up;
+
 use crate::{
     DiskShelf, MemoryFile, MemoryShelf, MemorySink, Shelf, StdSink, Trouble, read_at_most,
     write_all,
 };
+use made_up::{OneFile, ThreeBytes};
 use std::alloc::Global;
 use std::process::Abort;
 use std::test::Fail;
@@ -89,5 +92,41 @@ fn disk(rt: HostRuntime) -> Result<(), Fail> {
 fn standard_output(rt: HostRuntime) -> Result<(), Fail> {
     let mut sink = StdSink::new(rt.alloc(), io::writer(&rt));
     write_all(&mut sink, TEXT.as_slice())?;
+    Ok(())
+}
+
+#[test]
+fn made_up_files(rt: HostRuntime) -> Result<(), Fail> {
+    let mut text = Vec::new(rt.alloc());
+    for i in 0..150_000u32 {
+        text.push((i % 251) as u8)?;
+    }
+    let files = OneFile {
+        alloc: rt.alloc(),
+        name: " a name ",
+        bytes: text,
+    };
+    let mut shelf = DiskShelf::new(rt.alloc(), &files);
+    assert!(rt; shelf.open("a name").is_err());
+    let whole = shelf.open(" a name ")?;
+    let front = shelf.open(" a name ")?;
+    let read = read_at_most(rt.alloc(), &mut shelf, whole, 1_000_000)?;
+    assert!(rt; read.as_slice() == files.bytes.as_slice());
+    let read = read_at_most(rt.alloc(), &mut shelf, front, 70_001)?;
+    assert_eq!(rt; read.len(), 70_001);
+    assert!(rt; files.bytes.as_slice().starts_with(read.as_slice()));
+    assert_eq!(rt; shelf.handed_out(0), Some(150_000));
+    assert_eq!(rt; shelf.handed_out(1), Some(70_001));
+    assert_eq!(rt; shelf.handed_out(2), None);
+    Ok(())
+}
+
+#[test]
+fn lines_that_were_taken(rt: HostRuntime) -> Result<(), Fail> {
+    let mut sink = StdSink::new(rt.alloc(), ThreeBytes { calls: 0 });
+    write_all(&mut sink, b"one\ntwo\n".as_slice())?;
+    assert_eq!(rt; sink.lines(), 2);
+    assert!(rt; write_all(&mut sink, b"three\n".as_slice()).is_err());
+    assert_eq!(rt; sink.lines(), 2);
     Ok(())
 }
