@@ -13,9 +13,13 @@ const FAR_FUTURE_EPOCH: u64 = 18_446_744_073_709_551_615;
 
 // The limits of the lists of a block (beacon-chain.md, "Max operations per block").
 const MAX_PROPOSER_SLASHINGS: u64 = 16;
+
 const MAX_ATTESTER_SLASHINGS: u64 = 2;
+
 const MAX_ATTESTATIONS: u64 = 128;
+
 const MAX_DEPOSITS: u64 = 16;
+
 const MAX_VOLUNTARY_EXITS: u64 = 16;
 
 /// The root of the empty list of at most so many values that are not basic.
