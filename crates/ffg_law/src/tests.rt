@@ -3,7 +3,7 @@
 //! genesis surrounds that one. Validators 1 and 2 voted for both.
 
 use super::*;
-use beacon_types::Checkpoint;
+use beacon_types::{AttestationData, Checkpoint};
 use spec_epochs::Justification;
 
 const WEIGHTS: [u64; 4] = [10, 10, 10, 10];
@@ -229,6 +229,21 @@ fn two_chains_convict_a_third(_rt: HostRuntime) {
             target: b5,
         },
     ];
+    let inner = AttestationData {
+        slot: 24,
+        index: 0,
+        beacon_block_root: [1; 32],
+        source: a2,
+        target: a3,
+    };
+    let outer = AttestationData {
+        slot: 40,
+        index: 0,
+        beacon_block_root: [2; 32],
+        source: GENESIS,
+        target: b5,
+    };
+    votes_are_slashable(&inner, &outer);
     finals_conflict(GENESIS, &first, &second, a2, b5);
     let first_voters = [0, 1, 2];
     let second_voters = [1, 2, 3];
