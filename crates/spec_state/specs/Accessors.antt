@@ -5,6 +5,7 @@ use Rattle.std.specs.Int.{w64, to_le_bytes}
 use Rattle.bc_words.specs.Outcome.{Outcome, done, ◌>>=◌, checked_sum_by}
 use Rattle.bc_preset.specs.declared.configuration.ConfigValues.{ConfigValues}
 use Rattle.hash_tree.specs.Merkle.{hash}
+use Rattle.beacon_types.specs.declared.attestation_data.AttestationData.{AttestationData}
 use Rattle.beacon_types.specs.declared.validator.Validator.{Validator}
 use Rattle.committees.specs.Seeds.{seed_from}
 use Rattle.committees.specs.Committees.{Committees, committee_count_per_slot, compute_committee, committees_of}
@@ -84,3 +85,14 @@ get_total_balance state indices = do
 -- get_total_active_balance
 abbrev pub get_total_active_balance : PlainState → Outcome ℕ
 get_total_active_balance state = get_total_balance state (get_active_validator_indices state (get_current_epoch state))
+
+-- the members of a committee whose bit is set, in the committee's order
+unfoldable pub members_with_bits : List ℕ → List Bool → List ℕ
+members_with_bits [] bits = []
+members_with_bits (member ∷ committee) [] = []
+members_with_bits (member ∷ committee) (bit ∷ bits) =
+    if bit then member ∷ members_with_bits committee bits else members_with_bits committee bits
+
+-- get_attesting_indices, in the committee's order
+unfoldable pub get_attesting_indices : PlainState → AttestationData → List Bool → List ℕ
+get_attesting_indices state attestation bits = members_with_bits (get_beacon_committee state attestation.slot attestation.index) bits

@@ -5,6 +5,10 @@ use Rattle.std.specs.Prelude.{ℕ, List, [], ◌∷◌}
 abbrev pub far_future_epoch : ℕ
 far_future_epoch = 18446744073709551615
 
+-- BASE_REWARDS_PER_EPOCH
+abbrev pub base_rewards_per_epoch : ℕ
+base_rewards_per_epoch = 4
+
 -- DOMAIN_BEACON_PROPOSER
 abbrev pub domain_beacon_proposer : List ℕ
 domain_beacon_proposer = 0 ∷ 0 ∷ 0 ∷ 0 ∷ []
