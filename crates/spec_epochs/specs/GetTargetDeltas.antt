@@ -1,0 +1,12 @@
+-- get_target_deltas (beacon-chain.md, "Components of attestation deltas").
+use Rattle.bc_words.specs.Outcome.{Outcome}
+use Rattle.spec_state.specs.declared.plain.PlainState.{PlainState}
+use Rattle.spec_state.specs.Accessors.{get_previous_epoch}
+use Rattle.spec_epochs.specs.declared.deltas.Deltas.{Deltas}
+use Rattle.spec_epochs.specs.Helpers.{get_matching_target_attestations}
+use Rattle.spec_epochs.specs.GetAttestationComponentDeltas.{get_attestation_component_deltas}
+
+-- get_target_deltas(state)
+unfoldable pub get_target_deltas : PlainState → Outcome Deltas
+get_target_deltas state =
+    get_attestation_component_deltas state (get_matching_target_attestations state (get_previous_epoch state))
