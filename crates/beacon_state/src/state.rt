@@ -9,6 +9,7 @@ ghost use Rattle.spec_state.specs.Limits.{IsState, IsInRange};
 mod getters;
 mod setters;
 mod slices;
+mod whole;
 
 use crate::values::Values;
 use bc_preset::Preset;

@@ -88,6 +88,17 @@ impl<T: InRange> Values<T> {
         Ok(())
     }
 
+    /// Writes other values in the place of all of them.
+    #[tactic(auto, using(crate::proofs::Within::all_none_taken, crate::proofs::Within::all_taken_more, crate::proofs::Within::all_taken))]
+    pub(crate) fn replace(&mut self, values: Vec<T>)
+        ensures { self.new ≡ values.items }
+    {
+        for value in &values {
+            value.in_range();
+        }
+        self.values = values;
+    }
+
     /// Drops all of them.
     pub(crate) fn clear(&mut self)
         ensures { self.new ≡ [] }
