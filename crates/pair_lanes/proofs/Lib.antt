@@ -3,3 +3,4 @@ pub mod Schedules
 pub mod Padding
 pub mod Hashes
 pub mod Layers
+pub mod Maps

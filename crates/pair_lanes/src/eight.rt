@@ -50,7 +50,7 @@ fn words(pairs: &[[[u8; 32]; 2]], place: usize) -> u32x8
 
 /// The words of eight pairs, at the head of a schedule.
 #[inline(always)]
-fn load(pairs: &[[[u8; 32]; 2]], w: &mut [u32x8; 64])
+pub(crate) fn load(pairs: &[[[u8; 32]; 2]], w: &mut [u32x8; 64])
     requires { length pairs.now ≡ 8 }
     ensures words { (j k : ℕ) → j < 8 → k < 16 → lane_at w.new k j ≡ word_at (message (slice_index_or pairs.now j [])) (4 * k) }
     ensures long { (j : ℕ) → j < 8 → length (message (slice_index_or pairs.now j [])) ≡ 64 }
@@ -61,7 +61,7 @@ fn load(pairs: &[[[u8; 32]; 2]], w: &mut [u32x8; 64])
 }
 
 /// The bytes of a hash value.
-fn digest(h: &[u32; 8]) -> [u8; 32]
+pub(crate) fn digest(h: &[u32; 8]) -> [u8; 32]
     ensures { result ≡ digest_bytes h.now 8 }
 {
     let mut bytes = [0; 32];
@@ -73,7 +73,7 @@ fn digest(h: &[u32; 8]) -> [u8; 32]
 
 /// The words of the hash values, message by message.
 #[inline(always)]
-fn turned(h: [u32x8; 8], j: usize) -> [u32; 8]
+pub(crate) fn turned(h: [u32x8; 8], j: usize) -> [u32; 8]
     requires { j < 8 }
     ensures { result ≡ variables j h }
 {

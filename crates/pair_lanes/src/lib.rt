@@ -8,9 +8,11 @@ mod constants;
 mod eight;
 mod pairs;
 mod rounds;
+mod short;
 mod words;
 
 pub use pairs::{hash_layer, hash_pairs};
+pub use short::hash_short;
 
 #[cfg(test)]
 mod tests;

@@ -1,4 +1,4 @@
-//! The hashes of every count of pairs from 0 to 40 are those of sha2.
+//! The hashes of every count of pairs and of short messages from 0 to 40 are those of sha2.
 
 use super::*;
 use sha2::{Digest, Sha256};
@@ -27,6 +27,32 @@ fn hashes_are_those_of_sha2(rt: HostRuntime) -> Result<(), std::test::Fail> {
             hasher.update(&pair[0]);
             hasher.update(&pair[1]);
             assert_eq!(rt; *hash, hasher.finalize());
+        }
+    }
+    Ok(())
+}
+
+/// A message of 37 bytes without a pattern.
+fn short(number: u64) -> [u8; 37] {
+    let mut message = [0; 37];
+    message[..32].copy_from_slice(&scattered(number));
+    message[32..].copy_from_slice(&scattered(!number)[..5]);
+    message
+}
+
+#[test]
+fn short_hashes_are_those_of_sha2(rt: HostRuntime) -> Result<(), std::test::Fail> {
+    for count in 0..41u64 {
+        let mut messages = Vec::new(rt.alloc());
+        let mut out = Vec::new(rt.alloc());
+        for k in 0..count {
+            messages.push(short(1000 * count + 2 * k))?;
+            out.push([0u8; 32])?;
+        }
+        assert!(rt; messages.len() == out.len());
+        hash_short(&messages, &mut out);
+        for (message, hash) in messages.iter().zip(out.iter()) {
+            assert_eq!(rt; *hash, Sha256::digest(message));
         }
     }
     Ok(())

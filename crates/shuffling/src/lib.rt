@@ -6,6 +6,7 @@
 
 mod index;
 mod list;
+mod pages;
 mod round;
 
 pub use index::shuffled_index;

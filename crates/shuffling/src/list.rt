@@ -1,5 +1,5 @@
 //! A whole list shuffled at once: each round is one pass over the list, in place, with one hash for each 256
-//! positions.
+//! positions, eight of them side by side.
 
 ghost use Rattle.std.specs.Prelude.{◌≡◌, ℕ, ◌+◌, ◌-◌, ◌/◌, ◌%◌, ◌<◌, ◌≤◌, ◌^◌, length, slice_index, IsOk, IfOk};
 ghost use Rattle.std.specs.Int.{bit_at, trailing_zeros, w64};
@@ -7,23 +7,11 @@ ghost use Rattle.std.specs.List.{SwappedAt};
 ghost use Rattle.shuffling.specs.inside.Pass.{by_word, Passed};
 ghost use Rattle.shuffling.specs.Shuffling.{after_round, pivot_of, source_of, bit_in, shuffled_list};
 
-use crate::round::{pivot_at, source_at};
+use crate::pages::turn_pages;
+use crate::round::pivot_at;
 use bc_words::NoMemory;
 use hash_tree::Root;
 use std::alloc::Global;
-
-/// Brings the bits of the page of `position`, where they are not there already: at the first position, and where a
-/// page begins.
-fn turn_page(source: &mut [u8; 32], seed: &Root, round: u8, first: usize, position: usize)
-    requires fits { position < 2 ^ 40 }
-    requires follows { first ≤ position }
-    requires on_page { first < position → 0 < position % 256 → source.old ≡ source_of seed.now round (position / 256) }
-    ensures { source.new ≡ source_of seed.now round (position / 256) }
-{
-    if position == first || position % 256 == 0 {
-        *source = source_at(seed, round, position as u64);
-    }
-}
 
 /// The bits of `position` and of the positions behind it that are in the same 64, the lowest first.
 #[tactic(auto, unfolding(crate::specs::Shuffling::bit_in))]
@@ -101,12 +89,13 @@ fn swap_mirror_images(list: &mut [u64], start: usize, end: usize, seed: &Root, r
 {
     let sum = start + end - 1;
     let middle = end - (end - start) / 2;
-    let mut source = [0; 32];
+    let mut pages = [[0; 32]; 8];
     let mut position = middle;
     while position < end {
-        turn_page(&mut source, seed, round, middle, position);
+        turn_pages(&mut pages, seed, round, middle, position, end);
         let next = end.min((position / 64 + 1) * 64);
-        swap_where_set(list, sum, position, next, word_at(&source, position as u64));
+        let word = word_at(&pages[position / 256 % 8], position as u64);
+        swap_where_set(list, sum, position, next, word);
         position = next;
     }
 }

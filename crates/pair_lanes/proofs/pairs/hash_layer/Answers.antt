@@ -1,6 +1,5 @@
 -- The pairs of a layer are its nodes, two by two.
-use Rattle.std.proofs.Common.{◌≡◌, ◌*◌, ◌/◌, length, ap, ◌∙◌, arith}
-use Rattle.std.specs.Simd.{first_chunks}
+use Rattle.std.proofs.Common.{◌/◌, length, ap, ◌∙◌, arith}
 use Rattle.pair_lanes.specs.Pairs.{hashes_of}
 use Rattle.pair_lanes.proofs.Layers.{pairs_of}
 use Rattle.pair_lanes.proofs.pairs.hash_layer.Goals as goal

@@ -1,4 +1,4 @@
-use Rattle.std.proofs.Common.{◌≡◌, ◌+◌, ◌-◌, ◌/◌, length, slice_index, sym, ap, ◌∙◌, arith, inl, inr}
+use Rattle.std.proofs.Common.{◌≡◌, ◌+◌, ◌-◌, ◌/◌, ◌%◌, [], length, slice_index, slice_index_or, sym, ap, ◌∙◌, arith, inl, inr}
 use Rattle.std.specs.Int.{bit_at}
 use Rattle.std.proofs.lemmas.Bool.{cases_lt}
 use Rattle.shuffling.specs.Shuffling.{pivot_of, after_round, bit_in, bit_of, source_of}
@@ -18,20 +18,18 @@ loop-position-preserved c =
     record {
       from = omega arith;
       to = omega arith;
-      page = λ less more.
-          let same : loop.position / 256 ≡ next / 256 = omega arith in
-          c.turn_page.ensures ∙ ap (source_of seed c.args.round) same;
-      passed = join (after_round seed c.args.round count) (by_word c.word_at.result loop.position sum) sum _ loop.position next c.args.list.now loop.list c.swap_where_set.new.list
+      pages = λ less more k from same begun. c.turn_pages.ensures k (omega arith) (omega arith) begun;
+      passed = join (after_round seed c.args.round count) (by_word c.word_at-word.result loop.position sum) sum _ loop.position next c.args.list.now loop.list c.swap_where_set.new.list
           loop.invariant.from (omega arith) loop.invariant.passed c.swap_where_set.ensures
           (λ place more less.
           let flip : flip_of (pivot_of seed c.args.round count) count place ≡ sum - place = c.requires.mirror place (omega arith) (omega arith) ∙ omega arith in
           let at : loop.position + (later sum place - loop.position) ≡ later sum place = omega arith in
           let same : loop.position / 256 ≡ later sum place / 256 = omega arith in
-          let bit : bit_at c.word_at.result (later sum place - loop.position) ≡ bit_of seed c.args.round (later sum place) =
-          c.word_at.ensures (later sum place - loop.position) (omega arith)
-          ∙ ap (λ k. bit_in c.turn_page.new.source k) at
-          ∙ ap (λ source. bit_in source (later sum place)) (c.turn_page.ensures ∙ ap (source_of seed c.args.round) same) in
-          same_choice seed c.args.round count sum loop.position c.word_at.result place (omega arith) flip bit);
+          let bit : bit_at c.word_at-word.result (later sum place - loop.position) ≡ bit_of seed c.args.round (later sum place) =
+          c.word_at-word.ensures (later sum place - loop.position) (omega arith)
+          ∙ ap (λ k. bit_in (slice_index_or c.turn_pages.new.pages (loop.position / 256 % 8) []) k) at
+          ∙ ap (λ source. bit_in source (later sum place)) (c.turn_pages.ensures (loop.position / 256) (omega arith) (omega arith) (omega arith) ∙ ap (source_of seed c.args.round) same) in
+          same_choice seed c.args.round count sum loop.position c.word_at-word.result place (omega arith) flip bit);
     }
 
 pub returns-clause-inside : goal.returns-clause-inside
