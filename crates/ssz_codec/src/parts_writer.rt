@@ -42,6 +42,13 @@ impl PartsWriter {
         }
     }
 
+    /// Nothing is written yet. The whole fixed part will have that length, and memory comes from where this writer's does.
+    pub fn beside(out: &Writer, fixed_length: u64) -> PartsWriter
+        ensures { result ≡ nothing_written fixed_length }
+    {
+        PartsWriter::new(out.alloc(), fixed_length)
+    }
+
     /// The offset of the variable part that comes next, in four bytes. One that has no room there is cut.
     #[tactic(auto, unfolding(crate::specs::Layout::offset_bytes))]
     fn put_offset(&mut self) -> Result<(), NoMemory>

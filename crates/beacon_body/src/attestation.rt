@@ -1,0 +1,87 @@
+//! A vote of a committee.
+
+ghost use Rattle.std.specs.Prelude.{◌≡◌, refl, IsTrue, ◌↔◌};
+ghost use Rattle.beacon_body.specs.Containers.{attestation_codec};
+ghost use Rattle.beacon_body.specs.laws.Containers.{attestation_lawful};
+
+use bc_words::NoMemory;
+use beacon_types::{AggregationBits, AttestationData};
+use hash_tree::{Leaf, Root};
+use ssz_codec::{Field, Ssz, SszFault, VariableSsz, Writer, read_container, root_of_container};
+use std::alloc::Global;
+
+/// A vote with the members of a committee that cast it (beacon-chain.md, "Attestation").
+#[derive(Drop)]
+pub struct Attestation {
+    /// Which members of the committee attested.
+    pub aggregation_bits: AggregationBits,
+    /// What they voted for, the published field `data`.
+    pub content: AttestationData,
+    /// The signature, which is kept and not checked.
+    pub signature: [u8; 96],
+}
+
+impl Attestation {
+    /// Whether it is the same attestation.
+    pub fn equals(&self, other: &Attestation) -> bool
+        ensures { IsTrue result ↔ (self.now ≡ other.now) }
+    {
+        self.aggregation_bits.equals(&other.aggregation_bits)
+            && self.content == other.content
+            && self.signature == other.signature
+    }
+}
+
+impl Leaf for Attestation {
+    ghost root_of = { attestation_codec.hash_tree_root };
+
+    fn root(&self) -> Root {
+        root_of_container!(self, aggregation_bits, content, signature)
+    }
+}
+
+impl Ssz for Attestation {
+    ghost codec = { attestation_codec };
+
+    fn field() -> Field {
+        Field::Variable
+    }
+
+    fn parse(alloc: Global, bytes: &[u8]) -> Result<Attestation, SszFault> {
+        read_container!(
+            alloc,
+            bytes,
+            Attestation {
+                aggregation_bits: AggregationBits,
+                content: AttestationData,
+                signature: [u8; 96]
+            }
+        )
+    }
+
+    #[tactic(auto, unfolding(ssz_codec::specs::Layout::joined, ssz_codec::specs::Layout::fixed_parts, ssz_codec::specs::Layout::variable_parts))]
+    fn append_to(&self, out: &mut Writer) -> Result<(), NoMemory> {
+        out.put_u32(228)?;
+        self.content.write_to(out)?;
+        self.signature.write_to(out)?;
+        self.aggregation_bits.write_to(out)?;
+        Ok(())
+    }
+
+    ghost lawful = { attestation_lawful };
+
+    ghost roots = { refl };
+}
+
+impl VariableSsz for Attestation {
+    fn copy(&self) -> Result<Attestation, NoMemory> {
+        let aggregation_bits = self.aggregation_bits.copy()?;
+        Ok(Attestation {
+            aggregation_bits,
+            content: self.content,
+            signature: self.signature,
+        })
+    }
+
+    ghost is_variable = { refl };
+}

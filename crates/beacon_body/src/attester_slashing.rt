@@ -1,0 +1,94 @@
+//! Two votes that may not both be cast.
+
+ghost use Rattle.std.specs.Prelude.{◌≡◌, refl, IsTrue, ◌↔◌, IfOk};
+ghost use Rattle.ssz_codec.specs.Containers.{layout_of, parts_of};
+ghost use Rattle.ssz_codec.specs.inside.Halves.{nothing_written, with_parts};
+ghost use Rattle.beacon_body.specs.Containers.{attester_slashing_fields, attester_slashing_codec};
+ghost use Rattle.beacon_body.specs.laws.Containers.{attester_slashing_lawful};
+
+use bc_words::NoMemory;
+use beacon_types::IndexedAttestation;
+use hash_tree::{Leaf, Root};
+use ssz_codec::{
+    Field, PartsWriter, Ssz, SszFault, VariableSsz, Writer, read_container, root_of_container,
+};
+use std::alloc::Global;
+
+/// Two votes for which those who cast both are slashed (beacon-chain.md, "AttesterSlashing").
+#[derive(Drop)]
+pub struct AttesterSlashing {
+    /// One vote.
+    pub attestation_1: IndexedAttestation,
+    /// The other.
+    pub attestation_2: IndexedAttestation,
+}
+
+impl AttesterSlashing {
+    /// Its parts, for writing.
+    fn parts(&self, out: &Writer) -> Result<PartsWriter, NoMemory>
+        ensures { IfOk result (λ parts. parts ≡ with_parts (layout_of attester_slashing_fields) (parts_of attester_slashing_fields self.now) (nothing_written 8)) }
+    {
+        let mut parts = PartsWriter::beside(out, 8);
+        parts.add(&self.attestation_1)?;
+        parts.add(&self.attestation_2)?;
+        Ok(parts)
+    }
+
+    /// Whether it is the same slashing.
+    pub fn equals(&self, other: &AttesterSlashing) -> bool
+        ensures { IsTrue result ↔ (self.now ≡ other.now) }
+    {
+        self.attestation_1.equals(&other.attestation_1)
+            && self.attestation_2.equals(&other.attestation_2)
+    }
+}
+
+impl Leaf for AttesterSlashing {
+    ghost root_of = { attester_slashing_codec.hash_tree_root };
+
+    fn root(&self) -> Root {
+        root_of_container!(self, attestation_1, attestation_2)
+    }
+}
+
+impl Ssz for AttesterSlashing {
+    ghost codec = { attester_slashing_codec };
+
+    fn field() -> Field {
+        Field::Variable
+    }
+
+    fn parse(alloc: Global, bytes: &[u8]) -> Result<AttesterSlashing, SszFault> {
+        read_container!(
+            alloc,
+            bytes,
+            AttesterSlashing {
+                attestation_1: IndexedAttestation,
+                attestation_2: IndexedAttestation
+            }
+        )
+    }
+
+    #[tactic(auto, using(ssz_codec::proofs::Halves::halves_joined))]
+    fn append_to(&self, out: &mut Writer) -> Result<(), NoMemory> {
+        let parts = self.parts(out)?;
+        parts.append_to(out)
+    }
+
+    ghost lawful = { attester_slashing_lawful };
+
+    ghost roots = { refl };
+}
+
+impl VariableSsz for AttesterSlashing {
+    fn copy(&self) -> Result<AttesterSlashing, NoMemory> {
+        let attestation_1 = self.attestation_1.copy()?;
+        let attestation_2 = self.attestation_2.copy()?;
+        Ok(AttesterSlashing {
+            attestation_1,
+            attestation_2,
+        })
+    }
+
+    ghost is_variable = { refl };
+}

@@ -1,0 +1,71 @@
+//! A block.
+
+ghost use Rattle.std.specs.Prelude.{◌≡◌, refl};
+ghost use Rattle.beacon_body.specs.Containers.{block_codec};
+ghost use Rattle.beacon_body.specs.laws.Containers.{block_lawful};
+
+use crate::body::BeaconBlockBody;
+use bc_words::NoMemory;
+use hash_tree::{Leaf, Root};
+use ssz_codec::{Field, Ssz, SszFault, Writer, read_container, root_of_container};
+use std::alloc::Global;
+
+/// A block (beacon-chain.md, "BeaconBlock").
+#[derive(Drop)]
+pub struct BeaconBlock {
+    /// Its slot.
+    pub slot: u64,
+    /// Who proposed it.
+    pub proposer_index: u64,
+    /// The root of the block before.
+    pub parent_root: Root,
+    /// The root of the state behind the block.
+    pub state_root: Root,
+    /// What it carries.
+    pub body: BeaconBlockBody,
+}
+
+impl Leaf for BeaconBlock {
+    ghost root_of = { block_codec.hash_tree_root };
+
+    fn root(&self) -> Root {
+        root_of_container!(self, slot, proposer_index, parent_root, state_root, body)
+    }
+}
+
+impl Ssz for BeaconBlock {
+    ghost codec = { block_codec };
+
+    fn field() -> Field {
+        Field::Variable
+    }
+
+    fn parse(alloc: Global, bytes: &[u8]) -> Result<BeaconBlock, SszFault> {
+        read_container!(
+            alloc,
+            bytes,
+            BeaconBlock {
+                slot: u64,
+                proposer_index: u64,
+                parent_root: Root,
+                state_root: Root,
+                body: BeaconBlockBody
+            }
+        )
+    }
+
+    #[tactic(auto, unfolding(ssz_codec::specs::Layout::joined, ssz_codec::specs::Layout::fixed_parts, ssz_codec::specs::Layout::variable_parts))]
+    fn append_to(&self, out: &mut Writer) -> Result<(), NoMemory> {
+        self.slot.write_to(out)?;
+        self.proposer_index.write_to(out)?;
+        self.parent_root.write_to(out)?;
+        self.state_root.write_to(out)?;
+        out.put_u32(84)?;
+        self.body.write_to(out)?;
+        Ok(())
+    }
+
+    ghost lawful = { block_lawful };
+
+    ghost roots = { refl };
+}

@@ -1,0 +1,200 @@
+//! What a block carries.
+
+ghost use Rattle.std.specs.Prelude.{◌≡◌, ◌≤◌, ◌^◌, [], length, map, refl, IfOk};
+ghost use Rattle.hash_tree.specs.Merkle.{merkleize, mix_in_length as mixed_in};
+ghost use Rattle.ssz_codec.specs.Containers.{layout_of, parts_of, all_read};
+ghost use Rattle.ssz_codec.specs.Reads.{ReadsAs};
+ghost use Rattle.ssz_codec.specs.inside.Halves.{nothing_written, with_parts};
+ghost use Rattle.beacon_body.specs.Containers.{block_body_fields, block_body_codec, default_block_body};
+ghost use Rattle.beacon_body.specs.laws.Containers.{block_body_lawful};
+
+use crate::attestation::Attestation;
+use crate::attester_slashing::AttesterSlashing;
+use crate::limits::{
+    AttestationsLimit, AttesterSlashingsLimit, DepositsLimit, ProposerSlashingsLimit,
+    VoluntaryExitsLimit,
+};
+use crate::proposer_slashing::ProposerSlashing;
+use bc_words::NoMemory;
+use beacon_types::{Deposit, Eth1Data, SignedVoluntaryExit};
+use hash_tree::{Leaf, Root, depth_of, fields_root, mix_in_length, zero_hash};
+use ssz_codec::{
+    Field, LimitedList, ListLimit, PartsWriter, Ssz, SszFault, VariableList, Writer, cut,
+    root_of_container,
+};
+use std::alloc::Global;
+
+/// The proposer slashings of a block.
+pub type ProposerSlashings = LimitedList<ProposerSlashing, ProposerSlashingsLimit>;
+
+/// The attester slashings of a block.
+pub type AttesterSlashings = VariableList<AttesterSlashing, AttesterSlashingsLimit>;
+
+/// The attestations of a block.
+pub type Attestations = VariableList<Attestation, AttestationsLimit>;
+
+/// The deposits of a block.
+pub type Deposits = LimitedList<Deposit, DepositsLimit>;
+
+/// The exits of a block.
+pub type VoluntaryExits = LimitedList<SignedVoluntaryExit, VoluntaryExitsLimit>;
+
+/// The body of a block (beacon-chain.md, "BeaconBlockBody").
+#[derive(Drop)]
+pub struct BeaconBlockBody {
+    /// The signature that the randao mix takes in, which is not checked.
+    pub randao_reveal: [u8; 96],
+    /// The proposer's vote for the data of the deposit contract.
+    pub eth1_data: Eth1Data,
+    /// Anything.
+    pub graffiti: Root,
+    /// The proposer slashings.
+    pub proposer_slashings: ProposerSlashings,
+    /// The attester slashings.
+    pub attester_slashings: AttesterSlashings,
+    /// The attestations.
+    pub attestations: Attestations,
+    /// The deposits.
+    pub deposits: Deposits,
+    /// The exits.
+    pub voluntary_exits: VoluntaryExits,
+}
+
+impl BeaconBlockBody {
+    /// Its parts, for writing.
+    fn parts(&self, out: &Writer) -> Result<PartsWriter, NoMemory>
+        ensures { IfOk result (λ parts. parts ≡ with_parts (layout_of block_body_fields) (parts_of block_body_fields self.now) (nothing_written 220)) }
+    {
+        let mut parts = PartsWriter::beside(out, 220);
+        parts.add(&self.randao_reveal)?;
+        parts.add(&self.eth1_data)?;
+        parts.add(&self.graffiti)?;
+        parts.add(&self.proposer_slashings)?;
+        parts.add(&self.attester_slashings)?;
+        parts.add(&self.attestations)?;
+        parts.add(&self.deposits)?;
+        parts.add(&self.voluntary_exits)?;
+        Ok(parts)
+    }
+}
+
+impl Leaf for BeaconBlockBody {
+    ghost root_of = { block_body_codec.hash_tree_root };
+
+    fn root(&self) -> Root {
+        root_of_container!(
+            self,
+            randao_reveal,
+            eth1_data,
+            graffiti,
+            proposer_slashings,
+            attester_slashings,
+            attestations,
+            deposits,
+            voluntary_exits
+        )
+    }
+}
+
+/// Reads the fields of a body from its eight parts.
+fn read_fields(alloc: Global, parts: &[&[u8]]) -> Result<BeaconBlockBody, SszFault>
+    requires { length parts.now ≡ 8 }
+    ensures { ReadsAs result (block_body_fields.deserialize all_read (map (λ part. part.now) parts.now)) }
+{
+    let [
+        randao,
+        eth1,
+        graffiti,
+        proposers,
+        attesters,
+        attestations,
+        deposits,
+        exits,
+    ] = parts
+    else {
+        unreachable!();
+    };
+    let randao_reveal = <[u8; 96]>::parse(alloc, randao)?;
+    let eth1_data = Eth1Data::parse(alloc, eth1)?;
+    let graffiti = Root::parse(alloc, graffiti)?;
+    let proposer_slashings = ProposerSlashings::parse(alloc, proposers)?;
+    let attester_slashings = AttesterSlashings::parse(alloc, attesters)?;
+    let attestations = Attestations::parse(alloc, attestations)?;
+    let deposits = Deposits::parse(alloc, deposits)?;
+    let voluntary_exits = VoluntaryExits::parse(alloc, exits)?;
+    Ok(BeaconBlockBody {
+        randao_reveal,
+        eth1_data,
+        graffiti,
+        proposer_slashings,
+        attester_slashings,
+        attestations,
+        deposits,
+        voluntary_exits,
+    })
+}
+
+impl Ssz for BeaconBlockBody {
+    ghost codec = { block_body_codec };
+
+    fn field() -> Field {
+        Field::Variable
+    }
+
+    fn parse(alloc: Global, bytes: &[u8]) -> Result<BeaconBlockBody, SszFault> {
+        let fields = [
+            <[u8; 96]>::field(),
+            Eth1Data::field(),
+            Root::field(),
+            ProposerSlashings::field(),
+            AttesterSlashings::field(),
+            Attestations::field(),
+            Deposits::field(),
+            VoluntaryExits::field(),
+        ];
+        let mut parts = [bytes; 8];
+        cut(bytes, &fields, &mut parts)?;
+        read_fields(alloc, &parts)
+    }
+
+    #[tactic(auto, using(ssz_codec::proofs::Halves::halves_joined))]
+    fn append_to(&self, out: &mut Writer) -> Result<(), NoMemory> {
+        let parts = self.parts(out)?;
+        parts.append_to(out)
+    }
+
+    ghost lawful = { block_body_lawful };
+
+    ghost roots = { refl };
+}
+
+/// The root of an empty list of at most so many values that are not basic.
+#[tactic(auto, unfolding(hash_tree::specs::Merkle::merkleize))]
+fn empty_list_root(limit: u64) -> Root
+    requires { limit ≤ 2 ^ 40 }
+    ensures { result ≡ mixed_in (merkleize [] limit) 0 }
+{
+    mix_in_length(&zero_hash(depth_of(limit)), 0)
+}
+
+/// The root of the body whose fields are all zero or empty, which the genesis block has (beacon-chain.md, "Genesis
+/// block").
+pub fn empty_body_root() -> Root
+    ensures { result ≡ block_body_codec.hash_tree_root default_block_body }
+{
+    let eth1_data = Eth1Data {
+        deposit_root: [0; 32],
+        deposit_count: 0,
+        block_hash: [0; 32],
+    };
+    fields_root(&[
+        [0; 96].root(),
+        eth1_data.root(),
+        [0; 32],
+        empty_list_root(ProposerSlashingsLimit::LIMIT),
+        empty_list_root(AttesterSlashingsLimit::LIMIT),
+        empty_list_root(AttestationsLimit::LIMIT),
+        empty_list_root(DepositsLimit::LIMIT),
+        empty_list_root(VoluntaryExitsLimit::LIMIT),
+    ])
+}

@@ -1,0 +1,59 @@
+//! A block with its signature.
+
+ghost use Rattle.std.specs.Prelude.{◌≡◌, refl};
+ghost use Rattle.beacon_body.specs.Containers.{signed_block_codec};
+ghost use Rattle.beacon_body.specs.laws.Containers.{signed_block_lawful};
+
+use crate::block::BeaconBlock;
+use bc_words::NoMemory;
+use hash_tree::{Leaf, Root};
+use ssz_codec::{Field, Ssz, SszFault, Writer, read_container, root_of_container};
+use std::alloc::Global;
+
+/// A block that was signed (beacon-chain.md, "SignedBeaconBlock").
+#[derive(Drop)]
+pub struct SignedBeaconBlock {
+    /// The block.
+    pub message: BeaconBlock,
+    /// The signature, which is kept and not checked.
+    pub signature: [u8; 96],
+}
+
+impl Leaf for SignedBeaconBlock {
+    ghost root_of = { signed_block_codec.hash_tree_root };
+
+    fn root(&self) -> Root {
+        root_of_container!(self, message, signature)
+    }
+}
+
+impl Ssz for SignedBeaconBlock {
+    ghost codec = { signed_block_codec };
+
+    fn field() -> Field {
+        Field::Variable
+    }
+
+    fn parse(alloc: Global, bytes: &[u8]) -> Result<SignedBeaconBlock, SszFault> {
+        read_container!(
+            alloc,
+            bytes,
+            SignedBeaconBlock {
+                message: BeaconBlock,
+                signature: [u8; 96]
+            }
+        )
+    }
+
+    #[tactic(auto, unfolding(ssz_codec::specs::Layout::joined, ssz_codec::specs::Layout::fixed_parts, ssz_codec::specs::Layout::variable_parts))]
+    fn append_to(&self, out: &mut Writer) -> Result<(), NoMemory> {
+        out.put_u32(100)?;
+        self.signature.write_to(out)?;
+        self.message.write_to(out)?;
+        Ok(())
+    }
+
+    ghost lawful = { signed_block_lawful };
+
+    ghost roots = { refl };
+}
