@@ -58,6 +58,17 @@ module _ (state : PlainState) (epoch : ℕ) where
   pub list_ends : (i : ℕ) (indices : List ℕ) → length state.validators ≤ i → indices ++ remaining i ≡ indices
   list_ends i indices past = ap (λ xs. indices ++ xs) (none_remain i past) ∙ append-nil indices
 
+  -- ---- how many so far, beside those that remain
+
+  pub count_grows : (i : ℕ) → i < length state.validators → passes active_at state.validators i ≡ true → length (remaining i) ≡ length (remaining (i + 1)) + 1
+  count_grows i less here = omega (arith, ap length (one_remains i less here))
+
+  pub count_stays : (i : ℕ) → i < length state.validators → passes active_at state.validators i ≡ false → length (remaining i) ≡ length (remaining (i + 1))
+  count_stays i less not_here = ap length (one_passed_over i less not_here)
+
+  pub count_ends : (i : ℕ) → length state.validators ≤ i → length (remaining i) ≡ 0
+  count_ends i past = ap length (none_remain i past)
+
   -- ---- the sum so far, before what remains
 
   abbrev balance : ℕ → ℕ

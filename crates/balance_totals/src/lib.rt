@@ -4,11 +4,14 @@
 #![tactic(auto)]
 
 mod epoch;
+mod epochs;
 mod totals;
 mod validators;
 
 pub use epoch::committees_of_epoch;
-pub use totals::{active, active_are_indices, total_active, total_of};
+pub use epochs::{current_epoch, previous_epoch};
+pub use totals::{active, active_are_indices, count_active, total_active, total_of};
+pub use validators::is_active_validator;
 
 #[cfg(test)]
 mod tests;

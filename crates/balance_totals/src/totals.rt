@@ -28,6 +28,22 @@ pub fn active(alloc: Global, state: &State, epoch: u64) -> Result<Vec<u64>, NoMe
     Ok(indices)
 }
 
+/// How many validators are active at the epoch: as many as the list of `get_active_validator_indices` has.
+#[tactic(auto, using(crate::proofs::Remaining::all_remain, crate::proofs::Remaining::count_grows, crate::proofs::Remaining::count_stays, crate::proofs::Remaining::count_ends))]
+pub fn count_active(state: &State, epoch: u64) -> u64
+    ensures { result ≡ length (get_active_validator_indices state.now epoch) }
+{
+    active_are_indices(state, epoch);
+    let mut count = 0;
+    for index in 0..state.validators_len() {
+        if !is_active_at(state, index, epoch) {
+            continue;
+        }
+        count += 1;
+    }
+    count
+}
+
 /// The law that the active validators of an epoch are at most 2^40 indices of the registry, none twice. It does nothing
 /// when it runs.
 pub fn active_are_indices(state: &State, epoch: u64)

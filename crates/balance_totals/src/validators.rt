@@ -10,7 +10,7 @@ use beacon_types::Validator;
 
 /// Whether the validator is active at the epoch (beacon-chain.md, `is_active_validator`).
 #[tactic(auto, unfolding(spec_state::specs::Predicates::is_active_validator))]
-fn is_active_validator(validator: &Validator, epoch: u64) -> bool
+pub fn is_active_validator(validator: &Validator, epoch: u64) -> bool
     ensures { result ≡ is_active_validator validator.now epoch }
 {
     validator.activation_epoch <= epoch && epoch < validator.exit_epoch

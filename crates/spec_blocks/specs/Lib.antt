@@ -4,3 +4,4 @@ pub mod DecreaseBalance
 pub mod InitiateValidatorExit
 pub mod SlashValidator
 pub mod ProcessVoluntaryExit
+pub mod IsValidIndexedAttestation

@@ -1,56 +1,82 @@
 //! Single calls of the state transition on recorded states of the minimal preset, compared with what an independent
 //! implementation gives.
 //!
-//! `data/cases` lists the cases. Each is a folder of `data/`: `call` names the call, `pre.ssz` is the state before it, and
-//! `answer` is `ok` and the root of the state behind it.
+//! `data/cases` lists the cases. Each is a folder of `data/`: `call` names the call, with a number behind some, `pre.ssz` is
+//! the state before it, `input.ssz` what it takes beside the state, where it takes something, `config.yaml` the
+//! configuration, and `answer` what it answers. A module of the program has the calls of one crate.
 #![tactic(auto)]
 
+mod answers;
+mod exits;
+mod given;
+mod slots;
+
+use answers::answer_line;
 use anyhow::{Result, bail};
-use bc_preset::Preset;
+use bc_preset::{Config, Preset};
+use bc_words::Stop;
 use beacon_state::State;
-use slot_step::process_slot::process_slot;
+use given::Given;
 use std::alloc::Global;
 use std::fs;
 use std::rt::Files;
 
 /// Makes the call on the state.
-fn call_on(state: &mut State, call: &str) -> Result<()> {
-    match call {
-        "process_slot" => {
-            if process_slot(state).is_err() {
-                bail!("out of memory");
-            }
-        }
+fn call_on(alloc: Global, state: &mut State, given: &Given) -> Result<Result<(), Stop>> {
+    match given.name.as_str() {
+        "process_slot" => slots::process_slot(state),
+        "process_voluntary_exit" => exits::process_voluntary_exit(alloc, state, given),
         _ => bail!("no such call"),
     }
-    Ok(())
 }
 
 /// The answer of the call on the state of these bytes.
-fn answer_of(alloc: Global, bytes: &[u8], call: &str) -> Result<String> {
+fn answer_of(alloc: Global, bytes: &[u8], given: &Given) -> Result<String> {
     let preset = Preset::minimal();
     match State::read(alloc, &preset, bytes) {
         Ok(mut state) => {
-            call_on(&mut state, call)?;
-            let root = hex::encode(alloc, &state.root())?;
-            Ok(format!(in alloc; "ok 0x{root}")?)
+            let outcome = call_on(alloc, &mut state, given)?;
+            answer_line(alloc, &state, outcome)
         }
         Err(_) => bail!("the state doesn't read"),
     }
 }
 
-/// Runs one case, and prints whether its answer is as expected.
-fn run_case<R: Files + Print + AllocGlobal>(rt: &R, name: &str) -> Result<bool> {
+/// Reads a file of a case.
+fn read_file<R: Files + AllocGlobal>(rt: &R, case: &str, name: &str) -> Result<Vec<u8>> {
+    let path = format!(in rt.alloc(); "{case}/{name}")?;
+    Ok(fs::read(rt, path.as_str())?)
+}
+
+/// Reads a file of a case, which may not be there.
+fn read_input<R: Files + AllocGlobal>(rt: &R, case: &str) -> Vec<u8> {
+    match read_file(rt, case, "input.ssz") {
+        Ok(bytes) => bytes,
+        Err(_) => Vec::new(rt.alloc()),
+    }
+}
+
+/// What a case gives the call.
+fn read_given<R: Files + AllocGlobal>(rt: &R, case: &str) -> Result<Given> {
     let alloc = rt.alloc();
-    let call = fs::read_to_string(rt, format!(in alloc; "{name}/call")?.as_str())?;
-    let bytes = fs::read(rt, format!(in alloc; "{name}/pre.ssz")?.as_str())?;
-    let expected = fs::read_to_string(rt, format!(in alloc; "{name}/answer")?.as_str())?;
-    let answer = answer_of(alloc, &bytes, call.trim())?;
+    let call = fs::read_to_string(rt, format!(in alloc; "{case}/call")?.as_str())?;
+    let config = Config::read(&read_file(rt, case, "config.yaml")?)?;
+    let input = read_input(rt, case);
+    Given::new(alloc, call.trim(), input, config)
+}
+
+/// Runs one case, and prints whether its answer is as expected.
+fn run_case<R: Files + Print + AllocGlobal>(rt: &R, case: &str) -> Result<bool> {
+    let alloc = rt.alloc();
+    let given = read_given(rt, case)?;
+    let bytes = read_file(rt, case, "pre.ssz")?;
+    let expected = fs::read_to_string(rt, format!(in alloc; "{case}/answer")?.as_str())?;
+    let answer = answer_of(alloc, &bytes, &given)?;
     let agrees = answer.as_str() == expected.trim();
     if agrees {
-        println!(rt; "{name}: as expected")?;
+        println!(rt; "{case}: as expected")?;
     } else {
-        println!(rt; "{name}: {answer}")?;
+        println!(rt; "{case}: {answer}")?;
     }
     Ok(agrees)
 }
@@ -58,8 +84,8 @@ fn run_case<R: Files + Print + AllocGlobal>(rt: &R, name: &str) -> Result<bool> 
 fn main(rt: HostRuntime) -> Result<()> {
     let mut failed = 0u32;
     let cases = fs::read_to_string(&rt, "cases")?;
-    for name in cases.lines() {
-        if !run_case(&rt, name)? {
+    for case in cases.lines() {
+        if !run_case(&rt, case)? {
             failed = failed.saturating_add(1);
         }
     }

@@ -1,0 +1,118 @@
+//! The beginning of a validator's exit (beacon-chain.md, "initiate_validator_exit").
+
+ghost use Rattle.std.specs.Prelude.{◌≡◌, ◌+◌, ◌<◌, ◌≤◌, ◌^◌, drop};
+ghost use Rattle.bc_words.specs.Outcome.{Changes, GivesExactly};
+ghost use Rattle.spec_blocks.specs.InitiateValidatorExit.{initiate_validator_exit, exit_queue_epoch, exit_queue_churn};
+ghost use Rattle.exit_queue.specs.inside.Queue.{queue_end, later};
+
+use crate::compute_activation_exit_epoch::activation_exit_epoch;
+use crate::get_validator_churn_limit::churn_limit;
+use crate::registry::validator_at;
+use balance_totals::current_epoch;
+use bc_preset::Config;
+use bc_preset::constants::FAR_FUTURE_EPOCH;
+use bc_words::{Stop, checked_add};
+use beacon_state::State;
+use beacon_types::Validator;
+
+/// The later of two epochs, the first of which counts only where it is set.
+fn later(exit_epoch: u64, epoch: u64) -> u64
+    ensures { result ≡ later exit_epoch epoch }
+{
+    if exit_epoch == FAR_FUTURE_EPOCH {
+        return epoch;
+    }
+    epoch.max(exit_epoch)
+}
+
+/// The end of the queue, where the validator with an index stands in it too.
+#[tactic(auto, using(crate::proofs::Queue::end_with, crate::proofs::Queue::end_without))]
+fn queue_end_with(state: &State, index: u64, epoch: u64) -> u64
+    ensures { queue_end (drop (index + 1) state.now.validators) result ≡ queue_end (drop index state.now.validators) epoch }
+{
+    match validator_at(state, index) {
+        Ok(validator) => later(validator.exit_epoch, epoch),
+        Err(_) => epoch,
+    }
+}
+
+/// The greatest of all exit epochs that are set, and this one.
+#[tactic(auto, using(crate::proofs::Queue::end_begins, crate::proofs::Queue::end_of_none))]
+fn queue_end(state: &State, earliest: u64) -> u64
+    ensures { result ≡ queue_end state.now.validators earliest }
+{
+    let mut epoch = earliest;
+    for index in 0..state.validators_len() {
+        epoch = queue_end_with(state, index, epoch);
+    }
+    epoch
+}
+
+/// How many leave at an epoch, where the validator with an index is counted too.
+#[tactic(auto, using(crate::proofs::Queue::one_leaves, crate::proofs::Queue::one_stays, crate::proofs::Queue::churn_without))]
+fn churn_with(state: &State, index: u64, epoch: u64, count: u64) -> u64
+    requires { count < 2 ^ 40 }
+    ensures exact { result + exit_queue_churn (drop (index + 1) state.now.validators) epoch ≡ count + exit_queue_churn (drop index state.now.validators) epoch }
+    ensures few { result ≤ count + 1 }
+{
+    match validator_at(state, index) {
+        Ok(validator) => {
+            if validator.exit_epoch == epoch {
+                count + 1
+            } else {
+                count
+            }
+        }
+        Err(_) => count,
+    }
+}
+
+/// How many validators leave at an epoch.
+#[tactic(auto, using(crate::proofs::Queue::churn_begins, crate::proofs::Queue::churn_of_none))]
+fn exit_queue_churn(state: &State, epoch: u64) -> u64
+    ensures { result ≡ exit_queue_churn state.now.validators epoch }
+{
+    state.preset().bounds();
+    let mut count = 0;
+    for index in 0..state.validators_len() {
+        count = churn_with(state, index, epoch, count);
+    }
+    count
+}
+
+/// The epoch that the next validator to leave leaves at. Refused as an overflow exactly where it doesn't fit.
+#[tactic(auto, unfolding(spec_blocks::specs::InitiateValidatorExit::exit_queue_epoch, crate::specs::inside::Queue::queue_end))]
+fn exit_queue_epoch(state: &State, config: &Config) -> Result<u64, Stop>
+    ensures { GivesExactly result (exit_queue_epoch state.now config.now) }
+{
+    let earliest = activation_exit_epoch(state.preset(), current_epoch(state))?;
+    let epoch = queue_end(state, earliest);
+    if exit_queue_churn(state, epoch) < churn_limit(state, config) {
+        return Ok(epoch);
+    }
+    checked_add(epoch, 1)
+}
+
+/// The validator leaves (beacon-chain.md, `initiate_validator_exit`): its exit epoch is the end of the queue, or the epoch
+/// behind it where that is full. Nothing changes where its exit epoch is set already.
+///
+/// Refused as an overflow exactly where one of the two epochs doesn't fit, and for an index past the registry. After a stop
+/// the state is as before. The queue is read from the whole registry each time.
+#[tactic(auto, unfolding(spec_blocks::specs::InitiateValidatorExit::initiate_validator_exit))]
+pub fn initiate_exit(state: &mut State, index: u64, config: &Config) -> Result<(), Stop>
+    ensures { Changes result state.old state.new (initiate_validator_exit state.old index config.now) }
+{
+    let validator = validator_at(state, index)?;
+    if validator.exit_epoch != FAR_FUTURE_EPOCH {
+        return Ok(());
+    }
+    let exit_epoch = exit_queue_epoch(state, config)?;
+    let withdrawable_epoch = checked_add(exit_epoch, config.min_validator_withdrawability_delay())?;
+    let leaving = Validator {
+        exit_epoch,
+        withdrawable_epoch,
+        ..validator
+    };
+    state.set_validators_at(index, leaving)?;
+    Ok(())
+}
