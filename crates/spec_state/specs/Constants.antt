@@ -42,6 +42,10 @@ max_voluntary_exits = 16
 abbrev pub max_proposer_candidates : ℕ
 max_proposer_candidates = 65536
 
+-- how many slots a state may be carried through for one event
+abbrev pub max_slots : ℕ
+max_slots = 65536
+
 -- how many bytes a genesis file may have: 2 ^ 30
 abbrev pub max_genesis_len : ℕ
 max_genesis_len = 1073741824

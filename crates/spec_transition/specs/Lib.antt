@@ -1,1 +1,2 @@
 pub mod ProcessSlot
+pub mod ProcessSlots

@@ -1,3 +1,4 @@
 pub mod Loop
 pub mod Tests
 pub mod Genesis
+pub mod Slots

@@ -4,6 +4,9 @@
 #![tactic(auto)]
 
 mod pending;
+pub mod process_slots;
 mod soundness;
+mod step;
 
 pub use soundness::{genesis_is_sound, is_sound, sound_within_epoch};
+pub use step::{States, Step};
