@@ -1,7 +1,12 @@
 pub mod Checks
+pub mod IsValidIndexedAttestation
 pub mod IncreaseBalance
 pub mod DecreaseBalance
 pub mod InitiateValidatorExit
 pub mod SlashValidator
+pub mod ProcessBlockHeader
+pub mod ProcessRandao
+pub mod ProcessEth1Data
+pub mod ProcessProposerSlashing
+pub mod ProcessAttestation
 pub mod ProcessVoluntaryExit
-pub mod IsValidIndexedAttestation
