@@ -3,6 +3,7 @@
 use Rattle.std.proofs.Common.{◌≡◌, ℕ, zero, suc, ◌+◌, ◌-◌, ◌<◌, ◌≤◌, List, [], ◌∷◌, ◌++◌, length, refl, sym, ap, ◌∙◌, arith, append_assoc}
 use Rattle.std.specs.List.{range_with_len}
 use Rattle.std.proofs.lemmas.List.{append-nil}
+use Rattle.std.proofs.lemmas.List.FromFn.{length-range_with_len}
 use Rattle.bc_words.specs.Outcome.{Outcome, done, refused, limited, bind, Stops, StopsExactly}
 use Rattle.bc_words.specs.declared.stop.Stop.{Stop}
 use Rattle.bc_words.proofs.Outcomes.{stops_bound, exactly_bound}
@@ -77,3 +78,7 @@ length-checked_map make (item ∷ items) values e =
     let all = bound_done (checked_map make items) (λ others. done (one.0 ∷ others)) values one.2 in
     let h : values ≡ one.0 ∷ all.0 = cc (all.2) in
     ap length h ∙ ap suc (length-checked_map make items all.0 all.1)
+
+-- with so many values so far and so many still to be made
+pub made_few : {B : Type 0} (make : ℕ → Outcome B) (n : ℕ) (values : List B) → checked_map make (range_with_len 0 n) ≡ done values → length values ≡ n
+made_few make n values e = length-checked_map make (range_with_len 0 n) values e ∙ length-range_with_len 0 n

@@ -7,6 +7,7 @@
 #![tactic(auto)]
 
 mod answers;
+mod closing;
 mod exits;
 mod given;
 mod slots;
@@ -26,7 +27,15 @@ fn call_on(alloc: Global, state: &mut State, given: &Given) -> Result<Result<(),
     match given.name.as_str() {
         "process_slot" => slots::process_slot(state),
         "process_voluntary_exit" => exits::process_voluntary_exit(alloc, state, given),
-        _ => bail!("no such call"),
+        call => epoch_call_on(alloc, state, call),
+    }
+}
+
+/// Makes a call of epoch processing on the state.
+fn epoch_call_on(alloc: Global, state: &mut State, call: &str) -> Result<Result<(), Stop>> {
+    match closing::closing_part(alloc, state, call) {
+        Some(outcome) => Ok(outcome),
+        None => bail!("no such call"),
     }
 }
 

@@ -1,0 +1,92 @@
+//! The penalties of the slashed (beacon-chain.md, "process_slashings").
+
+ghost use Rattle.std.specs.Prelude.{◌≡◌, ◌≤◌, ◌+◌, ◌/◌, ◌==◌, ◌&&◌, length, slice_index, IfOk};
+ghost use Rattle.bc_words.specs.Outcome.{Changes, GivesBy, GivesExactly, checked_sum};
+ghost use Rattle.spec_state.specs.Accessors.{get_current_epoch};
+ghost use Rattle.spec_epochs.specs.Each.{validator_indices, checked_map};
+ghost use Rattle.spec_epochs.specs.ProcessSlashings.{process_slashings, penalized_balance};
+
+use crate::reads::{balance_at, current_epoch, validator_at};
+use balance_totals::total_active;
+use bc_words::{Stop, checked_add, checked_mul};
+use beacon_state::State;
+use beacon_types::Validator;
+use std::alloc::Global;
+
+/// What was slashed in the latest epoch that has this place, in Gwei, or 0 where there is none.
+fn slashed_at(state: &State, i: u64) -> u64
+    ensures { result ≡ slice_index state.now.slashings i }
+{
+    state.slashings_at(i).unwrap_or(0)
+}
+
+/// What was slashed in the latest epochs, in Gwei. Refused exactly where the sum does not fit.
+#[tactic(auto, using(bc_words::proofs::Sums::sum_by_number))]
+fn slashed_lately(state: &State) -> Result<u64, Stop>
+    ensures { GivesExactly result (checked_sum state.now.slashings) }
+{
+    let mut sum = 0;
+    for i in 0..state.slashings_len() {
+        sum = checked_add(sum, slashed_at(state, i))?;
+    }
+    Ok(sum)
+}
+
+/// Whether a validator pays at the epoch: it is slashed, and half way to its withdrawal.
+#[tactic(auto, using(bc_preset::proofs::Bounds::preset_bounds))]
+fn pays(state: &State, validator: &Validator) -> bool
+    ensures { result ≡ (validator.now.slashed && (get_current_epoch state.now + state.now.preset.epochs_per_slashings_vector / 2 == validator.now.withdrawable_epoch)) }
+{
+    let half = state.preset().epochs_per_slashings_vector / 2;
+    validator.slashed && current_epoch(state) + half == validator.withdrawable_epoch
+}
+
+/// The balance of a validator without its penalty, in Gwei. `slashed` is what was slashed lately, at most `total`.
+#[tactic(auto, unfolding(spec_epochs::specs::ProcessSlashings::penalized_balance), using(bc_preset::proofs::Bounds::preset_bounds))]
+fn penalized_balance(state: &State, slashed: u64, total: u64, index: u64) -> Result<u64, Stop>
+    requires { 1 ≤ total }
+    ensures { GivesExactly result (penalized_balance state.now slashed total index) }
+{
+    let validator = validator_at(state, index)?;
+    let balance = balance_at(state, index)?;
+    if !pays(state, &validator) {
+        return Ok(balance);
+    }
+    let increment = state.preset().effective_balance_increment;
+    let numerator = checked_mul(validator.effective_balance / increment, slashed)?;
+    let penalty = checked_mul(numerator / total, increment)?;
+    Ok(balance.saturating_sub(penalty))
+}
+
+/// The balances of all validators without their penalties, in Gwei.
+#[tactic(auto, unfolding(spec_epochs::specs::Each::validator_indices), using(spec_epochs::proofs::Each::each_made, spec_epochs::proofs::Each::made_few))]
+fn penalized_balances(
+    alloc: Global,
+    state: &State,
+    slashed: u64,
+    total: u64,
+) -> Result<Vec<u64>, Stop>
+    requires { 1 ≤ total }
+    ensures exact { GivesBy (λ balances. balances.items) result (checked_map (penalized_balance state.now slashed total) (validator_indices state.now)) }
+    ensures few { IfOk result (λ balances. length balances.items ≤ state.now.preset.validator_registry_limit) }
+{
+    let mut balances = Vec::new(alloc);
+    for index in 0..state.validators_len() {
+        balances.push(penalized_balance(state, slashed, total, index)?)?;
+    }
+    Ok(balances)
+}
+
+/// Takes from each slashed validator that is half way to its withdrawal its part of what was slashed lately
+/// (beacon-chain.md, `process_slashings`). Refused as an overflow exactly where a sum or product does not fit.
+#[tactic(auto, unfolding(spec_epochs::specs::ProcessSlashings::process_slashings), using(bc_preset::proofs::Bounds::preset_bounds, spec_epochs::proofs::Totals::least_total))]
+pub fn process_slashings(alloc: Global, state: &mut State) -> Result<(), Stop>
+    ensures { Changes result state.old state.new (process_slashings state.old) }
+{
+    let total = total_active(state, current_epoch(state))?;
+    let slashed = slashed_lately(state)?;
+    let multiplied = checked_mul(slashed, state.preset().proportional_slashing_multiplier)?;
+    let balances = penalized_balances(alloc, state, multiplied.min(total), total)?;
+    state.set_balances(balances)?;
+    Ok(())
+}
