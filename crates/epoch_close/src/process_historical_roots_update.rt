@@ -4,7 +4,7 @@ ghost use Rattle.std.specs.Prelude.{◌≡◌};
 ghost use Rattle.bc_words.specs.Outcome.{Changes};
 ghost use Rattle.spec_epochs.specs.ProcessHistoricalRootsUpdate.{process_historical_roots_update, historical_batch, historical_batch_codec};
 
-use crate::reads::current_epoch;
+use balance_totals::current_epoch;
 use bc_words::Stop;
 use beacon_state::State;
 use hash_tree::{Root, fields_root};

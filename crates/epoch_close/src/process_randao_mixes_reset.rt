@@ -4,7 +4,7 @@ ghost use Rattle.std.specs.Prelude.{◌≡◌};
 ghost use Rattle.bc_words.specs.Outcome.{Changes, done};
 ghost use Rattle.spec_epochs.specs.ProcessRandaoMixesReset.{process_randao_mixes_reset};
 
-use crate::reads::current_epoch;
+use balance_totals::current_epoch;
 use bc_words::Stop;
 use beacon_state::State;
 use committees::Lookup;

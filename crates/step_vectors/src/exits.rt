@@ -15,9 +15,5 @@ pub fn process_voluntary_exit(
     given: &Given,
 ) -> Result<Result<(), Stop>> {
     let exit = SignedVoluntaryExit::read(alloc, &given.input)?;
-    Ok(exit_queue::process_voluntary_exit::process_voluntary_exit(
-        state,
-        &exit,
-        &given.config,
-    ))
+    Ok(exit_queue::process_voluntary_exit::process_voluntary_exit(state, &exit, &given.config))
 }
