@@ -36,7 +36,7 @@ pub struct ConfigValues {
 }
 
 /// A configuration: a preset, and a value in its range for each other key. Contracts see its values.
-#[derive(Debug, Drop)]
+#[derive(Clone, Copy, Debug)]
 pub struct Config {
     values: ConfigValues,
 }
@@ -48,6 +48,8 @@ impl Model for Config {
     ghost Value = { ConfigValues };
 
     ghost view = { λ c. c.values };
+
+    ghost inverse = { λ values. record { values = values } };
 
     ghost invariant = { λ c. IsConfig c.values };
 }

@@ -3,6 +3,5 @@ pub mod PartsOfGroups
 pub mod Unread
 pub mod FirstFault
 pub mod Balances
-pub mod Joining
 pub mod Writings
 pub mod Within

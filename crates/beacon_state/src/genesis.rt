@@ -5,11 +5,10 @@ ghost use Rattle.std.specs.List.{list_all};
 ghost use Rattle.spec_state.specs.Genesis.{empty_list_root as empty_list, empty_body_root as empty_root, is_genesis_header as is_header, is_zero_checkpoint as is_zero, validator_fault as fault_of, validators_fault as first_fault, genesis_fault};
 
 use crate::state::State;
+use bc_preset::constants::FAR_FUTURE_EPOCH;
 use beacon_types::{BeaconBlockHeader, Checkpoint, Eth1Data, Validator};
 use hash_tree::{Leaf, Root, depth_of, fields_root, mix_in_length, zero_hash};
 use spec_state::{GenesisFault, ValidatorFault};
-
-const FAR_FUTURE_EPOCH: u64 = 18_446_744_073_709_551_615;
 
 // The limits of the lists of a block (beacon-chain.md, "Max operations per block").
 const MAX_PROPOSER_SLASHINGS: u64 = 16;

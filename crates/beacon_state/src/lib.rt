@@ -13,7 +13,6 @@ mod roots;
 mod state;
 mod values;
 mod writing;
-mod written;
 
 pub use genesis::{empty_body_root, genesis_check};
 pub use state::State;

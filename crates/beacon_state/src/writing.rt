@@ -1,103 +1,85 @@
 //! Writing a state: its fields come from the state, and the bytes go to files.
 
-ghost use Rattle.std.specs.Prelude.{◌≡◌, ◌++◌, Some, OnOk, IfOk};
+ghost use Rattle.std.specs.Prelude.{◌≡◌, Some, OnOk, IfOk};
 ghost use Rattle.ssz_codec.specs.Layout.{fixed_length};
 ghost use Rattle.ssz_codec.specs.Containers.{layout_of, parts_of};
+ghost use Rattle.ssz_codec.specs.inside.Halves.{with_parts};
 ghost use Rattle.spec_state.specs.States.{state_fields, state_codec};
 ghost use Rattle.beacon_state.specs.inside.Groups.{clock_fields, history_fields, eth1_fields, registry_fields, pending_fields, finality_fields, clock_of, history_of, eth1_of, registry_of, pending_of, finality_of};
 ghost use Rattle.spec_state.specs.Limits.{IsState};
 ghost use Rattle.bc_preset.specs.Presets.{IsPreset};
 ghost use Rattle.bc_preset.specs.declared.presets.Preset.{Preset};
 ghost use Rattle.spec_state.specs.declared.plain.PlainState.{PlainState};
-ghost use Rattle.beacon_state.specs.Writing.{ListFits, HasWriting};
+ghost use Rattle.beacon_state.specs.Writing.{HasWriting};
 
-use crate::reading::state_layout;
 use crate::state::State;
-use crate::written::{Written, join};
 use bc_preset::Preset;
 use bc_words::NoMemory;
+use ssz_codec::PartsWriter;
 use std::alloc::Global;
 
 #[tactic(auto, unfolding(crate::specs::inside::Groups::clock_fields))]
-fn add_clock(alloc: Global, s: &State, out: &mut Written) -> Result<(), NoMemory>
-    ensures { OnOk result (out.new ≡ out.old ++ parts_of clock_fields (clock_of s.now)) }
+fn add_clock(s: &State, out: &mut PartsWriter) -> Result<(), NoMemory>
+    ensures { OnOk result (out.new ≡ with_parts (layout_of clock_fields) (parts_of clock_fields (clock_of s.now)) out.old) }
 {
-    out.add(alloc, &s.genesis_time())?;
-    out.add(alloc, &s.genesis_validators_root())?;
-    out.add(alloc, &s.slot())?;
-    out.add(alloc, &s.fork())?;
-    out.add(alloc, &s.latest_block_header())?;
+    out.add(&s.genesis_time())?;
+    out.add(&s.genesis_validators_root())?;
+    out.add(&s.slot())?;
+    out.add(&s.fork())?;
+    out.add(&s.latest_block_header())?;
     Ok(())
 }
 
 #[tactic(auto, unfolding(crate::specs::inside::Groups::history_fields))]
-fn add_history(alloc: Global, s: &State, out: &mut Written) -> Result<(), NoMemory>
-    ensures { OnOk result (out.new ≡ out.old ++ parts_of (history_fields s.now.preset) (history_of s.now)) }
+fn add_history(s: &State, out: &mut PartsWriter) -> Result<(), NoMemory>
+    ensures { OnOk result (out.new ≡ with_parts (layout_of (history_fields s.now.preset)) (parts_of (history_fields s.now.preset) (history_of s.now)) out.old) }
 {
-    out.add_items(alloc, s.block_roots())?;
-    out.add_items(alloc, s.state_roots())?;
-    out.add_items(alloc, s.historical_roots())?;
+    out.add_vector(s.block_roots())?;
+    out.add_vector(s.state_roots())?;
+    out.add_items(s.historical_roots())?;
     Ok(())
 }
 
 #[tactic(auto, unfolding(crate::specs::inside::Groups::eth1_fields))]
-fn add_eth1(alloc: Global, s: &State, out: &mut Written) -> Result<(), NoMemory>
-    ensures { OnOk result (out.new ≡ out.old ++ parts_of (eth1_fields s.now.preset) (eth1_of s.now)) }
+fn add_eth1(s: &State, out: &mut PartsWriter) -> Result<(), NoMemory>
+    ensures { OnOk result (out.new ≡ with_parts (layout_of (eth1_fields s.now.preset)) (parts_of (eth1_fields s.now.preset) (eth1_of s.now)) out.old) }
 {
-    out.add(alloc, &s.eth1_data())?;
-    out.add_items(alloc, s.eth1_data_votes())?;
-    out.add(alloc, &s.eth1_deposit_index())?;
+    out.add(&s.eth1_data())?;
+    out.add_items(s.eth1_data_votes())?;
+    out.add(&s.eth1_deposit_index())?;
     Ok(())
 }
 
 #[tactic(auto, unfolding(crate::specs::inside::Groups::registry_fields))]
-fn add_registry(alloc: Global, s: &State, out: &mut Written) -> Result<(), NoMemory>
-    ensures { OnOk result (out.new ≡ out.old ++ parts_of (registry_fields s.now.preset) (registry_of s.now)) }
+fn add_registry(s: &State, out: &mut PartsWriter) -> Result<(), NoMemory>
+    ensures { OnOk result (out.new ≡ with_parts (layout_of (registry_fields s.now.preset)) (parts_of (registry_fields s.now.preset) (registry_of s.now)) out.old) }
 {
-    out.add_items(alloc, s.validators())?;
-    out.add_items(alloc, s.balances())?;
-    out.add_items(alloc, s.randao_mixes())?;
-    out.add_items(alloc, s.slashings())?;
+    out.add_items(s.validators())?;
+    out.add_items(s.balances())?;
+    out.add_vector(s.randao_mixes())?;
+    out.add_vector(s.slashings())?;
     Ok(())
 }
 
-#[tactic(auto, unfolding(crate::specs::inside::Groups::pending_fields, crate::specs::Writing::ListFits), using(bc_preset::proofs::Bounds::preset_bounds))]
-fn add_pending(alloc: Global, s: &State, out: &mut Written) -> Result<(), NoMemory>
-    requires previous { ListFits s.now.previous_epoch_attestations }
-    requires current { ListFits s.now.current_epoch_attestations }
-    ensures { OnOk result (out.new ≡ out.old ++ parts_of (pending_fields s.now.preset) (pending_of s.now)) }
+#[tactic(auto, unfolding(crate::specs::inside::Groups::pending_fields), using(bc_preset::proofs::Bounds::preset_bounds))]
+fn add_pending(s: &State, out: &mut PartsWriter) -> Result<(), NoMemory>
+    ensures { OnOk result (out.new ≡ with_parts (layout_of (pending_fields s.now.preset)) (parts_of (pending_fields s.now.preset) (pending_of s.now)) out.old) }
 {
     let _preset = s.preset();
-    out.add_list(alloc, s.previous_epoch_attestations())?;
-    out.add_list(alloc, s.current_epoch_attestations())?;
+    out.add_list(s.previous_epoch_attestations())?;
+    out.add_list(s.current_epoch_attestations())?;
     Ok(())
 }
 
 #[tactic(auto, unfolding(crate::specs::inside::Groups::finality_fields))]
-fn add_finality(alloc: Global, s: &State, out: &mut Written) -> Result<(), NoMemory>
-    ensures { OnOk result (out.new ≡ out.old ++ parts_of finality_fields (finality_of s.now)) }
+fn add_finality(s: &State, out: &mut PartsWriter) -> Result<(), NoMemory>
+    ensures { OnOk result (out.new ≡ with_parts (layout_of finality_fields) (parts_of finality_fields (finality_of s.now)) out.old) }
 {
-    out.add(alloc, &s.justification_bits())?;
-    out.add(alloc, &s.previous_justified_checkpoint())?;
-    out.add(alloc, &s.current_justified_checkpoint())?;
-    out.add(alloc, &s.finalized_checkpoint())?;
+    out.add(&s.justification_bits())?;
+    out.add(&s.previous_justified_checkpoint())?;
+    out.add(&s.current_justified_checkpoint())?;
+    out.add(&s.finalized_checkpoint())?;
     Ok(())
-}
-
-/// Writes each of the 21 fields.
-#[tactic(auto, unfolding(spec_state::specs::States::state_fields, crate::specs::inside::Groups::clock_fields, crate::specs::inside::Groups::history_fields, crate::specs::inside::Groups::eth1_fields, crate::specs::inside::Groups::registry_fields, crate::specs::inside::Groups::pending_fields, crate::specs::inside::Groups::finality_fields))]
-fn write_fields(alloc: Global, s: &State) -> Result<Written, NoMemory>
-    requires { HasWriting s.now }
-    ensures { IfOk result (λ out. out ≡ parts_of (state_fields s.now.preset) s.now) }
-{
-    let mut out = Written::new(alloc);
-    add_clock(alloc, s, &mut out)?;
-    add_history(alloc, s, &mut out)?;
-    add_eth1(alloc, s, &mut out)?;
-    add_registry(alloc, s, &mut out)?;
-    add_pending(alloc, s, &mut out)?;
-    add_finality(alloc, s, &mut out)?;
-    Ok(out)
 }
 
 /// The length of the fixed part of a writing, in bytes, which no state of the preset is shorter than.
@@ -112,15 +94,27 @@ pub fn shortest_state(preset: &Preset) -> u64
     401 + roots + roots + mixes + slashings
 }
 
-/// The writing of the fields.
-#[tactic(auto, unfolding(spec_state::specs::States::state_codec))]
+/// Writes each of the 21 fields.
+#[tactic(auto, unfolding(spec_state::specs::States::state_fields, crate::specs::inside::Groups::clock_fields, crate::specs::inside::Groups::history_fields, crate::specs::inside::Groups::eth1_fields, crate::specs::inside::Groups::registry_fields, crate::specs::inside::Groups::pending_fields, crate::specs::inside::Groups::finality_fields))]
+fn write_fields(s: &State, out: &mut PartsWriter) -> Result<(), NoMemory>
+    ensures { OnOk result (out.new ≡ with_parts (layout_of (state_fields s.now.preset)) (parts_of (state_fields s.now.preset) s.now) out.old) }
+{
+    add_clock(s, out)?;
+    add_history(s, out)?;
+    add_eth1(s, out)?;
+    add_registry(s, out)?;
+    add_pending(s, out)?;
+    add_finality(s, out)
+}
+
+/// The writing of the fields: one buffer for the fixed part, and one for the variable parts.
+#[tactic(auto, unfolding(spec_state::specs::States::state_codec), using(ssz_codec::proofs::Halves::halves_joined))]
 fn write_plain(alloc: Global, s: &State) -> Result<Vec<u8>, NoMemory>
-    requires { HasWriting s.now }
     ensures { IfOk result (λ bytes. bytes.items ≡ (state_codec s.now.preset).serialize s.now) }
 {
-    let parts = write_fields(alloc, s)?;
-    let layout = state_layout(s.preset());
-    join(alloc, &layout, &parts, shortest_state(s.preset()))
+    let mut parts = PartsWriter::new(alloc, shortest_state(s.preset()));
+    write_fields(s, &mut parts)?;
+    parts.finish()
 }
 
 impl State {

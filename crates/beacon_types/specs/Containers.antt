@@ -6,6 +6,7 @@ use Rattle.ssz_codec.specs.Containers.{Fields, fields_of, ◌▹◌∶◌, conta
 use Rattle.ssz_codec.specs.Basic.{uint64, boolean, bytes4, bytes32, bytes48, bytes96}
 use Rattle.ssz_codec.specs.BitLists.{bitlist}
 use Rattle.ssz_codec.specs.Lists.{list_codec, vector_codec}
+use Rattle.beacon_types.specs.Limits.{max_validators_per_committee}
 use Rattle.beacon_types.specs.declared.pending_attestation.PendingAttestation.{PendingAttestation}
 use Rattle.beacon_types.specs.declared.fork.Fork.{Fork}
 use Rattle.beacon_types.specs.declared.checkpoint.Checkpoint.{Checkpoint}
@@ -96,10 +97,6 @@ voluntary_exit_fields = fields_of (λ epoch validator. record { epoch = epoch; v
 
 abbrev pub voluntary_exit_codec : Codec VoluntaryExit
 voluntary_exit_codec = container_of voluntary_exit_fields
-
--- MAX_VALIDATORS_PER_COMMITTEE, which all presets share
-abbrev pub max_validators_per_committee : ℕ
-max_validators_per_committee = 2048
 
 -- Bitlist[MAX_VALIDATORS_PER_COMMITTEE]
 abbrev pub aggregation_bits_codec : Codec (List Bool)

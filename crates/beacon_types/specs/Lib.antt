@@ -1,3 +1,5 @@
 pub mod Containers
+pub mod Equality
+pub mod Limits
 pub mod Slashable
 pub mod laws

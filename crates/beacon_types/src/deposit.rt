@@ -8,7 +8,7 @@ use crate::deposit_data::DepositData;
 use bc_words::NoMemory;
 use hash_tree::{Leaf, Root};
 use ssz_codec::{
-    Field, FixedSsz, RootVector, Ssz, SszFault, VectorLength, Writer, read_container,
+    Field, FixedSsz, ListValue, RootVector, Ssz, SszFault, VectorLength, Writer, read_container,
     root_of_container, write_container,
 };
 use std::alloc::Global;
@@ -98,4 +98,14 @@ impl FixedSsz for Deposit {
     ghost is_fixed = { deposit_fixed };
 
     ghost composite = { refl };
+}
+
+impl ListValue for Deposit {
+    fn copied(&self) -> Result<Deposit, NoMemory> {
+        self.copy()
+    }
+
+    fn same(&self, other: &Deposit) -> bool {
+        self.equals(other)
+    }
 }

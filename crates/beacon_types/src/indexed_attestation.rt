@@ -1,29 +1,17 @@
 //! An attestation with the indices of its validators.
 
-ghost use Rattle.std.specs.Prelude.{◌≡◌, ℕ, ◌≤◌, ◌^◌, refl, IsTrue, ◌↔◌};
+ghost use Rattle.std.specs.Prelude.{◌≡◌, refl, IsTrue, ◌↔◌};
 ghost use Rattle.beacon_types.specs.Containers.{indexed_attestation_codec};
-ghost use Rattle.beacon_types.specs.laws.Containers.{indexed_attestation_lawful, max_members_low};
+ghost use Rattle.beacon_types.specs.laws.Containers.{indexed_attestation_lawful};
 
 use crate::attestation_data::AttestationData;
+use crate::limits::CommitteeLimit;
 use bc_words::NoMemory;
 use hash_tree::{Leaf, Root};
 use ssz_codec::{
-    Field, ListLimit, NumberList, Ssz, SszFault, VariableSsz, Writer, read_container,
-    root_of_container,
+    Field, NumberList, Ssz, SszFault, VariableSsz, Writer, read_container, root_of_container,
 };
 use std::alloc::Global;
-
-/// How many members a committee may have (phase 0 presets, "MAX_VALIDATORS_PER_COMMITTEE"; all presets share it).
-#[derive(Drop)]
-pub struct CommitteeLimit;
-
-impl ListLimit for CommitteeLimit {
-    ghost LIMIT = { 2048 };
-
-    const LIMIT: u64 = 2048;
-
-    ghost low = { max_members_low };
-}
 
 /// The indices of the validators that attested.
 pub type AttestingIndices = NumberList<CommitteeLimit>;

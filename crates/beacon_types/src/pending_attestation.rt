@@ -1,17 +1,20 @@
 //! An attestation that waits in the state for the end of its epoch.
 
 ghost use Rattle.std.specs.Prelude.{◌≡◌, ◌==◌, ◌≤◌, length, slice_get, refl, IfOk, IsTrue, ◌↔◌};
+ghost use Rattle.beacon_types.specs.Limits.{max_validators_per_committee};
 ghost use Rattle.beacon_types.specs.Containers.{aggregation_bits_codec, pending_attestation_codec};
 ghost use Rattle.beacon_types.specs.laws.Containers.{aggregation_bits_lawful, pending_attestation_lawful};
 
 use crate::attestation_data::AttestationData;
+use crate::limits::MAX_VALIDATORS_PER_COMMITTEE;
 use bc_words::NoMemory;
 use hash_tree::{Leaf, Root};
 use ssz_codec::{BitList, Field, Ssz, SszFault, Writer, read_container, root_of_container};
 use std::alloc::Global;
 use std::marker::Model;
 
-/// Which members of a committee attested: at most 2048 bits.
+/// Which members of a committee attested: as many bits at most as a committee
+/// may have members.
 #[derive(Drop)]
 pub struct AggregationBits {
     bits: BitList,
@@ -24,13 +27,15 @@ impl Model for AggregationBits {
 
     ghost view = { λ a. a.bits };
 
-    ghost invariant = { λ a. length a.bits ≤ 2048 };
+    ghost use Rattle.beacon_types.specs.Limits.{max_validators_per_committee};
+
+    ghost invariant = { λ a. length a.bits ≤ max_validators_per_committee };
 }
 
 impl AggregationBits {
-    /// The bits, of which there must be at most 2048.
+    /// The bits, of which there must be no more than a committee may have members.
     pub fn new(bits: BitList) -> AggregationBits
-        requires { length bits ≤ 2048 }
+        requires { length bits ≤ max_validators_per_committee }
         ensures { result ≡ bits }
     {
         AggregationBits { bits }
@@ -39,7 +44,7 @@ impl AggregationBits {
     /// The bits as a list of any length.
     pub fn as_bits(&self) -> &BitList
         ensures same { result.now ≡ self.now }
-        ensures limit { length self.now ≤ 2048 }
+        ensures limit { length self.now ≤ max_validators_per_committee }
     {
         &self.bits
     }
@@ -47,7 +52,7 @@ impl AggregationBits {
     /// How many bits there are.
     pub fn len(&self) -> u64
         ensures same { result ≡ length self.now }
-        ensures limit { length self.now ≤ 2048 }
+        ensures limit { length self.now ≤ max_validators_per_committee }
     {
         self.bits.len()
     }
@@ -89,7 +94,7 @@ impl Leaf for AggregationBits {
     ghost root_of = { aggregation_bits_codec.hash_tree_root };
 
     fn root(&self) -> Root {
-        self.bits.root(2048)
+        self.bits.root(MAX_VALIDATORS_PER_COMMITTEE)
     }
 }
 
@@ -101,7 +106,7 @@ impl Ssz for AggregationBits {
     }
 
     fn parse(alloc: Global, bytes: &[u8]) -> Result<AggregationBits, SszFault> {
-        let bits = BitList::read(alloc, bytes, 2048)?;
+        let bits = BitList::read(alloc, bytes, MAX_VALIDATORS_PER_COMMITTEE)?;
         Ok(AggregationBits { bits })
     }
 

@@ -8,7 +8,7 @@ use crate::voluntary_exit::VoluntaryExit;
 use bc_words::NoMemory;
 use hash_tree::{Leaf, Root};
 use ssz_codec::{
-    Field, FixedSsz, Ssz, SszFault, Writer, read_container, root_of_container, write_container,
+    Field, FixedSsz, ListValue, Ssz, SszFault, Writer, read_container, root_of_container, write_container,
 };
 use std::alloc::Global;
 
@@ -61,4 +61,14 @@ impl FixedSsz for SignedVoluntaryExit {
     ghost is_fixed = { signed_exit_fixed };
 
     ghost composite = { refl };
+}
+
+impl ListValue for SignedVoluntaryExit {
+    fn copied(&self) -> Result<SignedVoluntaryExit, NoMemory> {
+        Ok(*self)
+    }
+
+    fn same(&self, other: &SignedVoluntaryExit) -> bool {
+        self == other
+    }
 }

@@ -1,8 +1,7 @@
 -- Genesis: which states begin a chain, and the root of the genesis block (beacon-chain.md, "Genesis"; a state that
 -- initialize_beacon_state_from_eth1 makes is one).
-use Rattle.std.specs.Prelude.{ℕ, ◌+◌, ◌&&◌, not, Bool, List, [], ◌∷◌, length, replicate, Option, Some, None, Result, Ok, Err, nat_lt, nat_eq, ◌==◌, if◌then◌else◌}
+use Rattle.std.specs.Prelude.{ℕ, ◌+◌, ◌&&◌, not, Bool, List, [], ◌∷◌, length, replicate, Option, Some, None, Result, Ok, Err, nat_lt, ◌==◌, if◌then◌else◌}
 use Rattle.std.specs.List.{list_all}
-use Rattle.std.specs.Cmp.Lexicographic.{pointwise}
 use Rattle.hash_tree.specs.Merkle.{merkleize, mix_in_length}
 use Rattle.ssz_codec.specs.Basic.{bytes96}
 use Rattle.bc_preset.specs.declared.presets.Preset.{Preset}
@@ -16,6 +15,7 @@ use Rattle.spec_state.specs.declared.fault.ValidatorFault.{ValidatorFault}
 use Rattle.spec_state.specs.declared.fault.ValidatorFault.TheVariants as validators
 use Rattle.spec_state.specs.declared.fault.GenesisFault.{GenesisFault}
 use Rattle.spec_state.specs.declared.fault.GenesisFault.TheVariants as parts
+use Rattle.beacon_types.specs.Equality.{same_root}
 use Rattle.spec_state.specs.Constants.{far_future_epoch, max_genesis_len, max_proposer_slashings, max_attester_slashings, max_attestations, max_deposits, max_voluntary_exits}
 use Rattle.spec_state.specs.States.{state_codec}
 
@@ -47,10 +47,6 @@ empty_body_roots =
 -- the root of the empty block body
 unfoldable pub empty_body_root : List ℕ
 empty_body_root = merkleize empty_body_roots (length empty_body_roots)
-
--- the two roots are equal
-abbrev pub same_root : List ℕ → List ℕ → Bool
-same_root a b = pointwise nat_eq a b
 
 -- the header with the state's root, as it is once the slot is over
 unfoldable pub block_header_of : PlainState → BeaconBlockHeader

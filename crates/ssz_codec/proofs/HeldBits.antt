@@ -1,15 +1,15 @@
 -- how the bytes of a `BitList` hold its bits
-use Rattle.std.proofs.Common.{◌≡◌, ℕ, zero, suc, ◌+◌, ◌-◌, ◌*◌, ◌/◌, ◌%◌, ◌^◌, ◌<◌, ◌≤◌, Bool, true, false, List, [], ◌∷◌, ◌++◌, length, take, drop, get_or, Some, slice_get, nat_eq, bit_and, refl, sym, ap, subst, ◌∙◌, append_assoc, arith}
+use Rattle.std.proofs.Common.{◌≡◌, ℕ, zero, suc, ◌+◌, ◌-◌, ◌*◌, ◌/◌, ◌%◌, ◌^◌, ◌<◌, ◌≤◌, Bool, true, false, cond, List, [], ◌∷◌, ◌++◌, length, take, drop, get_or, Some, slice_get, nat_eq, bit_and, refl, sym, ap, subst, ◌∙◌, append_assoc, arith, pow_pos}
 use Rattle.std.specs.Prelude.{◌==◌}
-use Rattle.std.proofs.Math.Nat.{div-div-eq-div-mul}
+use Rattle.std.proofs.Math.Nat.{div-div-eq-div-mul, div-eq_of_lt, add-div_right}
 use Rattle.std.proofs.Math.Pow.{pow_mono}
 use Rattle.std.proofs.Math.Seq.{take-append-add}
 use Rattle.std.proofs.lemmas.Grind.{and_numeral, flat_map-append, one_shifted}
 use Rattle.std.proofs.lemmas.Option.{slice_get-get_or}
-use Rattle.std.proofs.lemmas.List.{take_all, take-append-drop, length-append, length-take-le, length-drop, get_or_append_left, get_or-append_right, get_or-take, get_or_default, append-nil}
+use Rattle.std.proofs.lemmas.List.{take_all, take-append-drop, length-append, length-take, length-take-le, length-drop, get_or_append_left, get_or-append_right, get_or-take, get_or_default, append-nil}
 use Rattle.ssz_codec.specs.Basic.{number_bits}
 use Rattle.hash_tree.specs.Merkle.{bits_number}
-use Rattle.ssz_codec.specs.BitLists.{bits_bytes, bit_list_bytes}
+use Rattle.ssz_codec.specs.BitLists.{packed_bits, bits_bytes, bit_list_bytes}
 use Rattle.ssz_codec.specs.inside.HeldBits.{held_bits, IsHeld}
 use Rattle.ssz_codec.specs.declared.bit_list.BitList.TheInside.{Inside}
 use Rattle.ssz_codec.specs.Lawful.{IsBytes}
@@ -211,3 +211,99 @@ under_byte place last l low =
     let p = pow-step place in
     let q : 2 ^ suc place ≤ 2 ^ 8 = pow_mono {i = suc place} {j = 8} l in
     omega arith
+
+-- ---- one more bit
+
+number_bits-push : (k n : ℕ) → number_bits (suc k) n ≡ number_bits k n ++ (n / 2 ^ k % 2 == 1) ∷ []
+number_bits-push zero n = ap (λ m. (m % 2 == 1) ∷ []) (let one : n ≡ n / 2 ^ 0 = omega arith in one)
+number_bits-push (suc k) n =
+    ap (λ (t : List Bool). (n % 2 == 1) ∷ t) (number_bits-push k (n / 2))
+    ∙ ap (λ m. (n % 2 == 1) ∷ (number_bits k (n / 2) ++ (m % 2 == 1) ∷ [])) (div-div-eq-div-mul n 2 (2 ^ k) ∙ ap (λ m. n / m) (sym (pow-step k)))
+
+-- a byte with so many bits in use behind whole ones
+last_view : (b : Inside) (front : List ℕ) (k rest : ℕ) → b.len ≡ 8 * length front + k → k ≤ 8 → b.bytes.items ≡ front ++ rest ∷ [] → held_bits b ≡ whole_bits front ++ number_bits k rest
+last_view b front k rest len l items =
+    ap (λ t. take b.len (whole_bits t)) items ∙ held_part front b.len k (rest + 2 ^ k) rest len l refl ∙ ap (λ (t : List Bool). whole_bits front ++ t) (low_bits k rest)
+
+last_held : (b : Inside) (front : List ℕ) (k rest : ℕ) → b.len ≡ 8 * length front + k → 0 < k → k ≤ 8 → IsBytes front → rest < 2 ^ k → b.bytes.items ≡ front ++ rest ∷ [] → IsHeld b
+last_held b front k rest len some l fits low items =
+    is_held b (whole_bits front ++ number_bits k (rest + 2 ^ k))
+    (ap (λ t. take b.len (whole_bits t)) items ∙ held_part front b.len k (rest + 2 ^ k) rest len l refl)
+    (packed_part front k (rest + 2 ^ k) rest fits some l refl low ∙ sym items)
+    (length_part front k (rest + 2 ^ k) b.len len)
+
+bit_of_one : (bit : Bool) → (cond bit 1 0 % 2 == 1) ≡ bit
+bit_of_one true = refl
+bit_of_one false = refl
+
+one_low : (bit : Bool) → cond bit 1 0 < 2
+one_low true = omega arith
+one_low false = omega arith
+
+-- bits are packed into bytes
+packed_fits : (count : ℕ) (bits : List Bool) → IsBytes (packed_bits count bits)
+unfolding packed_bits
+packed_fits zero bits i = omega arith
+packed_fits (suc count) bits zero =
+    let few : length (take 8 bits) ≤ 8 = omega (arith, length-take 8 bits) in
+    let high : 2 ^ length (take 8 bits) ≤ 2 ^ 8 = pow_mono {i = length (take 8 bits)} {j = 8} few in
+    omega (arith, bits_below (take 8 bits))
+packed_fits (suc count) bits (suc i) = packed_fits count (drop 8 bits) i
+
+pub held_fits : (b : Inside) → IsHeld b → IsBytes b.bytes.items
+held_fits b h = subst IsBytes h.packed (packed_fits ((length (held_bits b) + 7) / 8) (held_bits b))
+
+-- the first bit of a byte
+module _ (b next : Inside) (bit : Bool) (h : IsHeld b) (even : b.len % 8 ≡ 0) (len : next.len ≡ b.len + 1) (items : next.bytes.items ≡ b.bytes.items ++ cond bit 1 0 ∷ []) where
+  first_len : b.len ≡ 8 * length b.bytes.items
+  first_len = omega (arith, held_len b h)
+
+  pub first_pushed : held_bits next ≡ held_bits b ++ bit ∷ []
+  first_pushed =
+      last_view next b.bytes.items 1 (cond bit 1 0) (omega (arith, first_len)) (omega arith) items
+      ∙ ap (λ (t : List Bool). whole_bits b.bytes.items ++ t) (ap (λ (t : Bool). t ∷ []) (bit_of_one bit))
+      ∙ ap (λ (t : List Bool). t ++ bit ∷ []) (sym (held_whole b.bytes.items b.len first_len))
+
+  pub first_held : IsHeld next
+  first_held = last_held next b.bytes.items 1 (cond bit 1 0) (omega (arith, first_len)) (omega arith) (omega arith) (held_fits b h) (one_low bit) items
+
+-- the bit is put above the others of its byte
+put_low : (bit : Bool) (k l : ℕ) → l < 2 ^ k → (l + cond bit 1 0 * 2 ^ k < 2 ^ suc k) × (number_bits k (l + cond bit 1 0 * 2 ^ k) ≡ number_bits k l) × (((l + cond bit 1 0 * 2 ^ k) / 2 ^ k % 2 == 1) ≡ bit)
+put_low true k l low =
+    let one : l + 1 * 2 ^ k ≡ l + 2 ^ k = omega arith in
+    let up : (l + 2 ^ k) / 2 ^ k ≡ 1 = add-div_right l (pow_pos k) ∙ ap (λ m. m + 1) (div-eq_of_lt low) in (
+      omega (arith, pow-step k),
+      ap (number_bits k) one ∙ low_bits k l,
+      ap (λ m. m / 2 ^ k % 2 == 1) one ∙ ap (λ m. m % 2 == 1) up,
+    )
+put_low false k l low =
+    let none : l + 0 * 2 ^ k ≡ l = omega arith in
+    let under : l / 2 ^ k ≡ 0 = div-eq_of_lt low in (
+      omega (arith, pow-step k),
+      ap (number_bits k) none,
+      ap (λ m. m / 2 ^ k % 2 == 1) none ∙ ap (λ m. m % 2 == 1) under,
+    )
+
+module _ (b next : Inside) (bit : Bool) (front : List ℕ) (l : ℕ) (h : IsHeld b) (fits : IsBytes front) (some : 0 < b.len % 8) (split : b.bytes.items ≡ front ++ l ∷ []) (len : next.len ≡ b.len + 1)
+    (items : next.bytes.items ≡ front ++ (l + cond bit 1 0 * 2 ^ (b.len % 8)) ∷ []) where
+  abbrev used : ℕ
+  used = b.len % 8
+
+  low : l < 2 ^ used
+  low = (part_writing b front l h split some).0
+
+  more_len : b.len ≡ 8 * length front + used
+  more_len = omega (arith, held_len b h, ap length split, length-append front (l ∷ []))
+
+  pub more_pushed : held_bits next ≡ held_bits b ++ bit ∷ []
+  more_pushed =
+      let put = put_low bit used l low in
+      last_view next front (suc used) (l + cond bit 1 0 * 2 ^ used) (omega (arith, more_len)) (omega arith) items
+      ∙ ap (λ (t : List Bool). whole_bits front ++ t) (number_bits-push used (l + cond bit 1 0 * 2 ^ used))
+      ∙ ap (λ (t : List Bool). whole_bits front ++ (t ++ ((l + cond bit 1 0 * 2 ^ used) / 2 ^ used % 2 == 1) ∷ [])) put.1
+      ∙ ap (λ (t : Bool). whole_bits front ++ (number_bits used l ++ t ∷ [])) put.2
+      ∙ sym (append_assoc (whole_bits front) (number_bits used l) (bit ∷ []))
+      ∙ ap (λ (t : List Bool). t ++ bit ∷ []) (sym (last_view b front used l more_len (omega arith) split))
+
+  pub more_held : IsHeld next
+  more_held = last_held next front (suc used) (l + cond bit 1 0 * 2 ^ used) (omega (arith, more_len)) (omega arith) (omega arith) fits (put_low bit used l low).0 items

@@ -2,7 +2,7 @@
 //!
 //! Bytes come from containers; bits go to those who look up which members attested, and roots to the containers.
 
-ghost use Rattle.std.specs.Prelude.{◌≡◌, ℕ, ◌+◌, ◌*◌, ◌/◌, ◌^◌, ◌<◌, ◌≤◌, List, Bool, length, slice_get, take, OnOk, OnErr, IfOk, IsTrue, ◌↔◌, Some, ◌++◌, ◌==◌};
+ghost use Rattle.std.specs.Prelude.{◌≡◌, ℕ, ◌+◌, ◌*◌, ◌/◌, ◌^◌, ◌<◌, ◌≤◌, List, Bool, length, slice_get, take, OnOk, OnErr, IfOk, IsTrue, ◌↔◌, Some, ◌++◌, ◌==◌, ◌∷◌, [], cond};
 ghost use Rattle.hash_tree.specs.Merkle.{byte_chunks, bit_chunk_count};
 ghost use Rattle.ssz_codec.specs.Basic.{number_bits};
 ghost use Rattle.ssz_codec.specs.BitLists.{parse_bit_list, bit_list_bytes, bitlist};
@@ -45,7 +45,45 @@ fn bit_chunks(bits: u64) -> u64
     (bits + 255) / 256
 }
 
+/// A byte of which so many bits are in use, with one more above them.
+fn with_bit(byte: u8, used: u64, bit: bool) -> u8
+    requires room { used < 8 }
+    requires low { byte < 2 ^ used }
+    ensures { result ≡ byte + cond bit 1 0 * 2 ^ used }
+{
+    if bit { byte + (1 << used) } else { byte }
+}
+
 impl BitList {
+    /// No bit.
+    pub fn new(alloc: Global) -> BitList
+        ensures { result ≡ [] }
+    {
+        BitList {
+            bytes: Vec::new(alloc),
+            len: 0,
+        }
+    }
+
+    /// One more bit at the end. Where memory is refused, the bits are as before.
+    pub fn push(&mut self, bit: bool) -> Result<(), NoMemory>
+        requires { length self.old < 2 ^ 63 }
+        ensures ok { OnOk result (self.new ≡ self.old ++ bit ∷ []) }
+        ensures err { OnErr result (self.new ≡ self.old) }
+    {
+        let used = self.len % 8;
+        if used == 0 {
+            self.bytes.push(with_bit(0, 0, bit))?;
+            self.len += 1;
+            return Ok(());
+        }
+        let last = self.bytes.len() - 1;
+        let byte = self.bytes[last];
+        self.bytes[last] = with_bit(byte, used, bit);
+        self.len += 1;
+        Ok(())
+    }
+
     /// How many bits there are.
     pub fn len(&self) -> u64
         ensures { result ≡ length self.now }

@@ -1,7 +1,7 @@
 //! Lists whose type says how many values they may have, so that a container with such a field reads, writes and has its
 //! root as any other.
 
-ghost use Rattle.std.specs.Prelude.{◌≡◌, ℕ, ◌==◌, ◌≤◌, ◌<◌, ◌^◌, ◌∷◌, ◌++◌, [], length, refl, OnOk, OnErr, IfOk};
+ghost use Rattle.std.specs.Prelude.{◌≡◌, ℕ, ◌==◌, ◌≤◌, ◌<◌, ◌^◌, ◌∷◌, ◌++◌, [], length, refl, OnOk, OnErr, IfOk, IsTrue, ◌↔◌};
 ghost use Rattle.ssz_codec.specs.Layout.{field_length};
 ghost use Rattle.ssz_codec.specs.Lists.{list_codec};
 ghost use Rattle.ssz_codec.specs.laws.Lists.{list_lawful};
@@ -9,6 +9,7 @@ ghost use Rattle.ssz_codec.specs.laws.Lists.{list_lawful};
 use crate::fault::SszFault;
 use crate::items::Items;
 use crate::layout::Field;
+use crate::list_value::{ListValue, all_equal, copy_all};
 use crate::lists::{append_items, read_list};
 use crate::roots::list_root;
 use crate::ssz::{FixedSsz, Ssz};
@@ -92,6 +93,27 @@ impl<T: FixedSsz, L: ListLimit> LimitedList<T, L> {
         ensures { result ≡ (length self.now == 0) }
     {
         self.values.is_empty()
+    }
+}
+
+impl<T: FixedSsz + ListValue, L: ListLimit> LimitedList<T, L> {
+    /// The same values once more.
+    pub fn copy(&self, alloc: Global) -> Result<LimitedList<T, L>, NoMemory>
+        ensures { IfOk result (λ copy. copy ≡ self.now) }
+    {
+        let _len = self.len();
+        let values = copy_all(alloc, self.values.as_slice())?;
+        Ok(LimitedList {
+            values,
+            limit: PhantomData,
+        })
+    }
+
+    /// Whether these are the same values.
+    pub fn equals(&self, other: &LimitedList<T, L>) -> bool
+        ensures { IsTrue result ↔ (self.now ≡ other.now) }
+    {
+        all_equal(self.as_slice(), other.as_slice())
     }
 }
 

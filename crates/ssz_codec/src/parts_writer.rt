@@ -1,13 +1,16 @@
 //! A container, or a list of variable parts, while it is written: the fixed part and the variable parts grow in two
 //! buffers, and are joined at the end. Values come from the writers of containers, and the bytes go to theirs.
 
-ghost use Rattle.std.specs.Prelude.{◌≡◌, ◌+◌, ◌++◌, length, take, OnOk, OnErr};
+ghost use Rattle.std.specs.Prelude.{◌≡◌, ◌+◌, ◌++◌, ◌≤◌, ◌^◌, length, map, replicate, take, OnOk, OnErr, IfOk};
+ghost use Rattle.std.specs.List.{flat_map};
 ghost use Rattle.ssz_codec.specs.declared.layout.Field.TheVariants.{Variable};
-ghost use Rattle.ssz_codec.specs.Layout.{offset_bytes};
-ghost use Rattle.ssz_codec.specs.inside.Halves.{nothing_written, with_part, whole_of};
+ghost use Rattle.ssz_codec.specs.Layout.{offset_bytes, joined};
+ghost use Rattle.ssz_codec.specs.inside.Halves.{nothing_written, with_fixed, with_variable, with_part, whole_of};
 
 use crate::layout::Field;
+use crate::lists::append_items;
 use crate::ssz::Ssz;
+use crate::variable_list::append_list;
 use crate::writer::Writer;
 use bc_words::NoMemory;
 use std::alloc::Global;
@@ -76,6 +79,30 @@ impl PartsWriter {
         }
     }
 
+    /// A vector of values of fixed size.
+    pub fn add_vector<T: Ssz>(&mut self, values: &[T]) -> Result<(), NoMemory>
+        ensures { OnOk result (self.new ≡ with_fixed (flat_map T.codec.serialize values.now) self.old) }
+    {
+        append_items(values, &mut self.fixed)
+    }
+
+    /// A list of values of fixed size.
+    pub fn add_items<T: Ssz>(&mut self, values: &[T]) -> Result<(), NoMemory>
+        ensures { OnOk result (self.new ≡ with_variable (flat_map T.codec.serialize values.now) self.old) }
+    {
+        self.put_offset()?;
+        append_items(values, &mut self.variable)
+    }
+
+    /// A list of values of variable size.
+    pub fn add_list<T: Ssz>(&mut self, values: &[T]) -> Result<(), NoMemory>
+        requires { length values.now ≤ 2 ^ 40 }
+        ensures { OnOk result (self.new ≡ with_variable (joined (replicate (length values.now) Variable) (map T.codec.serialize values.now)) self.old) }
+    {
+        self.put_offset()?;
+        append_list(values, &mut self.variable)
+    }
+
     /// All that is written goes behind these bytes. Where memory is refused, a part of it may stand there.
     pub fn append_to(&self, out: &mut Writer) -> Result<(), NoMemory>
         ensures ok { OnOk result (out.new ≡ out.old ++ whole_of self.now) }
@@ -83,5 +110,17 @@ impl PartsWriter {
     {
         out.put_bytes(self.fixed.as_slice())?;
         out.put_bytes(self.variable.as_slice())
+    }
+    /// All that is written, in one piece.
+    pub fn finish(self) -> Result<Vec<u8>, NoMemory>
+        ensures { IfOk result (λ bytes. bytes.items ≡ whole_of self) }
+    {
+        let PartsWriter {
+            mut fixed,
+            variable,
+            start: _,
+        } = self;
+        fixed.put_bytes(variable.as_slice())?;
+        Ok(fixed.finish())
     }
 }

@@ -3,7 +3,9 @@
 ghost use Rattle.std.proofs.Common.{lit≤};
 
 use super::*;
+use bc_words::NoMemory;
 use hash_tree::Root;
+use std::alloc::Global;
 use std::test::Fail;
 
 /// How many bytes are taken, or 99.
@@ -75,5 +77,36 @@ fn limited_and_copied(rt: HostRuntime) -> Result<(), Fail> {
     let copy = bits.copy()?;
     assert!(rt; bits.equals(&copy));
     assert_eq!(rt; copy.write(rt.alloc())?.as_slice(), b"\x0b".as_slice());
+    Ok(())
+}
+
+/// Whether a list equals its copy.
+fn same_as_its_copy(alloc: Global, roots: &LimitedList<Root, Two>) -> Result<bool, NoMemory> {
+    let copy = roots.copy(alloc)?;
+    Ok(copy.equals(roots))
+}
+
+#[test]
+fn limited_copies(rt: HostRuntime) -> Result<(), Fail> {
+    let roots = LimitedList::<Root, Two>::read(rt.alloc(), &[7; 64])?;
+    let same = same_as_its_copy(rt.alloc(), &roots)?;
+    assert!(rt; same);
+    Ok(())
+}
+
+/// The bits of ten pushes.
+fn ten_bits(alloc: Global) -> Result<BitList, NoMemory> {
+    let mut bits = BitList::new(alloc);
+    for i in 0..10 {
+        bits.push(i == 9)?;
+    }
+    Ok(bits)
+}
+
+#[test]
+fn bits_one_by_one(rt: HostRuntime) -> Result<(), Fail> {
+    let bits = ten_bits(rt.alloc())?;
+    let bytes = bits.write(rt.alloc())?;
+    assert_eq!(rt; bytes.as_slice(), b"\x00\x06".as_slice());
     Ok(())
 }

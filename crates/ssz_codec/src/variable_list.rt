@@ -1,7 +1,7 @@
 //! Lists of values of variable size whose type says how many there may be, as blocks have of attestations. Bytes come
 //! from containers, which are read, written and rooted with such a field as with any other.
 
-ghost use Rattle.std.specs.Prelude.{◌≡◌, ◌==◌, ◌≤◌, ◌*◌, ◌^◌, ◌++◌, length, map, replicate, take, refl, OnOk, OnErr, IfOk};
+ghost use Rattle.std.specs.Prelude.{◌≡◌, ◌==◌, ◌≤◌, ◌*◌, ◌^◌, ◌++◌, length, map, replicate, take, refl, OnOk, OnErr, IfOk, IsTrue, ◌↔◌};
 ghost use Rattle.ssz_codec.specs.declared.layout.Field.TheVariants.{Variable};
 ghost use Rattle.ssz_codec.specs.Layout.{joined};
 ghost use Rattle.ssz_codec.specs.Lists.{variable_list_codec};
@@ -12,6 +12,7 @@ use crate::fault::SszFault;
 use crate::items::Items;
 use crate::layout::Field;
 use crate::limited::ListLimit;
+use crate::list_value::{ListValue, all_equal};
 use crate::lists::read_variable_list;
 use crate::parts_writer::PartsWriter;
 use crate::roots::variable_list_root;
@@ -98,6 +99,15 @@ impl<T: VariableSsz, L: ListLimit> VariableList<T, L> {
     }
 }
 
+impl<T: VariableSsz + ListValue, L: ListLimit> VariableList<T, L> {
+    /// Whether these are the same values.
+    pub fn equals(&self, other: &VariableList<T, L>) -> bool
+        ensures { IsTrue result ↔ (self.now ≡ other.now) }
+    {
+        all_equal(self.as_slice(), other.as_slice())
+    }
+}
+
 /// The same values once more.
 fn copy_all<T: VariableSsz>(alloc: Global, values: &[T]) -> Result<Items<T>, NoMemory>
     ensures { IfOk result (λ copies. copies ≡ values.now) }
@@ -123,7 +133,7 @@ fn write_parts<T: Ssz>(alloc: Global, values: &[T]) -> Result<PartsWriter, NoMem
 
 /// Writes a list of values of variable size. Where memory is refused, a part of it may stand there.
 #[tactic(auto, using(crate::proofs::Halves::list_joined))]
-fn append_list<T: Ssz>(values: &[T], out: &mut Writer) -> Result<(), NoMemory>
+pub(crate) fn append_list<T: Ssz>(values: &[T], out: &mut Writer) -> Result<(), NoMemory>
     requires { length values.now ≤ 2 ^ 40 }
     ensures ok { OnOk result (out.new ≡ out.old ++ joined (replicate (length values.now) Variable) (map T.codec.serialize values.now)) }
     ensures err { OnErr result (take (length out.old) out.new ≡ out.old) }

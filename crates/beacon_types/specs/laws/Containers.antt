@@ -5,7 +5,8 @@ use Rattle.ssz_codec.specs.laws.Containers.{start, ◌▸◌, container_of_lawfu
 use Rattle.ssz_codec.specs.laws.Basic.{uint64_lawful, boolean_lawful, bytes_lawful, bytes32_lawful, uint64_is_fixed, bytes32_is_fixed}
 use Rattle.ssz_codec.specs.laws.BitLists.{bitlist_lawful}
 use Rattle.ssz_codec.specs.laws.Lists.{list_lawful, vector_lawful}
-use Rattle.beacon_types.specs.Containers.{fork_fields, fork_codec, checkpoint_fields, checkpoint_codec, validator_fields, validator_codec, attestation_data_fields, attestation_data_codec, eth1_data_fields, eth1_data_codec, block_header_fields, block_header_codec, voluntary_exit_fields, voluntary_exit_codec, aggregation_bits_codec, pending_attestation_fields, pending_attestation_codec, deposit_data_fields, deposit_data_codec, max_validators_per_committee, indexed_attestation_fields, indexed_attestation_codec, deposit_contract_tree_depth, deposit_fields, deposit_codec, signed_header_fields, signed_header_codec, signed_exit_fields, signed_exit_codec}
+use Rattle.beacon_types.specs.Limits.{max_validators_per_committee}
+use Rattle.beacon_types.specs.Containers.{fork_fields, fork_codec, checkpoint_fields, checkpoint_codec, validator_fields, validator_codec, attestation_data_fields, attestation_data_codec, eth1_data_fields, eth1_data_codec, block_header_fields, block_header_codec, voluntary_exit_fields, voluntary_exit_codec, aggregation_bits_codec, pending_attestation_fields, pending_attestation_codec, deposit_data_fields, deposit_data_codec, indexed_attestation_fields, indexed_attestation_codec, deposit_contract_tree_depth, deposit_fields, deposit_codec, signed_header_fields, signed_header_codec, signed_exit_fields, signed_exit_codec}
 
 pub fork_lawful : IsLawful fork_codec
 fork_lawful = container_of_lawful fork_fields (λ v. refl) (λ a. refl) (start ▸ bytes_lawful 4 ▸ bytes_lawful 4 ▸ uint64_lawful)
@@ -32,7 +33,7 @@ pub voluntary_exit_lawful : IsLawful voluntary_exit_codec
 voluntary_exit_lawful = container_of_lawful voluntary_exit_fields (λ v. refl) (λ a. refl) (start ▸ uint64_lawful ▸ uint64_lawful)
 
 pub aggregation_bits_lawful : IsLawful aggregation_bits_codec
-aggregation_bits_lawful = bitlist_lawful 2048
+aggregation_bits_lawful = bitlist_lawful max_validators_per_committee
 
 pub pending_attestation_lawful : IsLawful pending_attestation_codec
 pending_attestation_lawful = container_of_lawful pending_attestation_fields (λ v. refl) (λ a. refl)
@@ -40,9 +41,6 @@ pending_attestation_lawful = container_of_lawful pending_attestation_fields (λ 
 
 pub deposit_data_lawful : IsLawful deposit_data_codec
 deposit_data_lawful = container_of_lawful deposit_data_fields (λ v. refl) (λ a. refl) (start ▸ bytes_lawful 48 ▸ bytes32_lawful ▸ uint64_lawful ▸ bytes_lawful 96)
-
-pub max_members_low : max_validators_per_committee ≤ 2 ^ 40
-max_members_low = omega arith
 
 pub indexed_attestation_lawful : IsLawful indexed_attestation_codec
 indexed_attestation_lawful = container_of_lawful indexed_attestation_fields (λ v. refl) (λ a. refl)

@@ -16,10 +16,18 @@ pub record Halves : Type 0 where
 abbrev pub nothing_written : ℕ → Halves
 nothing_written start = record { fixed = []; variable = []; start = start }
 
+-- one more part of fixed size
+abbrev pub with_fixed : List ℕ → Halves → Halves
+with_fixed part h = record { fixed = h.fixed ++ part; variable = h.variable; start = h.start }
+
+-- one more part of variable size
+abbrev pub with_variable : List ℕ → Halves → Halves
+with_variable part h = record { fixed = h.fixed ++ offset_bytes (h.start + length h.variable); variable = h.variable ++ part; start = h.start }
+
 -- one more part
 abbrev pub with_part : Field → List ℕ → Halves → Halves
-with_part (Fixed n) part h = record { fixed = h.fixed ++ part; variable = h.variable; start = h.start }
-with_part Variable part h = record { fixed = h.fixed ++ offset_bytes (h.start + length h.variable); variable = h.variable ++ part; start = h.start }
+with_part (Fixed n) part h = with_fixed part h
+with_part Variable part h = with_variable part h
 
 -- the parts of these fields
 abbrev pub with_parts : List Field → List (List ℕ) → Halves → Halves
