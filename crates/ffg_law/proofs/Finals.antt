@@ -1,7 +1,11 @@
 -- Two chains that finalise checkpoints and share no target checkpoint from the lesser of these on have two links for
 -- which nobody may vote both.
-use Rattle.std.proofs.Common.{◌≡◌, ℕ, ◌+◌, ◌<◌, ◌≤◌, ◌⊎◌, inl, inr, min, List, [], ◌∷◌, map, refl, sym, ap, ◌∙◌, subst, arith}
+use Rattle.std.proofs.Common.{◌≡◌, ℕ, true, ◌+◌, ◌<◌, ◌≤◌, ◌⊎◌, inl, inr, min, List, [], ◌∷◌, map, refl, sym, ap, ◌∙◌, subst, arith}
+use Rattle.std.specs.Prelude.{◌||◌}
 use Rattle.std.proofs.lemmas.Bool.{cases_order}
+use Rattle.std.proofs.lemmas.Bool.Decides.{Decides-or, Decides-and, Decides-not, Decides-eqb, Decides-ltb}
+use Rattle.beacon_types.specs.Equality.{same_data}
+use Rattle.beacon_types.proofs.Equality.{data_decides}
 use Rattle.beacon_types.specs.declared.checkpoint.Checkpoint.{Checkpoint}
 use Rattle.beacon_types.specs.declared.attestation_data.AttestationData.{AttestationData}
 use Rattle.beacon_types.specs.Slashable.{is_slashable_attestation_data}
@@ -211,9 +215,18 @@ third_of_conflict weights first second some other r set holds =
     holds i (record { a = a.by; b = b.by; a_made = a.made; b_made = b.made; voted_a = votes.0; voted_b = votes.1; slashable = slashable })) 0 weights in
     omega (arith, grown, shared)
 
--- votes for such links are slashable attestations, in one of both orders
-pub slashable_data : (a b : AttestationData) → IsSlashable (link_of a) (link_of b) → is_slashable_attestation_data a b ⊎ is_slashable_attestation_data b a
+slashable_by : (a b : AttestationData) → ((a ≡ b → ⊥) × (a.target.epoch ≡ b.target.epoch)) ⊎ ((a.source.epoch < b.source.epoch) × (b.target.epoch < a.target.epoch)) → is_slashable_attestation_data a b ≡ true
 unfolding is_slashable_attestation_data
-slashable_data a b (inl double) = inl (inl (λ same. double.1 (ap (λ (d : AttestationData). d.target) same), double.0))
-slashable_data a b (inr (inl around)) = inl (inr around)
-slashable_data a b (inr (inr around)) = inr (inr around)
+slashable_by a b =
+    (Decides-or _ _
+    (Decides-and _ _ (Decides-not (same_data a b) (data_decides a b)) (Decides-eqb a.target.epoch b.target.epoch))
+    (Decides-and _ _ (Decides-ltb a.source.epoch b.source.epoch) (Decides-ltb b.target.epoch a.target.epoch))).1
+
+either_slashable : (a b : AttestationData) → (is_slashable_attestation_data a b ≡ true) ⊎ (is_slashable_attestation_data b a ≡ true) → (is_slashable_attestation_data a b || is_slashable_attestation_data b a) ≡ true
+either_slashable a b = (Decides-or _ _ (λ e. e, λ e. e) (λ e. e, λ e. e)).1
+
+-- votes for such links are slashable attestations, in one of both orders
+pub slashable_data : (a b : AttestationData) → IsSlashable (link_of a) (link_of b) → (is_slashable_attestation_data a b || is_slashable_attestation_data b a) ≡ true
+slashable_data a b (inl double) = either_slashable a b (inl (slashable_by a b (inl (λ same. double.1 (ap (λ (d : AttestationData). d.target) same), double.0))))
+slashable_data a b (inr (inl around)) = either_slashable a b (inl (slashable_by a b (inr around)))
+slashable_data a b (inr (inr around)) = either_slashable a b (inr (slashable_by b a (inr around)))

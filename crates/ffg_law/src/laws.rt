@@ -2,7 +2,7 @@
 //!
 //! They do nothing when they run. A list of links has the latest first, and a set of validators is a list of indices.
 
-ghost use Rattle.std.specs.Prelude.{◌≡◌, ◌<◌, ◌⊎◌, min};
+ghost use Rattle.std.specs.Prelude.{◌≡◌, ◌<◌, ◌⊎◌, ◌||◌, IsTrue, min};
 ghost use Rattle.beacon_types.specs.Slashable.{is_slashable_attestation_data};
 ghost use Rattle.ffg_law.specs.Weights.{IsTwoThirds, IsThird, among, both};
 ghost use Rattle.ffg_law.specs.Links.{IsChain, IsFinalized, AreApart, Conflict, HaveTwoThirds, AThirdIsConvicted, IsSlashable, link_of, voted, links_of};
@@ -52,7 +52,7 @@ pub fn finals_conflict(
 /// Votes for two links that nobody may vote both for are slashable attestations, in one of both orders.
 pub fn votes_are_slashable(first: &AttestationData, second: &AttestationData)
     requires { IsSlashable (link_of first.now) (link_of second.now) }
-    ensures { is_slashable_attestation_data first.now second.now ⊎ is_slashable_attestation_data second.now first.now }
+    ensures { IsTrue (is_slashable_attestation_data first.now second.now || is_slashable_attestation_data second.now first.now) }
 {}
 
 /// Two sets of two thirds share at least a third.
