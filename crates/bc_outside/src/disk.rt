@@ -235,7 +235,7 @@ impl<W: Write> StdSink<W> {
         }
     }
 
-    /// The cause of the last fault, where the writer gave one.
+    /// The cause of the last fault, where there was one.
     pub fn last_cause(&self) -> Option<&Error> {
         self.cause.as_ref()
     }

@@ -8,7 +8,7 @@ ghost use Rattle.bc_outside.specs.inside.Tries.{Tries};
 use crate::Trouble;
 use crate::faults::FaultCounts;
 use std::fs;
-use std::io::{Error, Read, Write};
+use std::io::{Error, ErrorKind, Read, Write};
 use std::rt::Files;
 
 /// How often a call is made while it is interrupted.
@@ -68,7 +68,7 @@ pub fn read<R: Read>(
 }
 
 /// Writes once, from the front of a piece, and keeps the last cause why it didn't. A writer that takes nothing has
-/// failed, without a cause.
+/// failed, with that as its cause.
 pub fn write<W: Write>(
     writer: &mut W,
     piece: &[u8],
@@ -85,7 +85,7 @@ pub fn write<W: Write>(
         match writer.write(piece) {
             Ok(0) => {
                 faults.count_other();
-                *cause = None;
+                *cause = Some(Error::from(ErrorKind::WriteZero));
                 return Err(Trouble::Failed);
             }
             Ok(taken) => return Ok(taken),

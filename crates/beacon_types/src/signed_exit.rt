@@ -8,7 +8,8 @@ use crate::voluntary_exit::VoluntaryExit;
 use bc_words::NoMemory;
 use hash_tree::{Leaf, Root};
 use ssz_codec::{
-    Field, FixedSsz, ListValue, Ssz, SszFault, Writer, read_container, root_of_container, write_container,
+    Field, FixedSsz, ListValue, Ssz, SszFault, Writer, read_container, root_of_container,
+    write_container,
 };
 use std::alloc::Global;
 

@@ -5,7 +5,7 @@ use Rattle.std.specs.List.{list_any}
 use Rattle.bc_words.specs.Outcome.{Outcome}
 use Rattle.beacon_types.specs.declared.pending_attestation.PendingAttestation.{PendingAttestation}
 use Rattle.spec_state.specs.declared.plain.PlainState.{PlainState}
-use Rattle.spec_state.specs.Genesis.{same_root}
+use Rattle.beacon_types.specs.Equality.{same_root}
 use Rattle.spec_state.specs.Accessors.{get_current_epoch, get_block_root, get_block_root_at_slot, indices_from, get_attesting_indices, get_total_balance}
 use Rattle.spec_epochs.specs.Each.{is_among}
 

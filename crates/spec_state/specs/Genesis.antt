@@ -15,7 +15,7 @@ use Rattle.spec_state.specs.declared.fault.ValidatorFault.{ValidatorFault}
 use Rattle.spec_state.specs.declared.fault.ValidatorFault.TheVariants as validators
 use Rattle.spec_state.specs.declared.fault.GenesisFault.{GenesisFault}
 use Rattle.spec_state.specs.declared.fault.GenesisFault.TheVariants as parts
-use Rattle.beacon_types.specs.Equality.{same_root}
+pub use Rattle.beacon_types.specs.Equality.{same_root}
 use Rattle.spec_state.specs.Constants.{far_future_epoch, max_genesis_len, max_proposer_slashings, max_attester_slashings, max_attestations, max_deposits, max_voluntary_exits}
 use Rattle.spec_state.specs.States.{state_codec}
 
