@@ -1,9 +1,9 @@
 -- The equality that a condition computes is equality.
-use Rattle.std.proofs.Common.{◌≡◌, ℕ, Bool, true, List, nat_eq, refl, sym, ap, ◌∙◌}
-use Rattle.std.specs.Prelude.{◌==◌, ◌&&◌}
+use Rattle.std.proofs.Common.{◌≡◌, ℕ, List, ap, ◌∙◌}
+use Rattle.std.specs.Prelude.{◌==◌}
 use Rattle.std.specs.Bool.{Decides}
 use Rattle.std.specs.Cmp.{unsigned_Decides}
-use Rattle.std.specs.Cmp.Lexicographic.{pointwise, pointwise_decides}
+use Rattle.std.specs.Cmp.Lexicographic.{pointwise_decides}
 use Rattle.std.proofs.lemmas.Bool.Decides.{Decides-and, Decides-like}
 use Rattle.beacon_types.specs.Equality.{same_root, same_checkpoint, same_data}
 use Rattle.beacon_types.specs.declared.checkpoint.Checkpoint.{Checkpoint}

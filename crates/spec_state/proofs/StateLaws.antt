@@ -1,5 +1,5 @@
 -- The state of a preset keeps the law of codecs. Proofs, not definitions.
-use Rattle.std.proofs.Common.{◌≡◌, refl, arith}
+use Rattle.std.proofs.Common.{refl, arith}
 use Rattle.ssz_codec.specs.Basic.{uint64, bytes32}
 use Rattle.ssz_codec.specs.Lawful.{IsLawful}
 use Rattle.ssz_codec.specs.laws.Basic.{uint64_lawful, bytes32_lawful, bitvector_lawful}
