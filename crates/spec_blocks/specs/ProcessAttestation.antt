@@ -2,19 +2,14 @@
 use Rattle.std.specs.Prelude.{ℕ, Bool, not, ◌&&◌, ◌||◌, length, leb, nat_lt, ◌==◌, if◌then◌else◌}
 use Rattle.bc_words.specs.Outcome.{Outcome, done, ◌>>=◌, checked_add, checked_sub, checked_push}
 use Rattle.bc_words.specs.declared.refusal.Refusal.TheVariants.{AtTargetEpoch, AtSlotEpoch, AtEarly, AtLate, AtIndex, AtBits, AtSource, AtEmpty}
-use Rattle.beacon_types.specs.declared.checkpoint.Checkpoint.{Checkpoint}
+pub use Rattle.beacon_types.specs.Equality.{same_checkpoint}
 use Rattle.beacon_types.specs.declared.pending_attestation.PendingAttestation.{PendingAttestation}
 use Rattle.beacon_body.specs.declared.attestation.Attestation.{Attestation}
 use Rattle.spec_state.specs.declared.plain.PlainState.{PlainState}
 use Rattle.spec_state.specs.States.{attestations_limit}
 use Rattle.spec_state.specs.Misc.{compute_epoch_at_slot}
 use Rattle.spec_state.specs.Accessors.{get_current_epoch, get_previous_epoch, get_committee_count_per_slot, get_beacon_committee, get_attesting_indices}
-use Rattle.spec_state.specs.Genesis.{same_root}
 use Rattle.spec_blocks.specs.Checks.{check, ◌>>◌}
-
--- the two checkpoints are equal
-abbrev pub same_checkpoint : Checkpoint → Checkpoint → Bool
-same_checkpoint a b = (a.epoch == b.epoch) && same_root a.root b.root
 
 -- an attestation for the current epoch waits in its list, where its source is the current justified checkpoint
 unfoldable pub with_current_pending : PlainState → PendingAttestation → Outcome PlainState

@@ -5,7 +5,7 @@ use Rattle.beacon_types.specs.declared.eth1_data.Eth1Data.{Eth1Data}
 use Rattle.beacon_body.specs.declared.body.BeaconBlockBody.{BeaconBlockBody}
 use Rattle.spec_state.specs.declared.plain.PlainState.{PlainState}
 use Rattle.spec_state.specs.States.{votes_limit}
-use Rattle.spec_state.specs.Genesis.{same_root}
+use Rattle.beacon_types.specs.Equality.{same_root}
 
 -- the two are equal
 abbrev pub same_eth1_data : Eth1Data → Eth1Data → Bool

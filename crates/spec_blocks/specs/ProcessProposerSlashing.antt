@@ -8,7 +8,7 @@ use Rattle.beacon_body.specs.declared.proposer_slashing.ProposerSlashing.{Propos
 use Rattle.spec_state.specs.declared.plain.PlainState.{PlainState}
 use Rattle.spec_state.specs.Predicates.{is_slashable_validator}
 use Rattle.spec_state.specs.Accessors.{get_current_epoch}
-use Rattle.spec_state.specs.Genesis.{same_root}
+use Rattle.beacon_types.specs.Equality.{same_root}
 use Rattle.spec_blocks.specs.Checks.{check, item_at, ◌>>◌}
 use Rattle.spec_blocks.specs.SlashValidator.{slash_validator}
 
