@@ -94,19 +94,19 @@ fn limited_copies(rt: HostRuntime) -> Result<(), Fail> {
     Ok(())
 }
 
-/// The bits of ten pushes.
-fn ten_bits(alloc: Global) -> Result<BitList, NoMemory> {
+/// The bits 1, 0 and 1.
+fn three_bits(alloc: Global) -> Result<BitList, NoMemory> {
     let mut bits = BitList::new(alloc);
-    for i in 0..10 {
-        bits.push(i == 9)?;
-    }
+    bits.push(true)?;
+    bits.push(false)?;
+    bits.push(true)?;
     Ok(bits)
 }
 
 #[test]
 fn bits_one_by_one(rt: HostRuntime) -> Result<(), Fail> {
-    let bits = ten_bits(rt.alloc())?;
+    let bits = three_bits(rt.alloc())?;
     let bytes = bits.write(rt.alloc())?;
-    assert_eq!(rt; bytes.as_slice(), b"\x00\x06".as_slice());
+    assert_eq!(rt; bytes.as_slice(), b"\x0d".as_slice());
     Ok(())
 }
