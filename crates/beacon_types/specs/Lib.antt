@@ -3,3 +3,4 @@ pub mod Equality
 pub mod Limits
 pub mod Slashable
 pub mod laws
+pub mod inside

@@ -17,6 +17,7 @@ mod signed_exit;
 mod signed_header;
 mod slashable;
 mod validator;
+mod validator_roots;
 mod voluntary_exit;
 
 pub use attestation_data::AttestationData;

@@ -4,6 +4,7 @@ ghost use Rattle.std.specs.Prelude.{◌≡◌, refl};
 ghost use Rattle.beacon_types.specs.Containers.{validator_codec};
 ghost use Rattle.beacon_types.specs.laws.Containers.{validator_lawful, validator_fixed};
 
+use crate::validator_roots::write_validator_roots;
 use bc_words::NoMemory;
 use hash_tree::{Leaf, Root};
 use ssz_codec::{
@@ -47,6 +48,10 @@ impl Leaf for Validator {
             exit_epoch,
             withdrawable_epoch
         )
+    }
+
+    fn write_roots(validators: &[Validator], out: &mut [Root]) {
+        write_validator_roots(validators, out);
     }
 }
 

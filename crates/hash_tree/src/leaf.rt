@@ -2,7 +2,7 @@
 //!
 //! Basic values have theirs here; the containers above implement `Leaf` too, and `rows` and shared trees take the roots.
 
-ghost use Rattle.std.specs.Prelude.{◌≡◌, ℕ, List, [], ◌∷◌};
+ghost use Rattle.std.specs.Prelude.{◌≡◌, ℕ, List, [], ◌∷◌, length, map};
 ghost use Rattle.hash_tree.specs.Merkle.{padded_chunk, u64_bytes, bool_bytes, bits_number, byte_chunks, chunk_count, bit_chunk_count, merkleize};
 
 use crate::Root;
@@ -17,6 +17,17 @@ pub trait Leaf {
     /// The root of the value. It takes no memory.
     fn root(&self) -> Root
         ensures { result ≡ root_of self.now };
+
+    /// Writes the root of each of the values. A type whose values have several chunks can hash those of many values side by
+    /// side. It takes no memory.
+    fn write_roots(values: &[Self], out: &mut [Root])
+        requires { length out.old ≡ length values.now }
+        ensures { out.new ≡ map root_of values.now }
+    {
+        'each: for i in 0..values.len() {
+            out[i] = values[i].root();
+        }
+    }
 }
 
 impl Leaf for u64 {

@@ -31,6 +31,10 @@ impl<'a, T: Leaf> Row for LeafRow<'a, T> {
         let (front, back) = self.items.split_at(at);
         (LeafRow { items: front }, LeafRow { items: back })
     }
+
+    fn write_to(&self, out: &mut [Root]) {
+        T::write_roots(self.items, out);
+    }
 }
 
 /// Bytes, 32 to a chunk.

@@ -29,14 +29,16 @@ pub trait Row: Copy {
         requires { at < length (chunks self.now) }
         ensures front { chunks result.0 ≡ take at (chunks self.now) }
         ensures back { chunks result.1 ≡ drop at (chunks self.now) };
-}
 
-/// A chunk of a row.
-fn nth<R: Row>(row: &R, index: usize) -> Root
-    requires { index < length (R.chunks row.now) }
-    ensures { result ≡ get_or (R.chunks row.now) index [] }
-{
-    row.cut(index).1.first()
+    /// Writes all chunks.
+    fn write_to(&self, out: &mut [Root])
+        requires { length out.old ≡ length (chunks self.now) }
+        ensures { out.new ≡ chunks self.now }
+    {
+        'chunks: for i in 0..out.len() {
+            out[i] = self.cut(i).1.first();
+        }
+    }
 }
 
 /// The depth of a tree whose layers are hashed whole, where each of its leaves is a chunk.
@@ -48,9 +50,7 @@ fn whole_root<R: Row>(row: &R) -> Root
     ensures { result ≡ merkle_root 6 (R.chunks row.now) }
 {
     let mut leaves = [[0; 32]; 64];
-    'leaves: for i in 0..64 {
-        leaves[i] = nth(row, i);
-    }
+    row.write_to(&mut leaves);
     let mut fifth = [[0; 32]; 32];
     hash_layer(&leaves, &mut fifth);
     let mut fourth = [[0; 32]; 16];

@@ -1,0 +1,65 @@
+-- Layers over blocks of equal length: a layer of blocks is that of each block.
+use Rattle.std.proofs.Common.{◌≡◌, ◌∙◌, ℕ, zero, suc, ◌*◌, List, [], ◌∷◌, ◌++◌, length, map, refl, ap, ap₂, arith}
+use Rattle.std.specs.List.{flat_map}
+use Rattle.pair_lanes.specs.Pairs.{parents}
+use Rattle.sha2.specs.Sha256.{sha256}
+use Rattle.hash_tree.specs.Merkle.{hash, merkle_root, merkleize, depth_of, depth_from, chunks_of}
+use Rattle.beacon_types.specs.declared.validator.Validator.{Validator}
+use Rattle.beacon_types.specs.Containers.{validator_codec}
+use Rattle.beacon_types.specs.inside.ValidatorChunks.{key_chunks, root_of_chunks, key_root, chunks_below}
+
+parents_joined : (k : ℕ) (xs ys : List (List ℕ)) → length xs ≡ 2 * k → parents (xs ++ ys) ≡ parents xs ++ parents ys
+unfolding parents
+parents_joined zero [] ys even = refl
+parents_joined zero (x ∷ xs) ys even = absurd (omega arith)
+parents_joined (suc k) [] ys even = absurd (omega arith)
+parents_joined (suc k) (x ∷ []) ys even = absurd (omega arith)
+parents_joined (suc k) (x ∷ (y ∷ xs)) ys even = ap (λ (rest : List (List ℕ)). sha256 (x ++ y) ∷ rest) (parents_joined k xs ys (omega arith))
+
+count_parents : (k : ℕ) (xs : List (List ℕ)) → length xs ≡ 2 * k → length (parents xs) ≡ k
+unfolding parents
+count_parents zero [] even = refl
+count_parents zero (x ∷ xs) even = absurd (omega arith)
+count_parents (suc k) [] even = absurd (omega arith)
+count_parents (suc k) (x ∷ []) even = absurd (omega arith)
+count_parents (suc k) (x ∷ (y ∷ xs)) even = ap suc (count_parents k xs (omega arith))
+
+parents_of_blocks : {V : Type 0} (k : ℕ) (block : V → List (List ℕ)) → ((v : V) → length (block v) ≡ 2 * k) → (vs : List V) → parents (flat_map block vs) ≡ flat_map (λ v. parents (block v)) vs
+unfolding parents
+parents_of_blocks k block even [] = refl
+parents_of_blocks k block even (v ∷ vs) = parents_joined k (block v) (flat_map block vs) (even v) ∙ ap (λ (rest : List (List ℕ)). parents (block v) ++ rest) (parents_of_blocks k block even vs)
+
+single_blocks : {V : Type 0} (block : V → List (List ℕ)) (root : V → List ℕ) → ((v : V) → block v ≡ root v ∷ []) → (vs : List V) → flat_map block vs ≡ map root vs
+single_blocks block root one [] = refl
+single_blocks block root one (v ∷ vs) = ap₂ (λ (xs ys : List (List ℕ)). xs ++ ys) (one v) (single_blocks block root one vs)
+
+two : (a b : List ℕ) → parents (a ∷ b ∷ []) ≡ merkle_root 1 (a ∷ b ∷ []) ∷ []
+unfolding parents merkle_root hash
+two a b = refl
+
+eight : (a b c d e f g h : List ℕ) → parents (parents (parents (a ∷ b ∷ c ∷ d ∷ e ∷ f ∷ g ∷ h ∷ []))) ≡ merkle_root 3 (a ∷ b ∷ c ∷ d ∷ e ∷ f ∷ g ∷ h ∷ []) ∷ []
+unfolding parents merkle_root hash
+eight a b c d e f g h = refl
+
+-- the parents of all keys' chunks are the roots over them
+pub keys_of : (vs : List Validator) → parents (flat_map key_chunks vs) ≡ map root_of_chunks vs
+unfolding key_chunks root_of_chunks chunks_of
+keys_of vs = parents_of_blocks 1 key_chunks (λ v. refl) vs ∙ single_blocks (λ v. parents (key_chunks v)) root_of_chunks (λ v. two _ _) vs
+
+one_root : (v : Validator) → parents (parents (parents (chunks_below v))) ≡ validator_codec.hash_tree_root v ∷ []
+unfolding chunks_below key_root merkleize depth_of depth_from
+one_root v = eight _ _ _ _ _ _ _ _
+
+-- three layers over all validators' chunks are the validators' roots
+pub roots_of : (vs : List Validator) → parents (parents (parents (flat_map chunks_below vs))) ≡ map validator_codec.hash_tree_root vs
+unfolding chunks_below
+roots_of vs =
+    ap (λ (xs : List (List ℕ)). parents (parents xs)) (parents_of_blocks 4 chunks_below (λ v. refl) vs)
+    ∙ (ap parents (parents_of_blocks 2 (λ v. parents (chunks_below v)) (λ v. count_parents 4 (chunks_below v) refl) vs)
+    ∙ (parents_of_blocks 1 (λ v. parents (parents (chunks_below v))) (λ v. count_parents 2 (parents (chunks_below v)) (count_parents 4 (chunks_below v) refl)) vs
+    ∙ single_blocks (λ v. parents (parents (parents (chunks_below v)))) validator_codec.hash_tree_root one_root vs))
+
+-- the root over the chunks of a key of 48 bytes is its root
+pub root_of_key : (v : Validator) → length v.pubkey ≡ 48 → root_of_chunks v ≡ key_root v
+unfolding root_of_chunks key_chunks key_root merkleize depth_of depth_from
+root_of_key v long = rw long refl

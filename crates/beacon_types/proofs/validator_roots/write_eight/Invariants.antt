@@ -1,0 +1,8 @@
+-- The chunks written so far are those below the validators.
+use Rattle.std.proofs.Common.{◌≡◌, ◌*◌, length, take}
+use Rattle.std.specs.List.{flat_map}
+use Rattle.beacon_types.specs.inside.ValidatorChunks.{chunks_below}
+use Rattle.beacon_types.proofs.validator_roots.write_eight.Given as goal
+
+abbrev pub invariant-chunks : goal.invariant-chunks
+invariant-chunks l = record { room : length l.chunks ≡ 64; so_far : take (8 * l.i) l.chunks ≡ flat_map chunks_below (take l.i l.validators) }

@@ -1,0 +1,16 @@
+-- All keys are written.
+use Rattle.std.proofs.Common.{◌≡◌, ◌∙◌, ◌*◌, take, sym, ap, map, arith}
+use Rattle.std.proofs.lemmas.List.{take_all}
+use Rattle.std.specs.List.{flat_map}
+use Rattle.pair_lanes.specs.Pairs.{parents}
+use Rattle.beacon_types.specs.inside.ValidatorChunks.{key_chunks, root_of_chunks, key_root}
+use Rattle.beacon_types.proofs.Lanes.{keys_of}
+use Rattle.beacon_types.proofs.validator_roots.write_keys.Goals as goal
+
+pub returns : goal.returns
+returns c =
+    let done : c.keys.i ≡ 8 = omega arith in
+    let all : take c.keys.i c.args.validators.now ≡ c.args.validators.now = take_all c.keys.i c.args.validators.now (omega (arith, c.requires.validators)) in
+    let chunks : c.keys.chunks ≡ flat_map key_chunks c.args.validators.now =
+    sym (take_all (2 * c.keys.i) c.keys.chunks (omega (arith, c.keys.invariant.room))) ∙ (c.keys.invariant.so_far ∙ ap (flat_map key_chunks) all) in
+    c.hash_layer.ensures ∙ (ap parents chunks ∙ (keys_of c.args.validators.now ∙ (ap (map root_of_chunks) (sym all) ∙ (c.keys.invariant.roots ∙ ap (map key_root) all))))

@@ -1,0 +1,93 @@
+//! The roots of many validators, eight side by side.
+//!
+//! Validators come from the registry of a state, whose root takes theirs. A validator has eight chunks below it, of which
+//! the key's is the root of two.
+
+ghost use Rattle.std.specs.Prelude.{◌≡◌, ◌<◌, length, map};
+ghost use Rattle.beacon_types.specs.Containers.{validator_codec};
+ghost use Rattle.beacon_types.specs.inside.ValidatorChunks.{key_chunks, root_of_chunks, key_root, chunks_below};
+
+use crate::validator::Validator;
+use hash_tree::{Leaf, Root, chunk_root};
+use pair_lanes::hash_layer;
+
+/// A key has 48 bytes.
+fn is_long(key: &[u8; 48])
+    ensures { length key.now ≡ 48 }
+{}
+
+/// Writes the two chunks of a validator's key.
+fn write_key(validator: &Validator, out: &mut [Root])
+    requires { length out.old ≡ 2 }
+    ensures chunks { out.new ≡ key_chunks validator.now }
+    ensures root { root_of_chunks validator.now ≡ key_root validator.now }
+{
+    let key = &validator.pubkey;
+    is_long(key);
+    out.copy_from_slice(&[chunk_root(&key[..32]), chunk_root(&key[32..])]);
+}
+
+/// Writes the roots of eight keys.
+fn write_keys(validators: &[Validator], out: &mut [Root])
+    requires validators { length validators.now ≡ 8 }
+    requires out { length out.old ≡ 8 }
+    ensures { out.new ≡ map key_root validators.now }
+{
+    let mut chunks = [[0; 32]; 16];
+    'keys: for i in 0..8 {
+        write_key(&validators[i], &mut chunks[2 * i..2 * i + 2]);
+    }
+    hash_layer(&chunks, out);
+}
+
+/// Writes the chunks below a validator, of which the first is the root of its key.
+#[tactic(auto, unfolding(crate::specs::inside::ValidatorChunks::chunks_below))]
+fn write_chunks(validator: &Validator, key: &Root, out: &mut [Root])
+    requires key { key.now ≡ key_root validator.now }
+    requires out { length out.old ≡ 8 }
+    ensures { out.new ≡ chunks_below validator.now }
+{
+    out.copy_from_slice(&[
+        *key,
+        validator.withdrawal_credentials,
+        validator.effective_balance.root(),
+        validator.slashed.root(),
+        validator.activation_eligibility_epoch.root(),
+        validator.activation_epoch.root(),
+        validator.exit_epoch.root(),
+        validator.withdrawable_epoch.root(),
+    ]);
+}
+
+/// Writes the roots of eight validators.
+fn write_eight(validators: &[Validator], out: &mut [Root])
+    requires validators { length validators.now ≡ 8 }
+    requires out { length out.old ≡ 8 }
+    ensures { out.new ≡ map validator_codec.hash_tree_root validators.now }
+{
+    let mut keys = [[0; 32]; 8];
+    write_keys(validators, &mut keys);
+    let mut chunks = [[0; 32]; 64];
+    'chunks: for i in 0..8 {
+        write_chunks(&validators[i], &keys[i], &mut chunks[8 * i..8 * i + 8]);
+    }
+    let mut fourths = [[0; 32]; 32];
+    hash_layer(&chunks, &mut fourths);
+    let mut halves = [[0; 32]; 16];
+    hash_layer(&fourths, &mut halves);
+    hash_layer(&halves, out);
+}
+
+/// Writes the root of each validator: eight at a time side by side, and the rest one by one. It takes no memory.
+pub fn write_validator_roots(validators: &[Validator], out: &mut [Root])
+    requires { length out.old ≡ length validators.now }
+    ensures { out.new ≡ map validator_codec.hash_tree_root validators.now }
+{
+    let whole = validators.len() / 8;
+    'eights: for i in 0..whole {
+        write_eight(&validators[8 * i..8 * i + 8], &mut out[8 * i..8 * i + 8]);
+    }
+    'rest: for i in 8 * whole..validators.len() {
+        out[i] = validators[i].root();
+    }
+}
