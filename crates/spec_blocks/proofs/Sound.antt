@@ -1,8 +1,7 @@
 -- What keeps a state sound: its pending attestations stay sound where the committees of their epochs stay.
-use Rattle.std.proofs.Common.{◌≡◌, ◌∙◌, ℕ, zero, suc, ◌+◌, ◌-◌, ◌*◌, ◌%◌, ◌<◌, ◌≤◌, Bool, false, Option, Some, List, [], ◌∷◌, ◌++◌, length, slice_get, slice_set, refl, sym, ap, ap₂, subst, if◌then◌else◌, arith}
+use Rattle.std.proofs.Common.{◌≡◌, ◌∙◌, ℕ, zero, suc, ◌+◌, ◌-◌, ◌*◌, ◌%◌, ◌<◌, ◌≤◌, Bool, false, Option, Some, None, List, [], ◌∷◌, ◌++◌, length, slice_get, slice_set, refl, sym, ap, ap₂, subst, if◌then◌else◌, arith}
 use Rattle.bc_preset.specs.declared.presets.Preset.{Preset}
 use Rattle.std.specs.List.{AllByRecursion}
-use Rattle.std.proofs.Math.Option.{some-injective}
 use Rattle.beacon_types.specs.declared.checkpoint.Checkpoint.{Checkpoint}
 use Rattle.beacon_types.specs.declared.validator.Validator.{Validator}
 use Rattle.beacon_types.specs.declared.pending_attestation.PendingAttestation.{PendingAttestation}
@@ -99,11 +98,15 @@ sound_stays justified s t keeps sound = record {
 pub still_sound : (s t : PlainState) → Keeps s t → IsSound s → IsSound t
 still_sound s t keeps sound = subst (λ (e : ℕ). IsSoundTo e t) (sym (same_previous s t keeps.epoch)) (sound_stays (get_previous_epoch s) s t keeps sound)
 
+held : Validator → Option Validator → Validator
+held v None = v
+held v (Some w) = w
+
 -- the list of those that pass a test, where one changes and passes as before
 pub indices_of_changed : (test : Validator → Bool) (first index : ℕ) (vs : List Validator) (old new : Validator) → slice_get vs index ≡ Some old → test new ≡ test old → indices_from test first (slice_set vs index new) ≡ indices_from test first vs
 unfolding indices_from
 indices_of_changed test first zero (v ∷ vs) old new is same =
-    ap (λ (passes : Bool). if passes then first ∷ indices_from test (suc first) vs else indices_from test (suc first) vs) (same ∙ ap test (sym (some-injective v old is)))
+    ap (λ (passes : Bool). if passes then first ∷ indices_from test (suc first) vs else indices_from test (suc first) vs) (same ∙ ap test (sym (ap (held v) is)))
 indices_of_changed test first (suc index) (v ∷ vs) old new is same =
     ap (λ (list : List ℕ). if test v then first ∷ list else list) (indices_of_changed test (suc first) index vs old new is same)
 indices_of_changed test first index [] old new is same = refl
