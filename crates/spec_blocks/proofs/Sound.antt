@@ -98,7 +98,7 @@ sound_stays justified s t keeps sound = record {
 pub still_sound : (s t : PlainState) → Keeps s t → IsSound s → IsSound t
 still_sound s t keeps sound = subst (λ (e : ℕ). IsSoundTo e t) (sym (same_previous s t keeps.epoch)) (sound_stays (get_previous_epoch s) s t keeps sound)
 
-held : Validator → Option Validator → Validator
+abbrev held : Validator → Option Validator → Validator
 held v None = v
 held v (Some w) = w
 
