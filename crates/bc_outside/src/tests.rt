@@ -8,7 +8,7 @@ use crate::{
     DiskShelf, MemoryFile, MemoryShelf, MemorySink, Shelf, StdSink, Trouble, read_at_most,
     write_all,
 };
-use made_up::{OneFile, ThreeBytes};
+use made_up::{OneFile, TakesNothing, ThreeBytes};
 use std::alloc::Global;
 use std::process::Abort;
 use std::test::Fail;
@@ -129,4 +129,15 @@ fn lines_that_were_taken(rt: HostRuntime) -> Result<(), Fail> {
     assert!(rt; write_all(&mut sink, b"three\n".as_slice()).is_err());
     assert_eq!(rt; sink.lines(), 2);
     Ok(())
+}
+
+#[test]
+fn nothing_is_taken(rt: HostRuntime) {
+    let mut sink = StdSink::new(rt.alloc(), TakesNothing);
+    assert!(rt; write_all(&mut sink, b"line\n".as_slice()).is_err());
+    let kind = match sink.last_cause() {
+        Some(cause) => cause.kind(),
+        None => io::ErrorKind::Other,
+    };
+    assert!(rt; kind == io::ErrorKind::WriteZero);
 }

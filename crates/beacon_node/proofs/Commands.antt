@@ -1,11 +1,11 @@
 -- The command words as the first step of a run.
-use Rattle.std.proofs.Common.{◌≡◌, ℕ, List, [], ◌∷◌, Option, Some, None, false, refl, sym, append-nil}
-use Rattle.bc_outside.specs.Told.{FileHanded, ShelfTold}
+use Rattle.std.proofs.Common.{◌≡◌, ℕ, List, [], Some, None, false, refl, sym, append-nil}
+use Rattle.bc_outside.specs.Told.{ShelfTold}
 use Rattle.spec_replay.specs.Run.{run_of, with_command, with_files}
 use Rattle.spec_replay.specs.Words.{ReplayFiles, replay_files_of, names_of}
 use Rattle.beacon_node.specs.declared.status.Status.{Status}
 use Rattle.beacon_node.specs.declared.status.Status.TheVariants as statuses
-use Rattle.beacon_node.specs.Answers.{Answers, Replayed, taken_of, paced_run_of}
+use Rattle.beacon_node.specs.Answers.{Replayed, taken_of, paced_run_of}
 use Rattle.beacon_node.proofs.Reaching.{reaches_none, no_lines}
 
 -- the words are a command

@@ -1,34 +1,35 @@
 -- The events of a record, one after the other.
-use Rattle.std.proofs.Common.{◌≡◌, ◌≢◌, ℕ, ◌+◌, ◌≤◌, Bool, true, false, List, [], ◌∷◌, ◌++◌, length, take, Option, Some, None, Result, Ok, Err, refl, sym, ap, subst, ◌∙◌, append_assoc, append-nil, arith}
+use Rattle.std.proofs.Common.{◌≡◌, ◌≢◌, ℕ, ◌+◌, ◌≤◌, true, false, List, [], ◌∷◌, ◌++◌, length, take, Some, None, Result, Ok, Err, refl, sym, ap, ◌∙◌, append_assoc, append-nil, arith}
 use Rattle.bc_outside.specs.Told.{ShelfTold}
-use Rattle.bc_outside.specs.Calls.{Takes, WritesAll}
+use Rattle.bc_outside.specs.Calls.{WritesAll}
 use Rattle.bc_outside.specs.declared.trouble.Trouble.{Trouble}
 use Rattle.bc_outside.specs.declared.trouble.Trouble.TheVariants as troubles
-use Rattle.bc_outside.proofs.Taking.{takes_none, takes_then}
+use Rattle.record_file.proofs.Supplying.{from_none, from_then}
 use Rattle.bc_words.specs.Outcome.{Outcome}
 use Rattle.bc_words.specs.declared.refusal.Refusal.{Refusal}
 use Rattle.record_file.specs.Record as record_file
 use Rattle.record_file.specs.Record.{Events, with_event, fault_event}
-use Rattle.record_file.specs.Frames.{Reading, Nexts, CanFollow, coming}
+use Rattle.record_file.specs.Frames.{CanFollow}
+use Rattle.record_file.specs.Sources.{Source, NextOf}
 use Rattle.record_file.specs.declared.event.Event.{Event}
 use Rattle.record_file.specs.declared.fault.FrameStop.{FrameStop}
 use Rattle.record_file.specs.declared.fault.FrameStop.TheVariants as stops
 use Rattle.spec_replay.specs.Lines.{tick_line}
 use Rattle.spec_replay.specs.Ticks.{Store, store_after, handle_tick}
-use Rattle.spec_replay.specs.Run.{Run, End, done, no_command, over, after_lines, replay_events, record_end, with_events}
+use Rattle.spec_replay.specs.Run.{End, done, no_command, over, after_lines, replay_events, record_end, with_events}
 use Rattle.beacon_node.specs.declared.status.Status.{Status}
 use Rattle.beacon_node.specs.declared.status.Status.TheVariants as statuses
-use Rattle.beacon_node.specs.Answers.{breaks_off, lags, end_of, WritesLines}
+use Rattle.beacon_node.specs.Answers.{breaks_off, lags}
 use Rattle.beacon_node.specs.inside.Statuses.{no_frame, unwritten}
-use Rattle.beacon_node.specs.inside.Progress.{rest_of, Progress, Ended, EventsOver}
+use Rattle.beacon_node.specs.inside.Progress.{rest_of, Progress, EventsOver}
 use Rattle.beacon_node.specs.inside.Stores.{Handles, told_outcome}
 use Rattle.beacon_node.proofs.Reaching.{reaches_none, reaches_front, no_lines, lines_behind, lines_front}
 
 -- at the beginning nothing was done
-pub no_progress : (store : Store) (place : Reading) (told : ShelfTold) (written : List ℕ) → Progress store place told written store place told written
+pub no_progress : (store : Store) (place : Source) (told : ShelfTold) (written : List ℕ) → Progress store place told written store place told written
 no_progress store place told written = record {
   bytes = [];
-  taken = takes_none place.file told;
+  taken = from_none place.file told;
   file = refl;
   lines = [];
   wrote = sym (append-nil written);
@@ -44,24 +45,24 @@ no_more_lines : (number : ℕ) (store : Store) (rest : Events) → rest.events �
 unfolding replay_events
 no_more_lines number store rest e = rw e refl
 
--- the record is at its end
-pub over_done : (store : Store) (place place_then : Reading) (told told_then : ShelfTold) (written : List ℕ) → Nexts (Ok None) place place_then told told_then → EventsOver statuses.Done store place told told_then written written
+-- the events are at their end
+pub over_done : (store : Store) (place place_then : Source) (told told_then : ShelfTold) (written : List ℕ) → NextOf (Ok None) place place_then told told_then → EventsOver statuses.Done store place told told_then written written
 over_done store place place_then told told_then written h =
-    let ends : (behind : List ℕ) → CanFollow true behind → rest_of store place (h.bytes ++ behind) ≡ over done =
-    λ behind can. ap (with_events (place.events + 1) store) (h.gives.1 behind ∙ ap (coming place_then) (can refl) ∙ h.gives.2) ∙ none_left (place.events + 1) store record_file.done in
+    let ends : (behind : List ℕ) → CanFollow h.met behind → rest_of store place (h.bytes ++ behind) ≡ over done =
+    λ behind can. ap (with_events (place.events + 1) store) (h.supplies behind can) ∙ none_left (place.events + 1) store record_file.done in
     record {
       bytes = h.bytes;
-      met = true;
-      taken = rw h.gives.0 at h.taken;
+      met = h.met;
+      taken = h.taken;
       ended = λ behind can. rw (ends behind can) (record { ends = λ _. refl; lines = no_lines false [] written (reaches_none false) });
       pace = rw (sym (append-nil h.bytes), ends [] (λ _. refl)) (no_lines false [] written (reaches_none false));
     }
 
 -- a frame could not be read
-pub over_stop : (stop : FrameStop) (store : Store) (place place_then : Reading) (told told_then : ShelfTold) (written : List ℕ) → Nexts (Err stop) place place_then told told_then → EventsOver (no_frame place.events stop) store place told told_then written written
+pub over_stop : (stop : FrameStop) (store : Store) (place place_then : Source) (told told_then : ShelfTold) (written : List ℕ) → NextOf (Err stop) place place_then told told_then → EventsOver (no_frame place.events stop) store place told told_then written written
 over_stop (stops.Fault reason) store place place_then told told_then written h =
     let ends : (behind : List ℕ) → CanFollow h.met behind → rest_of store place (h.bytes ++ behind) ≡ over (record_end 0 (record_file.fault (fault_event place.events reason) reason)) =
-    λ behind can. ap (with_events (place.events + 1) store) (h.gives behind can) ∙ none_left (place.events + 1) store (record_file.fault (fault_event place.events reason) reason) in
+    λ behind can. ap (with_events (place.events + 1) store) (h.supplies behind can) ∙ none_left (place.events + 1) store (record_file.fault (fault_event place.events reason) reason) in
     record {
       bytes = h.bytes;
       met = h.met;
@@ -70,18 +71,18 @@ over_stop (stops.Fault reason) store place place_then told told_then written h =
       pace = rw (sym (append-nil h.bytes), ends [] (λ _. refl)) (no_lines false [] written (reaches_none false));
     }
 over_stop stops.ReadFault store place place_then told told_then written h =
-    let none : (rest_of store place h.bytes).lines ≡ [] = no_more_lines (place.events + 1) store (coming place h.bytes) (rw (sym (append-nil h.bytes), h.gives.1 []) h.gives.2) in
+    let none : (rest_of store place h.bytes).lines ≡ [] = no_more_lines (place.events + 1) store (place.coming h.bytes) (rw (sym (append-nil h.bytes), h.supplies.1 []) h.supplies.2) in
     record {
       bytes = h.bytes;
       met = false;
-      taken = rw h.gives.0 at h.taken;
+      taken = rw h.supplies.0 at h.taken;
       ended = λ behind can. record { ends = λ never. cc; lines = no_lines true _ written (reaches_front 0 _ (omega arith)) };
       pace = rw none (no_lines false [] written (reaches_none false));
     }
 over_stop stops.NoMemory store place place_then told told_then written h = record {
   bytes = h.bytes;
   met = false;
-  taken = rw h.gives.0 at h.taken;
+  taken = rw h.supplies.0 at h.taken;
   ended = λ behind can. record { ends = λ never. cc; lines = no_lines true _ written (reaches_front 0 _ (omega arith)) };
   pace = no_lines true _ written (reaches_front 0 _ (omega arith));
 }
@@ -99,17 +100,17 @@ event_run number old new event rest answer h =
     let k = handled answer old new (handle_tick old event.payload) h in
     rw (k.0, ← k.1) refl
 
-module _ {U : Type 0} (event : Event) (place place_then : Reading) (old new : Store) (answer : Result U Refusal) (told told_then : ShelfTold)
-    (next : Nexts (Ok (Some event)) place place_then told told_then) (counted : place_then.events ≡ place.events + 1) (handles : Handles answer old new (handle_tick old event.payload)) where
+module _ {U : Type 0} (event : Event) (place place_then : Source) (old new : Store) (answer : Result U Refusal) (told told_then : ShelfTold)
+    (next : NextOf (Ok (Some event)) place place_then told told_then) (counted : place_then.events ≡ place.events + 1) (handles : Handles answer old new (handle_tick old event.payload)) where
   comes_behind : (behind : List ℕ) → rest_of old place (next.bytes ++ behind) ≡ after_lines (tick_line place_then.events (told_outcome answer new) new) (rest_of new place_then behind)
-  comes_behind behind = ap (with_events (place.events + 1) old) (next.gives.1 behind) ∙ rw (← counted) (event_run place_then.events old new event (coming place_then behind) answer handles)
+  comes_behind behind = ap (with_events (place.events + 1) old) (next.supplies.1 behind) ∙ rw (← counted) (event_run place_then.events old new event (place_then.coming behind) answer handles)
 
   -- the line was written
   pub line_progress : (written written_then : List ℕ) → place_then.file ≡ place.file → WritesAll {V = Unit {0}} (tick_line place_then.events (told_outcome answer new) new) (Ok tt) (record { taken = written; faults = 0; reliable = true }) (record { taken = written_then; faults = 0; reliable = true })
       → Progress old place told written new place_then told_then written_then
   line_progress written written_then file wrote = record {
     bytes = next.bytes;
-    taken = rw next.gives.0 at next.taken;
+    taken = rw next.supplies.0 at next.taken;
     file = file;
     lines = tick_line place_then.events (told_outcome answer new) new;
     wrote = wrote;
@@ -122,7 +123,7 @@ module _ {U : Type 0} (event : Event) (place place_then : Reading) (old new : St
   front_over status n written written_then off late within wrote = record {
     bytes = next.bytes;
     met = false;
-    taken = rw next.gives.0 at next.taken;
+    taken = rw next.supplies.0 at next.taken;
     ended = λ behind can. record {
       ends = λ never. absurd (let no : true ≡ false = sym off ∙ never in cc);
       lines = rw (off, comes_behind behind) (lines_front (tick_line place_then.events (told_outcome answer new) new) _ n within wrote);
@@ -137,10 +138,10 @@ module _ {U : Type 0} (event : Event) (place place_then : Reading) (old new : St
   line_over troubles.NoMemory written written_then wrote = front_over statuses.NoMemory wrote.0 written written_then refl refl wrote.1 wrote.2
 
 -- one step more
-pub progress_then : {store mid next : Store} {place place_mid place_next : Reading} {s t u : ShelfTold} {w x y : List ℕ} → Progress store place s w mid place_mid t x → Progress mid place_mid t x next place_next u y → Progress store place s w next place_next u y
+pub progress_then : {store mid next : Store} {place place_mid place_next : Source} {s t u : ShelfTold} {w x y : List ℕ} → Progress store place s w mid place_mid t x → Progress mid place_mid t x next place_next u y → Progress store place s w next place_next u y
 progress_then {store} {mid} {next} {place} {place_mid} {place_next} {s} {t} {u} {w} {x} {y} h k = record {
   bytes = h.bytes ++ k.bytes;
-  taken = takes_then h.taken (rw h.file at k.taken);
+  taken = from_then place.file h.bytes k.bytes false s t u h.taken (rw h.file at k.taken);
   file = k.file ∙ h.file;
   lines = h.lines ++ k.lines;
   wrote = k.wrote ∙ ap (λ bs. bs ++ k.lines) h.wrote ∙ append_assoc w h.lines k.lines;
@@ -149,11 +150,11 @@ progress_then {store} {mid} {next} {place} {place_mid} {place_next} {s} {t} {u} 
 }
 
 -- the run is over behind some events
-pub over_then : {status : Status} {store mid : Store} {place place_mid : Reading} {s t u : ShelfTold} {w x y : List ℕ} → Progress store place s w mid place_mid t x → EventsOver status mid place_mid t u x y → EventsOver status store place s u w y
+pub over_then : {status : Status} {store mid : Store} {place place_mid : Source} {s t u : ShelfTold} {w x y : List ℕ} → Progress store place s w mid place_mid t x → EventsOver status mid place_mid t u x y → EventsOver status store place s u w y
 over_then {status} {store} {mid} {place} {place_mid} {s} {t} {u} {w} {x} {y} h k = record {
   bytes = h.bytes ++ k.bytes;
   met = k.met;
-  taken = takes_then h.taken (rw h.file at k.taken);
+  taken = from_then place.file h.bytes k.bytes k.met s t u h.taken (rw h.file at k.taken);
   ended = λ behind can.
       let is = ap (rest_of store place) (append_assoc h.bytes k.bytes behind) ∙ h.comes (k.bytes ++ behind) in
       let e = k.ended behind can in
@@ -177,7 +178,7 @@ never_no_command number store [] record_file.done e = cc
 never_no_command number store [] (record_file.fault event reason) e = cc
 never_no_command number store (event ∷ events) end e = never_no_command (number + 1) (store_after store (handle_tick store event.payload)) events end e
 
-pub over_command : (status : Status) (store : Store) (place : Reading) (told told_then : ShelfTold) (written written_then : List ℕ) → EventsOver status store place told told_then written written_then → status ≢ statuses.Words
+pub over_command : (status : Status) (store : Store) (place : Source) (told told_then : ShelfTold) (written written_then : List ℕ) → EventsOver status store place told told_then written written_then → status ≢ statuses.Words
 over_command status store place told told_then written written_then h = λ is.
     let e = (h.ended [] (λ _. refl)).ends (rw is refl) in
-    never_no_command (place.events + 1) store (coming place (h.bytes ++ [])).events (coming place (h.bytes ++ [])).end (rw is at e)
+    never_no_command (place.events + 1) store (place.coming (h.bytes ++ [])).events (place.coming (h.bytes ++ [])).end (rw is at e)

@@ -1,6 +1,6 @@
 -- The configuration's file, the genesis file and the record as steps of a run.
-use Rattle.std.proofs.Common.{◌≡◌, ℕ, ◌≤◌, false, List, [], ◌∷◌, ◌++◌, length, take, Option, Some, None, Result, Ok, Err, refl, sym, ap, subst, ◌∙◌, arith, append-nil}
-use Rattle.bc_outside.specs.Told.{FileHanded, ShelfTold, Agrees}
+use Rattle.std.proofs.Common.{◌≡◌, ℕ, false, List, [], ◌∷◌, ◌++◌, take, Ok, Err, refl, sym, ap, ◌∙◌, arith, append-nil}
+use Rattle.bc_outside.specs.Told.{ShelfTold}
 use Rattle.bc_outside.specs.Calls.{Opened}
 use Rattle.bc_outside.specs.declared.trouble.Trouble.{Trouble}
 use Rattle.bc_outside.proofs.Keeping.{agreed_front, agreed_back}
@@ -9,16 +9,17 @@ use Rattle.bc_preset.specs.declared.configuration.ConfigValues.{ConfigValues}
 use Rattle.bc_preset.specs.declared.faults.ConfigFault.{ConfigFault}
 use Rattle.record_file.specs.Record.{events_of}
 use Rattle.record_file.specs.Frames.{unread_file, events_at}
+use Rattle.record_file.specs.Sources.{record_source}
 use Rattle.spec_state.specs.Genesis.{genesis_of, header_root_of}
 use Rattle.spec_replay.specs.Ticks.{Store, store_at}
-use Rattle.spec_replay.specs.Run.{Run, after_file, with_files, with_config, with_genesis, with_state, with_record, with_events}
+use Rattle.spec_replay.specs.Run.{with_files, with_config, with_genesis, with_state, with_record, with_events}
 use Rattle.spec_replay.specs.Words.{ReplayFiles}
 use Rattle.beacon_node.specs.declared.status.Status.{Status}
 use Rattle.beacon_node.specs.declared.status.Status.TheVariants as statuses
 use Rattle.beacon_node.specs.declared.genesis.Genesis.{Genesis}
 use Rattle.beacon_node.specs.declared.genesis.GenesisStop.{GenesisStop}
 use Rattle.beacon_node.specs.declared.genesis.GenesisStop.TheVariants as stops
-use Rattle.beacon_node.specs.Answers.{Answers, Replayed, breaks_off, taken_of}
+use Rattle.beacon_node.specs.Answers.{Replayed, breaks_off, taken_of}
 use Rattle.beacon_node.specs.inside.Statuses.{unread}
 use Rattle.beacon_node.specs.inside.GenesisAnswers.{GivesGenesis, no_genesis}
 use Rattle.beacon_node.specs.inside.Reading.{ReadOf, Unread}
@@ -29,7 +30,7 @@ use Rattle.beacon_node.proofs.Steps.{last_taken, held_as, held_front, taken_none
 use Rattle.beacon_node.proofs.Fronts.{config_of-front, genesis_of-front, files-with_record, files-with_genesis, files-with_files, no_record_lines, no_genesis_lines, no_files_lines}
 
 -- The record was opened, and the rest are its events.
-pub record_over : (name : List ℕ) (file : ℕ) (store : Store) (status : Status) (s t u : ShelfTold) (w x : List ℕ) → Opened name file s t → EventsOver status store (unread_file file) t u w x
+pub record_over : (name : List ℕ) (file : ℕ) (store : Store) (status : Status) (s t u : ShelfTold) (w x : List ℕ) → Opened name file s t → EventsOver status store (record_source (unread_file file)) t u w x
     → Replayed (λ contents. with_record store (contents name)) (λ contents opened. with_record store (taken_of 0 opened)) (name ∷ []) status s u w x
 unfolding with_record events_at taken_of
 record_over name file store status s t u w x o h =

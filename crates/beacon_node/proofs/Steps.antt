@@ -1,11 +1,11 @@
 -- One file of a run after the other: what became of the run so far, and what becomes of the rest.
-use Rattle.std.proofs.Common.{◌≡◌, ◌⊎◌, ℕ, zero, suc, ◌+◌, ◌≤◌, ◌<◌, Bool, true, false, List, [], ◌∷◌, ◌++◌, length, take, drop, Option, Some, None, Result, Ok, Err, refl, sym, ap, subst, ◌∙◌, append_assoc, append-nil, add-one, inl, inr, arith, length-append}
-use Rattle.std.proofs.lemmas.List.{take_all, take-append-le}
+use Rattle.std.proofs.Common.{◌≡◌, ◌⊎◌, ℕ, zero, suc, ◌+◌, ◌≤◌, Bool, true, false, List, [], ◌∷◌, ◌++◌, length, take, drop, Option, Some, None, Result, Ok, Err, refl, sym, ap, ◌∙◌, append_assoc, append-nil, add-one, inl, inr, arith}
+use Rattle.std.proofs.lemmas.List.{take_all}
 use Rattle.std.proofs.lemmas.Bool.{cases_lt}
 use Rattle.std.proofs.Math.Seq.{drop-length}
 use Rattle.std.proofs.lemmas.Grind.{common_steps}
-use Rattle.bc_outside.specs.Told.{FileHanded, ShelfTold, FileAgrees, Agrees, opened_file, more_of}
-use Rattle.bc_outside.specs.Calls.{Opened, Opens, Takes, ReadUpTo, ReadsUpTo}
+use Rattle.bc_outside.specs.Told.{FileHanded, ShelfTold, FileAgrees, Agrees, opened_file}
+use Rattle.bc_outside.specs.Calls.{Opened, Opens, Takes, ReadsUpTo}
 use Rattle.bc_outside.specs.declared.trouble.Trouble.{Trouble}
 use Rattle.bc_outside.specs.declared.trouble.Trouble.TheVariants.{Failed, NoMemory}
 use Rattle.bc_outside.proofs.Keeping.{agreed_back}
@@ -13,11 +13,10 @@ use Rattle.bc_outside.proofs.Taking.{more-last}
 use Rattle.record_file.specs.Frames.{CanFollow}
 use Rattle.spec_replay.specs.Run.{Run, after_file}
 use Rattle.beacon_node.specs.declared.status.Status.{Status}
-use Rattle.beacon_node.specs.declared.status.Status.TheVariants as statuses
 use Rattle.beacon_node.specs.Answers.{Answers, AsksFor, Reaches, breaks_off, lags, end_of, taken_of}
 use Rattle.beacon_node.specs.inside.Statuses.{unread}
 use Rattle.beacon_node.specs.inside.Reading.{ReadOf, Unread, ReadsNamed}
-use Rattle.beacon_node.proofs.Reaching.{reaches_none, reaches_front, reaches_all, reaches_one, no_lines}
+use Rattle.beacon_node.proofs.Reaching.{reaches_none, reaches_front, reaches_one, no_lines}
 
 -- the file that was opened last, and what was taken of it
 pub last_taken : (name : List ℕ) (file : ℕ) (bytes : List ℕ) (met : Bool) (s t u : ShelfTold) → Opened name file s t → Takes file bytes met t u → u.files ≡ s.files ++ record { name = name; bytes = bytes; ended = met; grew = false } ∷ []

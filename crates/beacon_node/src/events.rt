@@ -4,6 +4,7 @@ ghost use Rattle.std.specs.Prelude.{◌≡◌, ◌≢◌, ◌<◌, ◌^◌, [], 
 ghost use Rattle.bc_outside.specs.Calls.{HasCause, ShelfKeeps, SinkKeeps, WritesAll};
 ghost use Rattle.spec_replay.specs.Lines.{tick_line};
 ghost use Rattle.spec_replay.specs.Run.{with_record};
+ghost use Rattle.record_file.specs.Sources.{IsOpenedFile};
 ghost use Rattle.beacon_node.specs.Answers.{HasCauses, Replayed, taken_of};
 ghost use Rattle.beacon_node.specs.inside.Statuses.{unwritten, no_frame};
 ghost use Rattle.beacon_node.specs.inside.Progress.{Progress, OneMore, EventsOver};
@@ -15,7 +16,7 @@ use crate::status::Status;
 use crate::store::Store;
 use bc_outside::{Shelf, Sink, Trouble, write_all};
 use bc_words::Refusal;
-use record_file::{FrameStop, Frames};
+use record_file::{EventSource, FrameStop, Frames};
 use std::alloc::Global;
 
 /// Writes the line of an event.
@@ -44,14 +45,14 @@ fn unwritten(trouble: Trouble) -> Status
     }
 }
 
-/// The status of a frame that could not be read.
-fn no_frame(frames: &Frames, stop: FrameStop) -> Status
-    ensures { result ≡ no_frame frames.now.events stop }
+/// The status of an event that could not be read.
+fn no_event<S: EventSource>(source: &S, stop: FrameStop) -> Status
+    ensures { result ≡ no_frame (S.seen source.now).events stop }
 {
     match stop {
         FrameStop::Fault(fault) => Status::Record {
             which: 0,
-            event: frames.event_of(fault),
+            event: source.faulty_event(fault),
             fault,
         },
         FrameStop::ReadFault => Status::ReadFault,
@@ -60,49 +61,49 @@ fn no_frame(frames: &Frames, stop: FrameStop) -> Status
 }
 
 /// Takes the next event: hands it to the store, and writes its line. The status where the run is over.
-fn replay_event<F: Shelf, O: Sink>(
+fn replay_event<S: EventSource, F: Shelf, O: Sink>(
     alloc: Global,
-    frames: &mut Frames,
+    source: &mut S,
     store: &mut Store,
     shelf: &mut F,
     out: &mut O,
 ) -> Option<Status>
-    requires { frames.old.file < length (F.told shelf.old).files }
-    ensures goes_on { IfNone result (Progress store.old frames.old (F.told shelf.old) (O.told out.old).taken store.new frames.new (F.told shelf.new) (O.told out.new).taken × OneMore frames.old frames.new) }
-    ensures over { IfSome result (λ status. EventsOver status store.old frames.old (F.told shelf.old) (F.told shelf.new) (O.told out.old).taken (O.told out.new).taken) }
+    requires { IsOpenedFile (S.seen source.old).file (F.told shelf.old) }
+    ensures goes_on { IfNone result (Progress store.old (S.seen source.old) (F.told shelf.old) (O.told out.old).taken store.new (S.seen source.new) (F.told shelf.new) (O.told out.new).taken × OneMore (S.seen source.old) (S.seen source.new)) }
+    ensures over { IfSome result (λ status. EventsOver status store.old (S.seen source.old) (F.told shelf.old) (F.told shelf.new) (O.told out.old).taken (O.told out.new).taken) }
     ensures causes { IfSome result (λ status. HasCauses status (F.told shelf.old).faults (F.told shelf.new).faults (O.told out.old).faults (O.told out.new).faults) }
     ensures shelf { ShelfKeeps [] (F.told shelf.old) (F.told shelf.new) }
     ensures sink { SinkKeeps (O.told out.old) (O.told out.new) }
 {
-    let event = match frames.next(shelf) {
+    let event = match source.next_event(shelf) {
         Ok(Some(event)) => event,
         Ok(None) => return Some(Status::Done),
-        Err(stop) => return Some(no_frame(frames, stop)),
+        Err(stop) => return Some(no_event(source, stop)),
     };
     let answer = store.on_tick_payload(event.payload.as_slice());
-    match write_line(alloc, frames.events(), &answer, store, out) {
+    match write_line(alloc, source.given(), &answer, store, out) {
         Ok(()) => None,
         Err(trouble) => Some(unwritten(trouble)),
     }
 }
 
-/// Takes the events that are to come, one by one.
-fn replay_events<F: Shelf, O: Sink>(
+/// Takes the events that are to come, one by one, wherever they come from.
+fn replay_events<S: EventSource, F: Shelf, O: Sink>(
     alloc: Global,
-    frames: &mut Frames,
+    source: &mut S,
     store: &mut Store,
     shelf: &mut F,
     out: &mut O,
 ) -> Status
-    requires { frames.old.file < length (F.told shelf.old).files }
-    ensures over { EventsOver result store.old frames.old (F.told shelf.old) (F.told shelf.new) (O.told out.old).taken (O.told out.new).taken }
+    requires { IsOpenedFile (S.seen source.old).file (F.told shelf.old) }
+    ensures over { EventsOver result store.old (S.seen source.old) (F.told shelf.old) (F.told shelf.new) (O.told out.old).taken (O.told out.new).taken }
     ensures causes { HasCauses result (F.told shelf.old).faults (F.told shelf.new).faults (O.told out.old).faults (O.told out.new).faults }
     ensures command { result ≢ Status.Words }
     ensures shelf { ShelfKeeps [] (F.told shelf.old) (F.told shelf.new) }
     ensures sink { SinkKeeps (O.told out.old) (O.told out.new) }
 {
     'events: loop {
-        if let Some(status) = replay_event(alloc, frames, store, shelf, out) {
+        if let Some(status) = replay_event(alloc, source, store, shelf, out) {
             return status;
         }
     }

@@ -1,6 +1,5 @@
 -- What is still to come of a record, by what was found in the buffer.
-use Rattle.std.proofs.Common.{◌⊎◌, inl, inr, ◌≡◌, ◌≤◌, ◌<◌, ℕ, zero, suc, ◌+◌, ◌-◌, Bool, true, false, List, [], ◌∷◌, ◌++◌, length, take, drop, Option, Some, None, refl, sym, ap, ◌∙◌, arith, cond, length-take, append-nil, append_assoc}
-use Rattle.std.proofs.Math.Seq.{drop-append_seam}
+use Rattle.std.proofs.Common.{◌⊎◌, inl, inr, ◌≡◌, ◌≤◌, ◌<◌, ℕ, zero, suc, ◌+◌, ◌-◌, Bool, true, false, List, [], ◌∷◌, ◌++◌, length, take, drop, refl, sym, ap, ◌∙◌, arith, cond, length-take, append-nil, append_assoc}
 use Rattle.std.proofs.lemmas.List.{take-append-le, drop-append-le}
 use Rattle.std.proofs.lemmas.Grind.{common_steps}
 use Rattle.std.specs.Str.{bytes_eq}
@@ -8,7 +7,7 @@ use Rattle.record_file.specs.declared.event.Event.{Event}
 use Rattle.record_file.specs.declared.fault.RecordFault.{RecordFault}
 use Rattle.record_file.specs.declared.fault.RecordFault.TheVariants.{BadMagic, TooMany}
 use Rattle.record_file.specs.declared.place.Place.{Place}
-use Rattle.record_file.specs.declared.place.Place.TheVariants.{AtMagic, AtFrame, Stopped}
+use Rattle.record_file.specs.declared.place.Place.TheVariants.{AtMagic, AtFrame}
 use Rattle.record_file.specs.declared.found.Found.{Found}
 use Rattle.record_file.specs.declared.found.Found.TheVariants as found
 use Rattle.record_file.specs.Record.{ended, faulted, framed, frame_of, events_from, events_of, most_events, magic, Events, done, fault, fault_event, with_event}

@@ -1,9 +1,7 @@
 -- A frame that is whole, and a fault that isn't Torn, stay what they are when more bytes come.
-use Rattle.std.proofs.Common.{◌≡◌, ◌≤◌, ℕ, Bool, true, false, List, [], ◌∷◌, ◌++◌, length, take, drop, Option, Some, None, refl, sym, ap, ◌∙◌, arith, nat_lt, nat_le, cond}
-use Rattle.std.proofs.Common.{length-append, append-nil}
+use Rattle.std.proofs.Common.{◌≡◌, ◌≤◌, ℕ, Bool, true, false, List, [], ◌∷◌, ◌++◌, length, take, drop, refl, ap, ◌∙◌, arith, nat_lt, nat_le, cond}
+use Rattle.std.proofs.Common.{length-append}
 use Rattle.std.proofs.lemmas.List.{take-append-le, drop-append-le}
-use Rattle.std.proofs.Math.Seq.{drop-append_seam, drop-length}
-use Rattle.std.specs.Prelude.{IfSome}
 use Rattle.std.specs.Int.{w32, from_le_bytes}
 use Rattle.record_file.specs.Record.{is_kind, is_run, most_events}
 use Rattle.std.proofs.lemmas.Bool.Decides.{nat_tests}

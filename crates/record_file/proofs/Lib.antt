@@ -4,3 +4,4 @@ pub mod Coming
 pub mod Again
 pub mod Fetching
 pub mod Nexting
+pub mod Supplying

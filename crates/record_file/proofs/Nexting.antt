@@ -1,5 +1,5 @@
 -- What `next` answers, by what was taken and found.
-use Rattle.std.proofs.Common.{◌≡◌, ◌≤◌, ◌<◌, ℕ, ◌+◌, Bool, true, false, List, [], ◌++◌, length, take, drop, Option, Some, None, Result, Ok, Err, refl, sym, ap, ◌∙◌, append_assoc, arith}
+use Rattle.std.proofs.Common.{◌≡◌, ◌≤◌, ◌<◌, ℕ, ◌+◌, Bool, true, false, List, [], ◌++◌, take, drop, Option, Some, None, Result, Ok, Err, refl, ap, ◌∙◌, append_assoc, arith}
 use Rattle.std.specs.Str.{bytes_eq}
 use Rattle.bc_outside.specs.Told.{ShelfTold}
 use Rattle.bc_outside.specs.declared.trouble.Trouble.{Trouble}
@@ -10,12 +10,11 @@ use Rattle.record_file.specs.declared.fault.RecordFault.{RecordFault}
 use Rattle.record_file.specs.declared.fault.RecordFault.TheVariants.{BadMagic}
 use Rattle.record_file.specs.declared.fault.FrameStop.{FrameStop}
 use Rattle.record_file.specs.declared.fault.FrameStop.TheVariants.{Fault, ReadFault, NoMemory}
-use Rattle.record_file.specs.declared.found.Found.{Found}
 use Rattle.record_file.specs.declared.found.Found.TheVariants as found
 use Rattle.record_file.specs.declared.place.Place.TheVariants.{AtMagic, AtFrame, Stopped}
 use Rattle.record_file.specs.Record.{magic, most_events}
 use Rattle.record_file.specs.Stops.{stop_of}
-use Rattle.record_file.specs.Frames.{Reading, events_at, coming, Comes, Gives, Nexts, Moves}
+use Rattle.record_file.specs.Frames.{Reading, events_at, coming, Comes, Gives, Nexts}
 use Rattle.record_file.specs.inside.Found.{is_short}
 use Rattle.record_file.specs.inside.Fetched.{Fetched, Shows, Finds, Fills, Begins}
 use Rattle.record_file.proofs.Coming.{comes_as, ended_comes, fault_comes, short_comes, frame_comes, magic_comes, no_magic_comes, short_magic_comes, long_enough}

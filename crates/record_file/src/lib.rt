@@ -11,6 +11,7 @@ mod found;
 mod frames;
 mod law;
 mod place;
+mod source;
 #[cfg(test)]
 mod tests;
 
@@ -19,3 +20,4 @@ pub use fault::{FrameStop, RecordFault};
 pub use frames::Frames;
 pub use law::written_is_read_again;
 pub use place::Place;
+pub use source::EventSource;

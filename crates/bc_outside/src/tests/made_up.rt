@@ -149,3 +149,17 @@ impl Write for ThreeBytes {
         Ok(())
     }
 }
+
+/// A writer that takes nothing.
+#[derive(Drop)]
+pub struct TakesNothing;
+
+impl Write for TakesNothing {
+    fn write(&mut self, _buf: &[u8]) -> io::Result<usize> {
+        Ok(0)
+    }
+
+    fn flush(&mut self) -> io::Result<()> {
+        Ok(())
+    }
+}

@@ -1,30 +1,30 @@
--- What was done of a record, and what is still to come.
+-- What was done of the events of a source, and what is still to come.
 use Rattle.std.specs.Prelude.{◌≡◌, ℕ, ◌+◌, ◌≤◌, Bool, false, List, ◌++◌}
 use Rattle.bc_outside.specs.Told.{ShelfTold}
-use Rattle.bc_outside.specs.Calls.{Takes}
 use Rattle.record_file.specs.Record.{most_events}
-use Rattle.record_file.specs.Frames.{Reading, CanFollow, coming}
+use Rattle.record_file.specs.Frames.{CanFollow}
+use Rattle.record_file.specs.Sources.{Source, TakesFrom}
 use Rattle.spec_replay.specs.Ticks.{Store}
 use Rattle.spec_replay.specs.Run.{Run, after_lines, with_events}
 use Rattle.beacon_node.specs.declared.status.Status.{Status}
 use Rattle.beacon_node.specs.Answers.{breaks_off, lags, end_of, WritesLines}
 
--- the run of the events that are to come, where the buffered bytes and these are the rest of the record
-abbrev pub rest_of : Store → Reading → List ℕ → Run
-rest_of store place behind = with_events (place.events + 1) store (coming place behind)
+-- the run of the events that are to come, where these bytes are those that can still be taken
+abbrev pub rest_of : Store → Source → List ℕ → Run
+rest_of store place behind = with_events (place.events + 1) store (place.coming behind)
 
--- Bytes were taken of the record, the lines of the events in front were written, and the run of the others is to come.
-pub record Progress (store : Store) (place : Reading) (told : ShelfTold) (written : List ℕ)
-    (store_then : Store) (place_then : Reading) (told_then : ShelfTold) (written_then : List ℕ) : Type 0 where
+-- Bytes were taken, the lines of the events in front were written, and the run of the others is to come.
+pub record Progress (store : Store) (place : Source) (told : ShelfTold) (written : List ℕ)
+    (store_then : Store) (place_then : Source) (told_then : ShelfTold) (written_then : List ℕ) : Type 0 where
   pub bytes : List ℕ
-  pub taken : Takes place.file bytes false told told_then
+  pub taken : TakesFrom place.file bytes false told told_then
   pub file : place_then.file ≡ place.file
   pub lines : List ℕ
   pub wrote : written_then ≡ written ++ lines
   pub comes : (behind : List ℕ) → rest_of store place (bytes ++ behind) ≡ after_lines lines (rest_of store_then place_then behind)
 
 -- one event more was read, and there are not more than a record may have
-pub record OneMore (place place_then : Reading) : Type 0 where
+pub record OneMore (place place_then : Source) : Type 0 where
   pub events : place_then.events ≡ place.events + 1
   pub within : place_then.events ≤ most_events
 
@@ -35,9 +35,9 @@ pub record Ended (status : Status) (run : Run) (written written_then : List ℕ)
 
 -- The run of the events is over. It became so whatever stands behind the bytes that were taken, and the lines keep pace
 -- with these.
-pub record EventsOver (status : Status) (store : Store) (place : Reading) (told told_then : ShelfTold) (written written_then : List ℕ) : Type 0 where
+pub record EventsOver (status : Status) (store : Store) (place : Source) (told told_then : ShelfTold) (written written_then : List ℕ) : Type 0 where
   pub bytes : List ℕ
   pub met : Bool
-  pub taken : Takes place.file bytes met told told_then
+  pub taken : TakesFrom place.file bytes met told told_then
   pub ended : (behind : List ℕ) → CanFollow met behind → Ended status (rest_of store place (bytes ++ behind)) written written_then
   pub pace : WritesLines (lags status) (rest_of store place bytes).lines written written_then

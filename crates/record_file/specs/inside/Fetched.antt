@@ -1,9 +1,8 @@
 -- What taking bytes of a record's file into the buffer does.
-use Rattle.std.specs.Prelude.{◌≡◌, ℕ, ◌<◌, Bool, true, false, not, List, [], ◌++◌, length, Result, Ok, Err}
+use Rattle.std.specs.Prelude.{◌≡◌, ℕ, ◌<◌, Bool, true, false, not, List, ◌++◌, length, Result, Ok, Err}
 use Rattle.bc_outside.specs.Told.{ShelfTold}
 use Rattle.bc_outside.specs.Calls.{Stays, Takes}
 use Rattle.bc_outside.specs.declared.trouble.Trouble.{Trouble}
-use Rattle.record_file.specs.declared.event.Event.{Event}
 use Rattle.record_file.specs.declared.fault.FrameStop.{FrameStop}
 use Rattle.record_file.specs.declared.found.Found.{Found}
 use Rattle.record_file.specs.declared.place.Place.TheVariants.{AtFrame}

@@ -1,19 +1,22 @@
 -- One event more, or the run is over.
-use Rattle.std.proofs.Common.{[], rules}
+use Rattle.std.proofs.Common.{[], subst, sym}
 use Rattle.bc_outside.proofs.Keeping.{keeps_none, keeps_then, sink_keeps_none, sink_keeps_then}
-use Rattle.bc_outside.proofs.Keeping.{takes_length}
+use Rattle.record_file.specs.Sources.{IsOpenedFile}
+use Rattle.record_file.proofs.Supplying.{opened_on}
 use Rattle.beacon_node.proofs.OneByOne.{no_progress, progress_then, over_then, over_command}
 use Rattle.beacon_node.proofs.events.replay_events.Goals as goal
 
 pub events-init : goal.events-init
 events-init g c = record {
-  progress = no_progress c.args.store.now c.args.frames.now (g.F.Shelf.told c.args.shelf.now) (g.O.Sink.told c.args.out.now).taken;
+  progress = no_progress c.args.store.now (g.S.EventSource.seen c.args.source.now) (g.F.Shelf.told c.args.shelf.now) (g.O.Sink.told c.args.out.now).taken;
   shelf = keeps_none (g.F.Shelf.told c.args.shelf.now);
   sink = sink_keeps_none (g.O.Sink.told c.args.out.now);
 }
 
 pub replay_event-requires : goal.replay_event-requires
-replay_event-requires g c = rw (c.events.invariant.progress.file, takes_length c.events.invariant.progress.taken) c.requires
+replay_event-requires g c =
+    subst (λ file. IsOpenedFile file (g.F.Shelf.told c.events.shelf)) (sym c.events.invariant.progress.file)
+    (opened_on (g.S.EventSource.seen c.args.source.now).file (g.F.Shelf.told c.args.shelf.now) (g.F.Shelf.told c.events.shelf) c.events.invariant.shelf.opened c.requires)
 
 pub events-preserved : goal.events-preserved
 events-preserved g c = record {

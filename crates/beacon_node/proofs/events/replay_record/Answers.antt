@@ -1,5 +1,5 @@
 -- The record could not be opened, or its events come.
-use Rattle.std.proofs.Common.{[], ◌∷◌, ◌≡◌}
+use Rattle.std.proofs.Common.{[], ◌∷◌}
 use Rattle.bc_outside.proofs.Keeping.{keeps_then}
 use Rattle.beacon_node.proofs.Steps.{unopened, unopened_files}
 use Rattle.beacon_node.proofs.Readers.{record_over, unread_record}

@@ -1,4 +1,4 @@
-use Rattle.std.proofs.Common.{ap, ◌≡◌, ◌<◌, ℕ, length, take, drop, arith, length-take, length-drop}
+use Rattle.std.proofs.Common.{ap, ◌≡◌, ℕ, length, take, drop, arith, length-take, length-drop}
 use Rattle.record_file.proofs.Parts.{read_part, takes_met}
 use Rattle.record_file.proofs.buffer.read_behind.Goals as goal
 

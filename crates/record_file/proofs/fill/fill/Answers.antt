@@ -1,4 +1,4 @@
-use Rattle.std.proofs.Common.{◌≡◌, true, false, [], ap, refl, arith, length}
+use Rattle.std.proofs.Common.{true, [], ap, refl, arith, length}
 use Rattle.std.proofs.lemmas.Result.{err_from_is_err_and}
 use Rattle.bc_outside.proofs.Keeping.{keeps_none, keeps_then}
 use Rattle.bc_outside.proofs.Keeping.{takes_length}

@@ -4,7 +4,7 @@ use Rattle.record_file.specs.declared.place.Place.TheVariants.{AtFrame}
 use Rattle.record_file.specs.Record.{most_events}
 use Rattle.record_file.specs.Frames.{Reading, IsPlace}
 use Rattle.record_file.proofs.Parts.{part_of}
-use Rattle.record_file.proofs.Nexting.{next_fails, next_ended, next_fault, next_frame, next_no_memory}
+use Rattle.record_file.proofs.Nexting.{next_fails, next_ended, next_fault, next_frame}
 use Rattle.record_file.proofs.frames.Frames.read_frame.Goals as goal
 
 pub returns-in_err-find_frame-clause-nexts : goal.returns-in_err-find_frame-clause-nexts
