@@ -1,6 +1,6 @@
 -- The containers of blocks, field by field in the order of the published specification (beacon-chain.md, "Beacon
 -- operations" and "Beacon blocks").
-use Rattle.std.specs.Prelude.{ℕ, [], replicate}
+use Rattle.std.specs.Prelude.{ℕ, List, [], replicate}
 use Rattle.ssz_codec.specs.Codec.{Codec}
 use Rattle.ssz_codec.specs.Containers.{Fields, fields_of, ◌▹◌∶◌, container_of}
 use Rattle.ssz_codec.specs.Basic.{uint64, bytes32, bytes96}
@@ -110,3 +110,7 @@ default_block_body = record {
   deposits = [];
   voluntary_exits = [];
 }
+
+-- its root, which the genesis block has ("Genesis block")
+unfoldable pub empty_body_root : List ℕ
+empty_body_root = block_body_codec.hash_tree_root default_block_body

@@ -5,7 +5,7 @@ ghost use Rattle.hash_tree.specs.Merkle.{merkleize, mix_in_length as mixed_in};
 ghost use Rattle.ssz_codec.specs.Containers.{layout_of, parts_of, all_read};
 ghost use Rattle.ssz_codec.specs.Reads.{ReadsAs};
 ghost use Rattle.ssz_codec.specs.inside.Halves.{nothing_written, with_parts};
-ghost use Rattle.beacon_body.specs.Containers.{block_body_fields, block_body_codec, default_block_body};
+ghost use Rattle.beacon_body.specs.Containers.{block_body_fields, block_body_codec, empty_body_root as root_of_default};
 ghost use Rattle.beacon_body.specs.laws.Containers.{block_body_lawful};
 
 use crate::attestation::Attestation;
@@ -179,8 +179,9 @@ fn empty_list_root(limit: u64) -> Root
 
 /// The root of the body whose fields are all zero or empty, which the genesis block has (beacon-chain.md, "Genesis
 /// block").
+#[tactic(auto, unfolding(crate::specs::Containers::empty_body_root))]
 pub fn empty_body_root() -> Root
-    ensures { result ≡ block_body_codec.hash_tree_root default_block_body }
+    ensures { result ≡ root_of_default }
 {
     let eth1_data = Eth1Data {
         deposit_root: [0; 32],

@@ -2,55 +2,13 @@
 
 ghost use Rattle.std.specs.Prelude.{◌≡◌, ◌≤◌, ◌^◌, ◌==◌, ◌&&◌, not, Some, None, MatchResult, length};
 ghost use Rattle.std.specs.List.{list_all};
-ghost use Rattle.spec_state.specs.Genesis.{empty_list_root as empty_list, empty_body_root as empty_root, is_genesis_header as is_header, is_zero_checkpoint as is_zero, validator_fault as fault_of, validators_fault as first_fault, genesis_fault};
+ghost use Rattle.spec_state.specs.Genesis.{is_genesis_header as is_header, is_zero_checkpoint as is_zero, validator_fault as fault_of, validators_fault as first_fault, genesis_fault};
 
 use crate::state::State;
 use bc_preset::constants::FAR_FUTURE_EPOCH;
-use beacon_types::{BeaconBlockHeader, Checkpoint, Eth1Data, Validator};
-use hash_tree::{Leaf, Root, depth_of, fields_root, mix_in_length, zero_hash};
+use beacon_body::empty_body_root;
+use beacon_types::{BeaconBlockHeader, Checkpoint, Validator};
 use spec_state::{GenesisFault, ValidatorFault};
-
-// The limits of the lists of a block (beacon-chain.md, "Max operations per block").
-const MAX_PROPOSER_SLASHINGS: u64 = 16;
-
-const MAX_ATTESTER_SLASHINGS: u64 = 2;
-
-const MAX_ATTESTATIONS: u64 = 128;
-
-const MAX_DEPOSITS: u64 = 16;
-
-const MAX_VOLUNTARY_EXITS: u64 = 16;
-
-/// The root of the empty list of at most so many values that are not basic.
-#[tactic(auto, unfolding(hash_tree::specs::Merkle::merkleize))]
-fn empty_list_root(limit: u64) -> Root
-    requires { limit ≤ 2 ^ 40 }
-    ensures { result ≡ empty_list limit }
-{
-    mix_in_length(&zero_hash(depth_of(limit)), 0)
-}
-
-/// The root of the block body whose fields are all zero or empty (beacon-chain.md, "BeaconBlockBody").
-#[tactic(auto, unfolding(spec_state::specs::Genesis::empty_body_root))]
-pub fn empty_body_root() -> Root
-    ensures { result ≡ empty_root }
-{
-    let eth1_data = Eth1Data {
-        deposit_root: [0; 32],
-        deposit_count: 0,
-        block_hash: [0; 32],
-    };
-    fields_root(&[
-        [0; 96].root(),
-        eth1_data.root(),
-        [0; 32],
-        empty_list_root(MAX_PROPOSER_SLASHINGS),
-        empty_list_root(MAX_ATTESTER_SLASHINGS),
-        empty_list_root(MAX_ATTESTATIONS),
-        empty_list_root(MAX_DEPOSITS),
-        empty_list_root(MAX_VOLUNTARY_EXITS),
-    ])
-}
 
 /// Whether the header is that of an empty block of slot 0.
 fn is_genesis_header(header: &BeaconBlockHeader) -> bool

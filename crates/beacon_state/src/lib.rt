@@ -14,6 +14,6 @@ mod state;
 mod values;
 mod writing;
 
-pub use genesis::{empty_body_root, genesis_check};
+pub use genesis::genesis_check;
 pub use state::State;
 pub use writing::{one_writing_of_states, shortest_state, state_reads_back};

@@ -1,8 +1,9 @@
 //! Measures what has to be fast, each against the hashes that it can't do without, in one run.
 //!
-//! The word behind the program's name says what to measure: `pairs`, `shuffle` or `state`. Without a word nothing is measured.
+//! The word behind the program's name says what to measure: `pairs`, `shuffle`, `state` or `block`. Without a word nothing is measured.
 #![tactic(auto)]
 
+mod block;
 mod pairs;
 mod ratio;
 mod shuffle;
@@ -12,7 +13,7 @@ use anyhow::Result;
 use std::env;
 
 /// What is printed where no word names a measurement.
-const USAGE: &str = "name what to measure: pairs, shuffle or state";
+const USAGE: &str = "name what to measure: pairs, shuffle, state or block";
 
 fn main(rt: HostRuntime) -> Result<()> {
     let mut words = env::args(&rt)?;
@@ -21,6 +22,7 @@ fn main(rt: HostRuntime) -> Result<()> {
         Some(word) if word.as_str() == "pairs" => pairs::measure(&rt)?,
         Some(word) if word.as_str() == "shuffle" => shuffle::measure(&rt)?,
         Some(word) if word.as_str() == "state" => state::measure(&rt)?,
+        Some(word) if word.as_str() == "block" => block::measure(&rt)?,
         _ => println!(rt; "{USAGE}")?,
     }
     Ok(())

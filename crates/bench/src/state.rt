@@ -3,7 +3,8 @@
 use crate::ratio::Ratio;
 use anyhow::Result;
 use bc_preset::Preset;
-use beacon_state::{State, empty_body_root, genesis_check};
+use beacon_body::empty_body_root;
+use beacon_state::{State, genesis_check};
 use sha2::{Digest, Sha256};
 use std::alloc::{AllocError, Global};
 use std::time::{CpuClock, Duration};

@@ -1,4 +1,4 @@
--- Constants (beacon-chain.md, "Constants", "Domain types" and "Max operations per block"), and the bounds of this program.
+-- Constants (beacon-chain.md, "Constants" and "Domain types"), and the bounds of this program.
 use Rattle.std.specs.Prelude.{ℕ, List, [], ◌∷◌}
 
 -- FAR_FUTURE_EPOCH: 2 ^ 64 - 1
@@ -16,27 +16,6 @@ domain_beacon_proposer = 0 ∷ 0 ∷ 0 ∷ 0 ∷ []
 -- DOMAIN_BEACON_ATTESTER
 abbrev pub domain_beacon_attester : List ℕ
 domain_beacon_attester = 1 ∷ 0 ∷ 0 ∷ 0 ∷ []
-
--- the limits of the lists of a block ("Max operations per block"), which all presets share
--- MAX_PROPOSER_SLASHINGS
-abbrev pub max_proposer_slashings : ℕ
-max_proposer_slashings = 16
-
--- MAX_ATTESTER_SLASHINGS
-abbrev pub max_attester_slashings : ℕ
-max_attester_slashings = 2
-
--- MAX_ATTESTATIONS
-abbrev pub max_attestations : ℕ
-max_attestations = 128
-
--- MAX_DEPOSITS
-abbrev pub max_deposits : ℕ
-max_deposits = 16
-
--- MAX_VOLUNTARY_EXITS
-abbrev pub max_voluntary_exits : ℕ
-max_voluntary_exits = 16
 
 -- how many candidates for proposer are tried
 abbrev pub max_proposer_candidates : ℕ

@@ -2,51 +2,24 @@
 -- initialize_beacon_state_from_eth1 makes is one).
 use Rattle.std.specs.Prelude.{ℕ, ◌+◌, ◌&&◌, not, Bool, List, [], ◌∷◌, length, replicate, Option, Some, None, Result, Ok, Err, nat_lt, ◌==◌, if◌then◌else◌}
 use Rattle.std.specs.List.{list_all}
-use Rattle.hash_tree.specs.Merkle.{merkleize, mix_in_length}
-use Rattle.ssz_codec.specs.Basic.{bytes96}
 use Rattle.bc_preset.specs.declared.presets.Preset.{Preset}
 use Rattle.beacon_types.specs.declared.block_header.BeaconBlockHeader.{BeaconBlockHeader}
 use Rattle.beacon_types.specs.declared.checkpoint.Checkpoint.{Checkpoint}
-use Rattle.beacon_types.specs.declared.eth1_data.Eth1Data.{Eth1Data}
 use Rattle.beacon_types.specs.declared.validator.Validator.{Validator}
-use Rattle.beacon_types.specs.Containers.{block_header_codec, eth1_data_codec}
+use Rattle.beacon_types.specs.Containers.{block_header_codec}
+use Rattle.beacon_body.specs.Containers.{empty_body_root}
 use Rattle.spec_state.specs.declared.plain.PlainState.{PlainState}
 use Rattle.spec_state.specs.declared.fault.ValidatorFault.{ValidatorFault}
 use Rattle.spec_state.specs.declared.fault.ValidatorFault.TheVariants as validators
 use Rattle.spec_state.specs.declared.fault.GenesisFault.{GenesisFault}
 use Rattle.spec_state.specs.declared.fault.GenesisFault.TheVariants as parts
 pub use Rattle.beacon_types.specs.Equality.{same_root}
-use Rattle.spec_state.specs.Constants.{far_future_epoch, max_genesis_len, max_proposer_slashings, max_attester_slashings, max_attestations, max_deposits, max_voluntary_exits}
+use Rattle.spec_state.specs.Constants.{far_future_epoch, max_genesis_len}
 use Rattle.spec_state.specs.States.{state_codec}
 
 -- 32 zero bytes
 abbrev pub zero_root : List ℕ
 zero_root = replicate 32 0
-
-abbrev pub zero_eth1_data : Eth1Data
-zero_eth1_data = record { deposit_root = zero_root; deposit_count = 0; block_hash = zero_root }
-
--- the root of the empty list of at most so many values that are not basic
-abbrev pub empty_list_root : ℕ → List ℕ
-empty_list_root limit = mix_in_length (merkleize [] limit) 0
-
--- the roots of the fields of the empty block body, in order: all fields zero, all lists empty (beacon-chain.md,
--- "BeaconBlockBody")
-abbrev pub empty_body_roots : List (List ℕ)
-empty_body_roots =
-    bytes96.hash_tree_root (replicate 96 0)
-    ∷ eth1_data_codec.hash_tree_root zero_eth1_data
-    ∷ zero_root
-    ∷ empty_list_root max_proposer_slashings
-    ∷ empty_list_root max_attester_slashings
-    ∷ empty_list_root max_attestations
-    ∷ empty_list_root max_deposits
-    ∷ empty_list_root max_voluntary_exits
-    ∷ []
-
--- the root of the empty block body
-unfoldable pub empty_body_root : List ℕ
-empty_body_root = merkleize empty_body_roots (length empty_body_roots)
 
 -- the header with the state's root, as it is once the slot is over
 unfoldable pub block_header_of : PlainState → BeaconBlockHeader

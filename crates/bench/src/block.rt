@@ -1,0 +1,126 @@
+//! A mainnet block of 128 attestations that is read and rooted, against the hashes of its tree and one pass over its
+//! bytes.
+
+ghost use Rattle.std.specs.Prelude.{◌<◌};
+
+use crate::ratio::Ratio;
+use anyhow::Result;
+use beacon_body::SignedBeaconBlock;
+use hash_tree::Leaf;
+use sha2::{Digest, Sha256};
+use ssz_codec::Ssz;
+use std::alloc::{AllocError, Global};
+use std::time::CpuClock;
+
+/// How many attestations the block carries.
+const ATTESTATIONS: u32 = 128;
+
+/// The length of one: its fixed part, and 128 bits with their delimiter.
+const ATTESTATION: u32 = 228 + 17;
+
+/// Where the attestations begin.
+const BEGIN: u32 = 404;
+
+/// The block's length.
+const END: u32 = BEGIN + ATTESTATIONS * (4 + ATTESTATION);
+
+/// The pairs that are hashed: 18 for each attestation, 128 of their list, 19 of the other lists, 24 of the other fields.
+const PAIRS: u32 = 18 * 128 + 128 + 19 + 24;
+
+/// How often the block is read.
+const TIMES: u32 = 50;
+
+/// Puts a number of four bytes at a place, where there is room for it.
+fn put(bytes: &mut [u8], at: u32, number: u32) {
+    let at = at as usize;
+    if at < bytes.len() && bytes.len() - at >= 4 {
+        bytes[at..at + 4].copy_from_slice(&number.to_le_bytes());
+    }
+}
+
+/// Puts the offsets that lead to the attestations.
+fn put_offsets(bytes: &mut [u8]) {
+    put(bytes, 0, 100);
+    put(bytes, 180, 84);
+    put(bytes, 384, 220);
+    put(bytes, 388, 220);
+    put(bytes, 392, 220);
+    put(bytes, 396, END - 184);
+    put(bytes, 400, END - 184);
+}
+
+/// Puts the attestation of this number, and the offset that leads to it.
+fn put_attestation(bytes: &mut [u8], number: u32)
+    requires { number < 128 }
+{
+    let start = ATTESTATIONS * 4 + number * ATTESTATION;
+    put(bytes, BEGIN + 4 * number, start);
+    put(bytes, BEGIN + start, 228);
+    put(bytes, BEGIN + start + 4, number);
+    put(bytes, BEGIN + start + 241, 1 << 24);
+}
+
+/// The bytes of the block: zero but for offsets, slots and delimiters.
+fn block_bytes(alloc: Global) -> Result<Vec<u8>, AllocError> {
+    let mut bytes = vec![in alloc; 0u8; END as usize]?;
+    put_offsets(&mut bytes);
+    for number in 0..ATTESTATIONS {
+        put_attestation(&mut bytes, number);
+    }
+    Ok(bytes)
+}
+
+/// The first byte of the block's root, None where it doesn't read.
+fn first_of_root(alloc: Global, bytes: &[u8]) -> Option<u8> {
+    match SignedBeaconBlock::read(alloc, bytes) {
+        Ok(block) => Some(block.message.root()[0]),
+        Err(_) => None,
+    }
+}
+
+/// As many hashes of pairs, joined so that none is left out.
+fn pair_hashes() -> u8 {
+    let mut pair = [0; 64];
+    let mut joined = 0;
+    for i in 0..PAIRS {
+        let number = i.to_le_bytes();
+        pair[0] = number[0];
+        pair[1] = number[1];
+        joined ^= Sha256::digest(&pair)[0];
+    }
+    joined
+}
+
+/// One pass over the bytes.
+fn pass_over(bytes: &[u8]) -> u8 {
+    let mut joined = 0;
+    for byte in bytes {
+        joined ^= *byte;
+    }
+    joined
+}
+
+/// Reads, roots, hashes, and prints both times.
+pub fn measure(rt: &(impl AllocGlobal + Print + CpuClock)) -> Result<()> {
+    let bytes = block_bytes(rt.alloc())?;
+    let first = first_of_root(rt.alloc(), &bytes).unwrap_or(0);
+    let begin = rt.process_cpu_time()?;
+    let mut roots = 0;
+    for _ in 0..TIMES {
+        roots ^= first_of_root(rt.alloc(), &bytes).unwrap_or(1);
+    }
+    let middle = rt.process_cpu_time()?;
+    let mut joined = 0;
+    for _ in 0..TIMES {
+        joined ^= pair_hashes() ^ pass_over(&bytes);
+    }
+    let end = rt.process_cpu_time()?;
+    let ratio = Ratio {
+        whole: middle.saturating_sub(begin),
+        hashes: end.saturating_sub(middle),
+    };
+    println!(rt;
+        "block of {ATTESTATIONS} attestations, {TIMES} times, with one pass over the bytes: {ratio} (root {first:02x}.., joined {roots} {joined})"
+    )?;
+    Ok(())
+}
