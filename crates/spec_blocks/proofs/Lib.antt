@@ -1,1 +1,4 @@
 pub mod Sound
+pub mod SoundHeads
+pub mod SoundRegistry
+pub mod SoundPending

@@ -1,5 +1,5 @@
 -- What keeps a state sound: its pending attestations stay sound where the committees of their epochs stay.
-use Rattle.std.proofs.Common.{◌≡◌, ◌∙◌, ℕ, zero, suc, ◌+◌, ◌-◌, ◌*◌, ◌%◌, ◌<◌, ◌≤◌, Bool, false, Option, Some, None, List, [], ◌∷◌, ◌++◌, length, slice_get, slice_set, refl, sym, ap, ap₂, subst, if◌then◌else◌, arith}
+use Rattle.std.proofs.Common.{◌≡◌, ◌∙◌, ℕ, zero, suc, ◌+◌, ◌-◌, ◌*◌, ◌%◌, ◌≤◌, Bool, false, Option, Some, None, List, [], ◌∷◌, ◌++◌, length, slice_get, slice_set, refl, sym, ap, ap₂, subst, if◌then◌else◌, arith}
 use Rattle.bc_preset.specs.declared.presets.Preset.{Preset}
 use Rattle.std.specs.List.{AllByRecursion}
 use Rattle.beacon_types.specs.declared.checkpoint.Checkpoint.{Checkpoint}

@@ -1,7 +1,7 @@
 -- is_valid_indexed_attestation (beacon-chain.md, "Predicates"), as checks with their refusals. Signatures are off.
-use Rattle.std.specs.Prelude.{ℕ, Bool, true, not, ◌&&◌, ◌||◌, List, [], ◌∷◌, length, nat_lt, ◌==◌}
+use Rattle.std.specs.Prelude.{ℕ, Bool, true, not, ◌&&◌, List, [], ◌∷◌, length, nat_lt, ◌==◌}
 use Rattle.std.specs.List.{list_all}
-use Rattle.bc_words.specs.Outcome.{Outcome, ◌>>=◌}
+use Rattle.bc_words.specs.Outcome.{Outcome}
 use Rattle.bc_words.specs.declared.refusal.Refusal.TheVariants.{AsIndices, IndexRange}
 use Rattle.beacon_types.specs.declared.indexed_attestation.IndexedAttestation.{IndexedAttestation}
 use Rattle.spec_state.specs.declared.plain.PlainState.{PlainState}

@@ -1,5 +1,5 @@
 -- process_attestation (beacon-chain.md, "Attestations"). Signatures are off.
-use Rattle.std.specs.Prelude.{ℕ, Bool, not, ◌&&◌, ◌||◌, length, leb, nat_lt, ◌==◌, if◌then◌else◌}
+use Rattle.std.specs.Prelude.{ℕ, not, ◌||◌, length, leb, nat_lt, ◌==◌, if◌then◌else◌}
 use Rattle.bc_words.specs.Outcome.{Outcome, done, ◌>>=◌, checked_add, checked_sub, checked_push}
 use Rattle.bc_words.specs.declared.refusal.Refusal.TheVariants.{AtTargetEpoch, AtSlotEpoch, AtEarly, AtLate, AtIndex, AtBits, AtSource, AtEmpty}
 pub use Rattle.beacon_types.specs.Equality.{same_checkpoint}

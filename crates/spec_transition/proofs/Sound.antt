@@ -1,11 +1,10 @@
 -- A slot within an epoch keeps a state sound.
-use Rattle.std.proofs.Common.{◌≡◌, ℕ, ◌+◌, ◌≤◌, Bool, true, false, if◌then◌else◌, refl, ap, arith, length}
+use Rattle.std.proofs.Common.{◌≡◌, ℕ, Bool, true, false, if◌then◌else◌, refl, arith}
 use Rattle.beacon_types.specs.declared.block_header.BeaconBlockHeader.{BeaconBlockHeader}
 use Rattle.spec_state.specs.declared.plain.PlainState.{PlainState}
-use Rattle.spec_state.specs.Constants.{domain_beacon_attester}
 use Rattle.spec_state.specs.Genesis.{block_header_of, same_root, zero_root}
-use Rattle.spec_state.specs.Accessors.{get_current_epoch, get_active_validator_indices, get_seed, get_randao_mix}
-use Rattle.spec_state.specs.Soundness.{IsSound, IsSoundTo}
+use Rattle.spec_state.specs.Accessors.{get_current_epoch, get_active_validator_indices, get_randao_mix}
+use Rattle.spec_state.specs.Soundness.{IsSound}
 use Rattle.spec_blocks.proofs.Sound.{Keeps, SameCommittees, still_sound}
 use Rattle.spec_transition.specs.ProcessSlot.{process_slot}
 use Rattle.spec_transition.specs.ProcessSlots.{with_next_slot}

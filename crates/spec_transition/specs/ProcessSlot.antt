@@ -1,6 +1,6 @@
 -- The end of a slot (beacon-chain.md, "process_slot"): the state's root is kept, a block header without a state root gets
 -- it, and then the root of the latest block is kept.
-use Rattle.std.specs.Prelude.{ℕ, ◌%◌, List, slice_set}
+use Rattle.std.specs.Prelude.{ℕ, ◌%◌, slice_set}
 use Rattle.spec_state.specs.declared.plain.PlainState.{PlainState}
 use Rattle.spec_state.specs.States.{state_codec}
 use Rattle.spec_state.specs.Genesis.{block_header_of, header_root_of}
