@@ -9,4 +9,7 @@ pub mod ProcessRandao
 pub mod ProcessEth1Data
 pub mod ProcessProposerSlashing
 pub mod ProcessAttestation
+pub mod IsValidMerkleBranch
+pub mod GetValidatorFromDeposit
+pub mod ProcessDeposit
 pub mod ProcessVoluntaryExit
