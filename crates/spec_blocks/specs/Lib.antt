@@ -8,6 +8,7 @@ pub mod ProcessBlockHeader
 pub mod ProcessRandao
 pub mod ProcessEth1Data
 pub mod ProcessProposerSlashing
+pub mod ProcessAttesterSlashing
 pub mod ProcessAttestation
 pub mod IsValidMerkleBranch
 pub mod GetValidatorFromDeposit

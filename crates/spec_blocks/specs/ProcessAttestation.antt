@@ -1,8 +1,9 @@
 -- process_attestation (beacon-chain.md, "Attestations"). Signatures are off.
-use Rattle.std.specs.Prelude.{ℕ, not, ◌||◌, length, leb, nat_lt, ◌==◌, if◌then◌else◌}
+use Rattle.std.specs.Prelude.{ℕ, Bool, not, ◌||◌, List, length, leb, nat_lt, ◌==◌, if◌then◌else◌}
 use Rattle.bc_words.specs.Outcome.{Outcome, done, ◌>>=◌, checked_add, checked_sub, checked_push}
 use Rattle.bc_words.specs.declared.refusal.Refusal.TheVariants.{AtTargetEpoch, AtSlotEpoch, AtEarly, AtLate, AtIndex, AtBits, AtSource, AtEmpty}
-pub use Rattle.beacon_types.specs.Equality.{same_checkpoint}
+use Rattle.beacon_types.specs.declared.attestation_data.AttestationData.{AttestationData}
+use Rattle.beacon_types.specs.Equality.{same_checkpoint}
 use Rattle.beacon_types.specs.declared.pending_attestation.PendingAttestation.{PendingAttestation}
 use Rattle.beacon_body.specs.declared.attestation.Attestation.{Attestation}
 use Rattle.spec_state.specs.declared.plain.PlainState.{PlainState}
@@ -30,11 +31,9 @@ unfoldable pub with_pending : PlainState → PendingAttestation → Outcome Plai
 with_pending state pending =
     if pending.content.target.epoch == get_current_epoch state then with_current_pending state pending else with_previous_pending state pending
 
--- process_attestation(state, attestation), where proposer is the block's proposer. Of is_valid_indexed_attestation there
--- is left that somebody attested: the members of a committee are in the registry, each once
-unfoldable pub process_attestation : PlainState → Attestation → ℕ → Outcome PlainState
-process_attestation state attestation proposer = do
-  let voted = attestation.content
+-- the checks of the vote's target and slot
+unfoldable pub check_times : PlainState → AttestationData → Outcome (Unit {0})
+check_times state voted = do
   -- the target is of the previous or the current epoch
   check ((voted.target.epoch == get_previous_epoch state) || (voted.target.epoch == get_current_epoch state)) AtTargetEpoch
   -- which is the epoch of the slot
@@ -45,13 +44,24 @@ process_attestation state attestation proposer = do
   -- and no more than an epoch
   latest ← checked_add voted.slot state.preset.slots_per_epoch
   check (leb state.slot latest) AtLate
+
+-- the checks of the vote's committee
+unfoldable pub check_committee : PlainState → AttestationData → List Bool → Outcome (Unit {0})
+check_committee state voted bits = do
   -- the slot has such a committee
   check (nat_lt voted.index (get_committee_count_per_slot state voted.target.epoch)) AtIndex
   -- with as many members as there are bits
-  check (length attestation.aggregation_bits == length (get_beacon_committee state voted.slot voted.index)) AtBits
+  check (length bits == length (get_beacon_committee state voted.slot voted.index)) AtBits
+
+-- process_attestation(state, attestation), where proposer is the block's proposer. Of is_valid_indexed_attestation there
+-- is left that somebody attested: the members of a committee are in the registry, each once
+unfoldable pub process_attestation : PlainState → Attestation → ℕ → Outcome PlainState
+process_attestation state attestation proposer = do
+  let voted = attestation.content
+  check_times state voted
+  check_committee state voted attestation.aggregation_bits
   delay ← checked_sub state.slot voted.slot
-  let pending : PendingAttestation = record { aggregation_bits = attestation.aggregation_bits; content = voted; inclusion_delay = delay; proposer_index = proposer }
-  next ← with_pending state pending
+  next ← with_pending state (record { aggregation_bits = attestation.aggregation_bits; content = voted; inclusion_delay = delay; proposer_index = proposer })
   -- somebody attested
   check (not (length (get_attesting_indices state voted attestation.aggregation_bits) == 0)) AtEmpty
   done next

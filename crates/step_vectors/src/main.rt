@@ -10,6 +10,8 @@ mod answers;
 mod closing;
 mod exits;
 mod given;
+mod heads;
+mod slashings;
 mod slots;
 
 use answers::answer_line;
@@ -26,6 +28,11 @@ use std::rt::Files;
 fn call_on(alloc: Global, state: &mut State, given: &Given) -> Result<Result<(), Stop>> {
     match given.name.as_str() {
         "process_slot" => slots::process_slot(state),
+        "process_header" => heads::process_header(alloc, state, given),
+        "process_randao" => heads::process_randao(alloc, state, given),
+        "process_eth1_data" => heads::process_eth1_data(alloc, state, given),
+        "process_proposer_slashing" => slashings::process_proposer_slashing(alloc, state, given),
+        "process_attester_slashing" => slashings::process_attester_slashing(alloc, state, given),
         "process_voluntary_exit" => exits::process_voluntary_exit(alloc, state, given),
         call => epoch_call_on(alloc, state, call),
     }

@@ -1,0 +1,75 @@
+//! The vote of a block for the data of the deposit contract (beacon-chain.md, "Eth1 data").
+
+ghost use Rattle.std.specs.Prelude.{◌≡◌, ◌≤◌, ◌^◌, length};
+ghost use Rattle.bc_words.specs.Outcome.{Changes};
+ghost use Rattle.spec_state.specs.States.{votes_limit};
+ghost use Rattle.spec_blocks.specs.ProcessEth1Data.{same_eth1_data, votes_for, process_eth1_data};
+ghost use Rattle.block_head.specs.inside.Votes.{is_for};
+
+use bc_words::Stop;
+use beacon_body::BeaconBlockBody;
+use beacon_state::State;
+use beacon_types::Eth1Data;
+
+/// Whether the two are equal.
+fn same_eth1_data(a: &Eth1Data, b: &Eth1Data) -> bool
+    ensures { result ≡ same_eth1_data a.now b.now }
+{
+    a.deposit_root == b.deposit_root
+        && a.deposit_count == b.deposit_count
+        && a.block_hash == b.block_hash
+}
+
+/// Whether the vote at a place is for the data. One that isn't there is for none.
+fn is_for(state: &State, i: u64, eth1_data: &Eth1Data) -> bool
+    ensures { result ≡ is_for eth1_data.now state.now.eth1_data_votes i }
+{
+    match state.eth1_data_votes_at(i) {
+        Some(vote) => same_eth1_data(vote, eth1_data),
+        None => false,
+    }
+}
+
+/// How many of the votes are for the data.
+#[tactic(auto, using(crate::proofs::Votes::votes_begin, crate::proofs::Votes::one_for, crate::proofs::Votes::one_against, crate::proofs::Votes::votes_end, crate::proofs::Votes::votes_few))]
+fn votes_for(state: &State, eth1_data: &Eth1Data) -> u64
+    ensures exact { result ≡ votes_for state.now.eth1_data_votes eth1_data.now }
+    ensures few { result ≤ length state.now.eth1_data_votes }
+{
+    let mut count = 0;
+    for i in 0..state.eth1_data_votes_len() {
+        if !is_for(state, i, eth1_data) {
+            continue;
+        }
+        count += 1;
+    }
+    count
+}
+
+/// How many votes a period has.
+#[tactic(auto, using(bc_preset::proofs::Bounds::preset_bounds))]
+fn votes_limit(state: &State) -> u64
+    ensures exact { result ≡ votes_limit state.now.preset }
+    ensures low { result ≤ 2 ^ 11 }
+{
+    let preset = state.preset();
+    preset.bounds();
+    preset.epochs_per_eth1_voting_period * preset.slots_per_epoch
+}
+
+/// Appends the block's vote for the data of the deposit contract, which becomes that of the state where more than half of a
+/// period's votes are for it (beacon-chain.md, `process_eth1_data`).
+///
+/// Refused as a full list exactly where the period has all its votes. After a stop the state is as before.
+#[tactic(auto, unfolding(spec_blocks::specs::ProcessEth1Data::process_eth1_data))]
+pub fn process_eth1_data(state: &mut State, body: &BeaconBlockBody) -> Result<(), Stop>
+    ensures { Changes result state.old state.new (process_eth1_data state.old body.now) }
+{
+    state.push_eth1_data_votes(body.eth1_data)?;
+    let limit = votes_limit(state);
+    let _votes = state.eth1_data_votes_len();
+    if limit < votes_for(state, &body.eth1_data) * 2 {
+        state.set_eth1_data(body.eth1_data);
+    }
+    Ok(())
+}

@@ -1,0 +1,46 @@
+//! The slashing of a proposer of two blocks (beacon-chain.md, "Proposer slashings").
+
+ghost use Rattle.bc_words.specs.Outcome.{Changes};
+ghost use Rattle.spec_blocks.specs.ProcessProposerSlashing.{process_proposer_slashing};
+
+use crate::is_slashable_validator::is_slashable;
+use crate::slash_validator::slash;
+use balance_totals::current_epoch;
+use bc_preset::Config;
+use bc_words::{Refusal, Stop};
+use beacon_body::ProposerSlashing;
+use beacon_state::State;
+use exit_queue::validator_at;
+
+/// Slashes a validator that proposed two different blocks in one slot, for the block's proposer. The signatures aren't
+/// checked.
+///
+/// Refused, in this order: `PsSlots`, `PsProposers`, `PsSame`, `IndexRange`, `NotSlashable`, and `Overflow` where a sum
+/// doesn't fit. After a stop the state is as before.
+#[tactic(auto, unfolding(spec_blocks::specs::ProcessProposerSlashing::process_proposer_slashing))]
+pub fn process_proposer_slashing(
+    state: &mut State,
+    slashing: &ProposerSlashing,
+    proposer: u64,
+    config: &Config,
+) -> Result<(), Stop>
+    ensures { Changes result state.old state.new (process_proposer_slashing state.old slashing.now proposer config.now) }
+{
+    let header_1 = &slashing.signed_header_1.message;
+    let header_2 = &slashing.signed_header_2.message;
+    if header_1.slot != header_2.slot {
+        return Err(Stop::Refused(Refusal::PsSlots));
+    }
+    if header_1.proposer_index != header_2.proposer_index {
+        return Err(Stop::Refused(Refusal::PsProposers));
+    }
+    if header_1 == header_2 {
+        return Err(Stop::Refused(Refusal::PsSame));
+    }
+    let index = header_1.proposer_index;
+    let validator = validator_at(state, index)?;
+    if !is_slashable(&validator, current_epoch(state)) {
+        return Err(Stop::Refused(Refusal::NotSlashable));
+    }
+    slash(state, index, proposer, config)
+}
