@@ -14,3 +14,5 @@ pub mod IsValidMerkleBranch
 pub mod GetValidatorFromDeposit
 pub mod ProcessDeposit
 pub mod ProcessVoluntaryExit
+pub mod ProcessOperations
+pub mod ProcessBlock
