@@ -1,7 +1,7 @@
 -- What was done on the way to an outcome's value.
-use Rattle.std.proofs.Common.{◌≡◌, ◌∙◌, ◌⊎◌, ℕ, ◌+◌, ◌^◌, Bool, true, false, List, Option, Some, None, slice_get, nat_lt, if◌then◌else◌, refl, sym, ap, inl, inr}
+use Rattle.std.proofs.Common.{◌≡◌, ◌⊎◌, ℕ, ◌+◌, ◌-◌, ◌^◌, Bool, true, false, List, [], ◌∷◌, ◌++◌, length, Option, Some, None, slice_get, nat_lt, if◌then◌else◌, refl, sym, ap, inl, inr}
 use Rattle.std.proofs.lemmas.Bool.{false≢true}
-use Rattle.bc_words.specs.Outcome.{Outcome, done, refused, limited, bind, checked_add}
+use Rattle.bc_words.specs.Outcome.{Outcome, done, refused, limited, bind, checked_add, checked_sub, checked_push}
 use Rattle.spec_blocks.specs.Checks.{check, found, item_at}
 use Rattle.bc_words.specs.declared.refusal.Refusal.{Refusal}
 
@@ -58,3 +58,19 @@ found_is None x is = absurd (false≢true (ap is_done is))
 -- an item that was found
 pub item_is : {A : Type 0} (items : List A) (index : ℕ) (x : A) → item_at items index ≡ done x → slice_get items index ≡ Some x
 item_is items index x is = found_is (slice_get items index) x is
+
+-- a push that was done
+pub push_is : {A : Type 0} (limit : ℕ) (items : List A) (item : A) (more : List A) → checked_push limit items item ≡ done more → more ≡ items ++ item ∷ []
+unfolding checked_push is_done
+push_is limit items item more is = elim (chosen (nat_lt (length items) limit) _ _ _ is) [
+  | inl room ↦ sym (same_value (items ++ item ∷ []) more room.1)
+  | inr full ↦ absurd (false≢true (ap is_done full.1))
+]
+
+-- a difference that was done
+pub difference_is : (a b c : ℕ) → checked_sub a b ≡ done c → c ≡ a - b
+unfolding checked_sub is_done
+difference_is a b c is = elim (chosen (nat_lt a b) _ _ _ is) [
+  | inl less ↦ absurd (false≢true (ap is_done less.1))
+  | inr fits ↦ sym (same_value (a - b) c fits.1)
+]

@@ -4,3 +4,5 @@ pub mod SoundRegistry
 pub mod SoundPending
 pub mod Done
 pub mod SoundExits
+pub mod SoundOperations
+pub mod SoundAttestations

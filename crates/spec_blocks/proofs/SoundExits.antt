@@ -1,17 +1,17 @@
 -- An exit keeps a state sound.
-use Rattle.std.proofs.Common.{◌≡◌, ◌∙◌, ℕ, ◌+◌, ◌<◌, ◌≤◌, not, ◌==◌, nat_lt, List, [], ◌∷◌, ◌++◌, Option, Some, None, slice_get, refl, ap, subst, arith, inl, inr}
-use Rattle.std.proofs.lemmas.Bool.{eqb-true, not-false, false≢true}
+use Rattle.std.proofs.Common.{◌≡◌, ℕ, ◌<◌, ◌≤◌, not, ◌==◌, nat_lt, List, [], ◌∷◌, ◌++◌, subst, arith, inl, inr}
+use Rattle.std.proofs.lemmas.Bool.{eqb-true, not-false}
 use Rattle.bc_preset.specs.declared.presets.Preset.{Preset}
-use Rattle.bc_words.specs.Outcome.{Outcome, done, refused, checked_add}
+use Rattle.bc_words.specs.Outcome.{done, checked_add}
 use Rattle.bc_preset.specs.declared.configuration.ConfigValues.{ConfigValues}
 use Rattle.spec_state.specs.declared.plain.PlainState.{PlainState}
 use Rattle.spec_state.specs.Constants.{far_future_epoch}
 use Rattle.spec_state.specs.Accessors.{get_current_epoch, get_validator_churn_limit}
 use Rattle.spec_state.specs.Misc.{compute_activation_exit_epoch}
 use Rattle.spec_state.specs.Soundness.{IsSound}
-use Rattle.spec_blocks.specs.Checks.{item_at, found}
+use Rattle.spec_blocks.specs.Checks.{item_at}
 use Rattle.spec_blocks.specs.InitiateValidatorExit.{initiate_validator_exit, exit_queue_epoch, exit_queue_churn, exit_epochs, greatest}
-use Rattle.spec_blocks.proofs.Done.{OnTheWay, on_the_way, chosen, same_value, sum_is, item_is}
+use Rattle.spec_blocks.proofs.Done.{on_the_way, chosen, same_value, sum_is, item_is}
 use Rattle.spec_blocks.proofs.SoundRegistry.{leaving_sound}
 
 greatest_of_last : (numbers : List ℕ) (n : ℕ) → n ≤ greatest (numbers ++ n ∷ [])
