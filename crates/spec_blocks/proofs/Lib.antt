@@ -6,3 +6,5 @@ pub mod Done
 pub mod SoundExits
 pub mod SoundOperations
 pub mod SoundAttestations
+pub mod Fixed
+pub mod SoundBlock

@@ -1,10 +1,11 @@
 -- An attestation of a block keeps a state sound.
-use Rattle.std.proofs.Common.{◌≡◌, ◌∙◌, ℕ, ◌+◌, ◌-◌, ◌<◌, ◌≤◌, true, not, ◌||◌, ◌==◌, leb, nat_lt, List, length, refl, sym, ap, subst, arith, inl, inr, ◌⊎◌}
+use Rattle.std.proofs.Common.{Bool, ◌≡◌, ◌∙◌, ℕ, ◌+◌, ◌-◌, ◌<◌, ◌≤◌, true, not, ◌||◌, ◌==◌, leb, nat_lt, List, length, refl, sym, ap, subst, arith, inl, inr, ◌⊎◌}
 use Rattle.std.proofs.lemmas.Bool.{eqb-true, eqb-false, leb-true, ltb-true, or_cases}
 use Rattle.bc_words.specs.Outcome.{done, checked_add, checked_sub, checked_push}
 use Rattle.bc_words.specs.declared.refusal.Refusal.TheVariants.{AtTargetEpoch, AtSlotEpoch, AtEarly, AtLate, AtIndex, AtBits, AtSource, AtEmpty}
 use Rattle.bc_preset.specs.laws.Bounds.{HasPresetBounds}
 use Rattle.beacon_types.specs.Equality.{same_checkpoint}
+use Rattle.beacon_types.specs.declared.attestation_data.AttestationData.{AttestationData}
 use Rattle.beacon_types.specs.declared.pending_attestation.PendingAttestation.{PendingAttestation}
 use Rattle.beacon_body.specs.declared.attestation.Attestation.{Attestation}
 use Rattle.spec_state.specs.declared.plain.PlainState.{PlainState}
@@ -13,7 +14,7 @@ use Rattle.spec_state.specs.Misc.{compute_epoch_at_slot}
 use Rattle.spec_state.specs.Accessors.{get_current_epoch, get_previous_epoch, get_committee_count_per_slot, get_beacon_committee, get_attesting_indices}
 use Rattle.spec_state.specs.Soundness.{IsSound, IsSoundPending}
 use Rattle.spec_blocks.specs.Checks.{check}
-use Rattle.spec_blocks.specs.ProcessAttestation.{process_attestation, with_pending, with_current_pending, with_previous_pending}
+use Rattle.spec_blocks.specs.ProcessAttestation.{process_attestation, check_times, check_committee, with_pending, with_current_pending, with_previous_pending}
 use Rattle.spec_blocks.proofs.Done.{on_the_way, check_holds, chosen, same_value, sum_is, difference_is, push_is}
 use Rattle.spec_blocks.proofs.SoundPending.{current_sound, previous_sound}
 
@@ -71,25 +72,48 @@ either_epoch s epoch is = elim (or_cases (epoch == get_previous_epoch s) (epoch 
 early_enough : (slot delay earliest now : ℕ) → delay ≡ 1 → checked_add slot delay ≡ done earliest → leb earliest now ≡ true → slot + 1 ≤ now
 early_enough slot delay earliest now one sum low = let is = sum_is slot delay earliest sum in let below = leb-true earliest now low in omega arith
 
+-- what the checks of the vote's time say
+record InTime (s : PlainState) (voted : AttestationData) : Type 0 where
+  target : (voted.target.epoch ≡ get_previous_epoch s) ⊎ (voted.target.epoch ≡ get_current_epoch s)
+  epoch : voted.target.epoch ≡ compute_epoch_at_slot s.preset voted.slot
+  early : voted.slot + 1 ≤ s.slot
+
+in_time : (s : PlainState) (voted : AttestationData) (x : Unit {0}) → check_times s voted ≡ done x → HasPresetBounds s.preset → InTime s voted
+unfolding check_times
+in_time s voted x is bounds =
+    let target = on_the_way (check ((voted.target.epoch == get_previous_epoch s) || (voted.target.epoch == get_current_epoch s)) AtTargetEpoch) _ x is in
+    let slot = on_the_way (check (voted.target.epoch == compute_epoch_at_slot s.preset voted.slot) AtSlotEpoch) _ x target.then_done in
+    let earliest = on_the_way (checked_add voted.slot s.preset.min_attestation_inclusion_delay) _ x slot.then_done in
+    let early = on_the_way (check (leb earliest.value s.slot) AtEarly) _ x earliest.then_done in
+    record {
+      target = either_epoch s voted.target.epoch (check_holds _ AtTargetEpoch _ target.first);
+      epoch = eqb-true _ _ (check_holds _ AtSlotEpoch _ slot.first);
+      early = early_enough voted.slot s.preset.min_attestation_inclusion_delay earliest.value s.slot bounds.min_attestation_inclusion_delay earliest.first (check_holds _ AtEarly _ early.first);
+    }
+
+-- and those of its committee
+record HasCommittee (s : PlainState) (voted : AttestationData) (bits : List Bool) : Type 0 where
+  index : voted.index < get_committee_count_per_slot s voted.target.epoch
+  members : length bits ≡ length (get_beacon_committee s voted.slot voted.index)
+
+has_committee : (s : PlainState) (voted : AttestationData) (bits : List Bool) (x : Unit {0}) → check_committee s voted bits ≡ done x → HasCommittee s voted bits
+unfolding check_committee
+has_committee s voted bits x is =
+    let index = on_the_way (check (nat_lt voted.index (get_committee_count_per_slot s voted.target.epoch)) AtIndex) _ x is in
+    record { index = ltb-true _ _ (check_holds _ AtIndex _ index.first); members = eqb-true _ _ (check_holds _ AtBits x index.then_done) }
+
 -- an attestation
 pub attestation_sound : (s t : PlainState) (attestation : Attestation) (proposer : ℕ) → process_attestation s attestation proposer ≡ done t → HasPresetBounds s.preset → proposer < length s.validators → IsSound s → IsSound t
 unfolding process_attestation
 attestation_sound s t attestation proposer is bounds known sound =
-    let voted = attestation.content in
-    let target = on_the_way (check ((voted.target.epoch == get_previous_epoch s) || (voted.target.epoch == get_current_epoch s)) AtTargetEpoch) _ t is in
-    let slot = on_the_way (check (voted.target.epoch == compute_epoch_at_slot s.preset voted.slot) AtSlotEpoch) _ t target.then_done in
-    let earliest = on_the_way (checked_add voted.slot s.preset.min_attestation_inclusion_delay) _ t slot.then_done in
-    let early = on_the_way (check (leb earliest.value s.slot) AtEarly) _ t earliest.then_done in
-    let latest = on_the_way (checked_add voted.slot s.preset.slots_per_epoch) _ t early.then_done in
-    let late = on_the_way (check (leb s.slot latest.value) AtLate) _ t latest.then_done in
-    let index = on_the_way (check (nat_lt voted.index (get_committee_count_per_slot s voted.target.epoch)) AtIndex) _ t late.then_done in
-    let bits = on_the_way (check (length attestation.aggregation_bits == length (get_beacon_committee s voted.slot voted.index)) AtBits) _ t index.then_done in
-    let delay = on_the_way (checked_sub s.slot voted.slot) _ t bits.then_done in
+    let voted : AttestationData = attestation.content in
+    let times = on_the_way (check_times s voted) _ t is in
+    let committee = on_the_way (check_committee s voted attestation.aggregation_bits) _ t times.then_done in
+    let delay = on_the_way (checked_sub s.slot voted.slot) _ t committee.then_done in
     let pending : PendingAttestation = record { aggregation_bits = attestation.aggregation_bits; content = voted; inclusion_delay = delay.value; proposer_index = proposer } in
     let next = on_the_way (with_pending s pending) _ t delay.then_done in
     let some = on_the_way (check (not (length (get_attesting_indices s voted attestation.aggregation_bits) == 0)) AtEmpty) _ t next.then_done in
-    let waits : IsSoundPending s voted.target.epoch pending = waits_sound s pending (eqb-true _ _ (check_holds _ AtSlotEpoch _ slot.first))
-    (early_enough voted.slot s.preset.min_attestation_inclusion_delay earliest.value s.slot bounds.min_attestation_inclusion_delay earliest.first (check_holds _ AtEarly _ early.first))
-    (ltb-true _ _ (check_holds _ AtIndex _ index.first)) (eqb-true _ _ (check_holds _ AtBits _ bits.first)) (difference_is s.slot voted.slot delay.value delay.first) known in
-    subst IsSound (same_value next.value t some.then_done)
-    (with_pending_sound s next.value pending next.first (either_epoch s voted.target.epoch (check_holds _ AtTargetEpoch _ target.first)) waits sound)
+    let timely = in_time s voted times.value times.first bounds in
+    let seated = has_committee s voted attestation.aggregation_bits committee.value committee.first in
+    let waits : IsSoundPending s voted.target.epoch pending = waits_sound s pending timely.epoch timely.early seated.index seated.members (difference_is s.slot voted.slot delay.value delay.first) known in
+    subst IsSound (same_value next.value t some.then_done) (with_pending_sound s next.value pending next.first timely.target waits sound)

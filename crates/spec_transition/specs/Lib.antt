@@ -1,2 +1,3 @@
 pub mod ProcessSlot
 pub mod ProcessSlots
+pub mod StateTransition

@@ -1,0 +1,23 @@
+-- state_transition (beacon-chain.md, "Beacon chain state transition function"). Signatures are off.
+use Rattle.bc_words.specs.Outcome.{Outcome, done, ◌>>=◌}
+use Rattle.bc_words.specs.declared.refusal.Refusal.TheVariants.{StateRoot}
+use Rattle.bc_preset.specs.declared.configuration.ConfigValues.{ConfigValues}
+use Rattle.beacon_types.specs.Equality.{same_root}
+use Rattle.beacon_body.specs.declared.signed_block.SignedBeaconBlock.{SignedBeaconBlock}
+use Rattle.spec_state.specs.declared.plain.PlainState.{PlainState}
+use Rattle.spec_state.specs.States.{state_codec}
+use Rattle.spec_blocks.specs.Checks.{check, ◌>>◌}
+use Rattle.spec_blocks.specs.ProcessBlock.{process_block}
+use Rattle.spec_transition.specs.ProcessSlots.{Stepped, process_slots}
+
+-- state_transition(state, signed_block), with the states on which epoch processing was entered
+unfoldable pub state_transition : PlainState → SignedBeaconBlock → ConfigValues → Outcome Stepped
+state_transition state signed_block config = do
+  let block = signed_block.message
+  -- the slots up to the block's, with the block's among them
+  at_slot ← process_slots state block.slot config
+  -- the block
+  processed ← process_block at_slot.state block config
+  -- whose state root is the state's
+  check (same_root block.state_root ((state_codec processed.preset).hash_tree_root processed)) StateRoot
+  done (record at_slot { state = processed })
