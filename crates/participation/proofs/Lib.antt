@@ -1,0 +1,5 @@
+pub mod Members
+pub mod Places
+pub mod Flags
+pub mod Weighed
+pub mod Sound

@@ -1,0 +1,60 @@
+-- The members of a committee whose bit is set, from a position on: what a loop over the committee has still to mark.
+use Rattle.std.proofs.Common.{◌≡◌, ℕ, zero, suc, ◌+◌, ◌<◌, ◌≤◌, Bool, true, false, cond, List, [], ◌∷◌, length, drop, get_or, Some, None, refl, ap, ◌∙◌, arith, slice_get, slice_set}
+use Rattle.std.proofs.lemmas.List.{drop_all}
+use Rattle.spec_state.specs.Accessors.{members_with_bits}
+use Rattle.participation.specs.inside.Marks.{marked}
+
+-- those from a position on
+unfoldable pub members_from : List ℕ → List Bool → ℕ → List ℕ
+members_from members bits position = members_with_bits (drop position members) (drop position bits)
+
+pub members_begin : (members : List ℕ) (bits : List Bool) → members_from members bits 0 ≡ members_with_bits members bits
+unfolding members_from
+members_begin members bits = refl
+
+opens : (members : List ℕ) (bits : List Bool) (position : ℕ) (bit : Bool) → position < length members → Some bit ≡ slice_get bits position
+    → members_with_bits (drop position members) (drop position bits) ≡ cond bit (get_or members position 0 ∷ members_with_bits (drop (suc position) members) (drop (suc position) bits)) (members_with_bits (drop (suc position) members) (drop (suc position) bits))
+unfolding members_with_bits
+opens [] bits position bit less e = absurd (omega arith)
+opens (m ∷ members) [] position bit less e = absurd cc
+opens (m ∷ members) (b ∷ bits) zero bit less e = let same : b ≡ bit = cc in ap (λ x. cond x (m ∷ members_with_bits members bits) (members_with_bits members bits)) same
+opens (m ∷ members) (b ∷ bits) (suc position) bit less e = opens members bits position bit (omega arith) e
+
+no_bits : (members : List ℕ) → members_with_bits members [] ≡ []
+unfolding members_with_bits
+no_bits [] = refl
+no_bits (m ∷ members) = refl
+
+past_bits : (members : List ℕ) (bits : List Bool) (position : ℕ) → None ≡ slice_get bits position → members_with_bits (drop position members) (drop position bits) ≡ []
+unfolding members_with_bits
+past_bits [] [] zero e = refl
+past_bits [] [] (suc position) e = refl
+past_bits [] (b ∷ bits) zero e = refl
+past_bits [] (b ∷ bits) (suc position) e = refl
+past_bits (m ∷ members) [] zero e = refl
+past_bits (m ∷ members) [] (suc position) e = no_bits (drop position members)
+past_bits (m ∷ members) (b ∷ bits) zero e = absurd cc
+past_bits (m ∷ members) (b ∷ bits) (suc position) e = past_bits members bits position e
+
+next : (i : ℕ) → suc i ≡ i + 1
+next i = omega arith
+
+module _ (flags : List Bool) (members : List ℕ) (bits : List Bool) (position : ℕ) where
+  -- a member whose bit is set is marked
+  pub member_marked : position < length members → Some true ≡ slice_get bits position → marked flags (members_from members bits position) ≡ marked (slice_set flags (get_or members position 0) true) (members_from members bits (position + 1))
+  unfolding members_from marked
+  member_marked less e = ap (marked flags) (opens members bits position true less e) ∙ ap (λ n. marked (slice_set flags (get_or members position 0) true) (members_from members bits n)) (next position)
+
+  pub member_passed_over : position < length members → Some false ≡ slice_get bits position → marked flags (members_from members bits position) ≡ marked flags (members_from members bits (position + 1))
+  unfolding members_from
+  member_passed_over less e = ap (marked flags) (opens members bits position false less e) ∙ ap (λ n. marked flags (members_from members bits n)) (next position)
+
+  pub bits_end : None ≡ slice_get bits position → marked flags (members_from members bits position) ≡ flags
+  unfolding members_from marked
+  bits_end e = ap (marked flags) (past_bits members bits position e)
+
+  pub members_end : length members ≤ position → marked flags (members_from members bits position) ≡ flags
+  unfolding members_from marked members_with_bits
+  members_end past = ap (λ ms. marked flags (members_with_bits ms (drop position bits))) (drop_all position members past)
+
+pub ruleset marking = (members_begin, member_marked, member_passed_over, bits_end, members_end)

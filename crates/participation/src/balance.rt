@@ -1,0 +1,99 @@
+//! The balance of those who attested (beacon-chain.md, "get_attesting_balance").
+
+ghost use Rattle.std.specs.Prelude.{◌≡◌, ◌≤◌, ◌+◌, ◌∷◌, max, false, slice_index_or, MatchOption};
+ghost use Rattle.std.specs.List.{AllByRecursion};
+ghost use Rattle.bc_words.specs.Outcome.{Gives, GivesExactly, checked_sum_by};
+ghost use Rattle.spec_state.specs.Misc.{effective_balance};
+ghost use Rattle.spec_state.specs.Accessors.{get_current_epoch, get_total_balance, epoch_committees};
+ghost use Rattle.spec_state.specs.Soundness.{IsSoundPending};
+ghost use Rattle.spec_epochs.specs.Helpers.{get_matching_source_attestations, get_attesting_balance};
+ghost use Rattle.participation.specs.inside.Votes.{matching};
+ghost use Rattle.participation.specs.inside.Marks.{flagged, flagged_from};
+
+use crate::attesters::attested;
+use crate::matching::Vote;
+use bc_words::{Stop, checked_add};
+use beacon_state::State;
+use committees::EpochCommittees;
+use std::alloc::Global;
+
+/// The flag of a validator; one that isn't there is not set.
+#[tactic(auto, using(crate::proofs::Weighed::flag_read))]
+pub fn flag_at(flags: &[bool], index: u64) -> bool
+    ensures { result ≡ slice_index_or flags.now index false }
+{
+    match flags.get(index as usize) {
+        Some(flag) => *flag,
+        None => false,
+    }
+}
+
+/// The effective balance of a validator, where its flag is set and it isn't slashed.
+#[tactic(auto, using(crate::proofs::Weighed::choosing))]
+fn counted(state: &State, flags: &[bool], index: u64) -> Option<u64>
+    ensures { MatchOption result (flagged_from state.now flags.now index ≡ flagged_from state.now flags.now (index + 1)) (λ balance. (balance ≡ effective_balance state.now.validators index) × (flagged_from state.now flags.now index ≡ index ∷ flagged_from state.now flags.now (index + 1))) }
+{
+    match state.validators_at(index) {
+        Some(validator) => {
+            if validator.slashed {
+                return None;
+            }
+            if !flag_at(flags, index) {
+                return None;
+            }
+            Some(validator.effective_balance)
+        }
+        None => None,
+    }
+}
+
+/// The sum of the effective balances of those whose flag is set and who aren't slashed, in Gwei.
+#[tactic(auto, using(crate::proofs::Weighed::weighing))]
+fn sum_flagged(state: &State, flags: &[bool]) -> Result<u64, Stop>
+    ensures { GivesExactly result (checked_sum_by (effective_balance state.now.validators) (flagged state.now flags.now)) }
+{
+    let mut sum = 0;
+    for index in 0..state.validators_len() {
+        match counted(state, flags, index) {
+            Some(balance) => sum = checked_add(sum, balance)?,
+            None => {}
+        }
+    }
+    Ok(sum)
+}
+
+/// The total effective balance of those who attest in the epoch's attestations that have the vote right, in Gwei
+/// (beacon-chain.md, `get_attesting_balance`). The epoch is the current or the previous one, and the committees are its own.
+#[tactic(auto, unfolding(spec_epochs::specs::Helpers::get_attesting_balance), using(crate::proofs::Flags::flagged_are))]
+pub fn vote_balance(
+    alloc: Global,
+    state: &State,
+    committees: &EpochCommittees,
+    epoch: u64,
+    vote: Vote,
+) -> Result<u64, Stop>
+    requires epoch { epoch ≤ get_current_epoch state.now }
+    requires committees { committees.now ≡ epoch_committees state.now epoch }
+    requires sound { AllByRecursion (IsSoundPending state.now epoch) (get_matching_source_attestations state.now epoch) }
+    ensures { Gives result (get_attesting_balance state.now (matching state.now vote epoch)) }
+{
+    let flags = attested(alloc, state, committees, epoch, vote)?;
+    attesting_balance(state, &flags)
+}
+
+/// The total effective balance of those whose flag is set and who aren't slashed, in Gwei: at least one increment
+/// (beacon-chain.md, `get_attesting_balance`). Refused exactly where the sum does not fit.
+#[tactic(auto, unfolding(spec_state::specs::Accessors::get_total_balance))]
+pub fn attesting_balance(state: &State, flags: &[bool]) -> Result<u64, Stop>
+    ensures { GivesExactly result (get_total_balance state.now (flagged state.now flags.now)) }
+{
+    let sum = sum_flagged(state, flags)?;
+    Ok(at_least(state.preset().effective_balance_increment, sum))
+}
+
+/// The sum, or the increment where that is greater.
+fn at_least(increment: u64, sum: u64) -> u64
+    ensures { result ≡ max increment sum }
+{
+    if sum < increment { increment } else { sum }
+}

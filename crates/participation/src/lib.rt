@@ -1,0 +1,14 @@
+//! Who attested in the pending attestations of an epoch (beacon-chain.md, "Epoch processing", "Helper functions"): a flag a
+//! validator, made in one pass over the attestations.
+//!
+//! States come from epoch processing; justification and rewards weigh what is found.
+#![tactic(auto)]
+
+mod attesters;
+mod balance;
+mod matching;
+mod pending;
+
+pub use attesters::attested;
+pub use balance::{attesting_balance, flag_at, vote_balance};
+pub use matching::{Vote, block_root_of_epoch};
