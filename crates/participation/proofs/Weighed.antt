@@ -1,5 +1,5 @@
 -- Those whose flag is set, from an index on: whom a loop over the registry has still to weigh.
-use Rattle.std.proofs.Common.{◌≡◌, ℕ, zero, suc, ◌+◌, ◌<◌, ◌≤◌, Bool, true, false, not, cond, ◌&&◌, List, [], ◌∷◌, length, filter, drop, get_or, Some, None, refl, sym, ap, ◌∙◌, subst, arith, slice_get}
+use Rattle.std.proofs.Common.{◌≡◌, ℕ, suc, ◌+◌, ◌≤◌, Bool, true, false, not, cond, List, ◌∷◌, length, filter, drop, get_or, Some, None, refl, sym, ap, ◌∙◌, arith, slice_get}
 use Rattle.std.proofs.lemmas.List.{drop_all, get_or_past}
 use Rattle.std.proofs.lemmas.Option.{get_or_from_slice_get}
 use Rattle.bc_words.specs.Outcome.{done, checked_add, checked_sum_by, checked_sum_from, StopsExactly}
@@ -11,7 +11,7 @@ use Rattle.spec_state.specs.Misc.{effective_balance}
 use Rattle.spec_state.specs.Accessors.{indices_from}
 use Rattle.balance_totals.proofs.LookedUp.{effective_some}
 use Rattle.participation.specs.inside.Marks.{flagged, flagged_from}
-use Rattle.participation.proofs.Places.{drop_at_item, drop_at_nothing, past}
+use Rattle.participation.proofs.Places.{drop_at_item, past}
 
 pub flag_some : (flags : List Bool) (index : ℕ) (flag : Bool) → Some flag ≡ slice_get flags index → flag ≡ get_or flags index false
 flag_some flags index flag e = sym (get_or_from_slice_get flags index flag false (sym e))

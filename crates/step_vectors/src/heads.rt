@@ -9,21 +9,13 @@ use ssz_codec::Ssz;
 use std::alloc::Global;
 
 /// Reads a block, and processes its header, where the number is the slot's proposer.
-pub fn process_header(
-    alloc: Global,
-    state: &mut State,
-    given: &Given,
-) -> Result<Result<(), Stop>> {
+pub fn process_header(alloc: Global, state: &mut State, given: &Given) -> Result<Result<(), Stop>> {
     let block = BeaconBlock::read(alloc, &given.input)?;
     Ok(block_head::process_header(state, &block, given.number))
 }
 
 /// Reads a body, and processes its randao reveal.
-pub fn process_randao(
-    alloc: Global,
-    state: &mut State,
-    given: &Given,
-) -> Result<Result<(), Stop>> {
+pub fn process_randao(alloc: Global, state: &mut State, given: &Given) -> Result<Result<(), Stop>> {
     let body = BeaconBlockBody::read(alloc, &given.input)?;
     Ok(block_head::process_randao::process_randao(state, &body).map_err(|_| Stop::NoMemory))
 }

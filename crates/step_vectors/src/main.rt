@@ -11,6 +11,7 @@ mod closing;
 mod exits;
 mod given;
 mod heads;
+mod justifying;
 mod slashings;
 mod slots;
 
@@ -40,6 +41,9 @@ fn call_on(alloc: Global, state: &mut State, given: &Given) -> Result<Result<(),
 
 /// Makes a call of epoch processing on the state.
 fn epoch_call_on(alloc: Global, state: &mut State, call: &str) -> Result<Result<(), Stop>> {
+    if call == "process_justification" {
+        return justifying::process_justification(alloc, state);
+    }
     match closing::closing_part(alloc, state, call) {
         Some(outcome) => Ok(outcome),
         None => bail!("no such call"),

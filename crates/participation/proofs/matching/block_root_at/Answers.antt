@@ -1,5 +1,4 @@
-use Rattle.std.proofs.Common.{◌≡◌, ◌<◌, ◌%◌, [], length, Some, None, arith}
-use Rattle.std.specs.List.{slice_get}
+use Rattle.std.proofs.Common.{◌<◌, ◌%◌, [], length, arith}
 use Rattle.std.proofs.lemmas.Option.{slice_get-get_or}
 use Rattle.bc_preset.proofs.Bounds.{preset_bounds}
 use Rattle.participation.proofs.matching.block_root_at.Goals as goal
