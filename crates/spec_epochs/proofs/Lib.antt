@@ -1,2 +1,9 @@
 pub mod Each
+pub mod EpochParts
+pub mod Fixed
+pub mod SoundEpoch
+pub mod SoundJustification
+pub mod SoundParts
+pub mod SoundUpdates
+pub mod SoundWithin
 pub mod Totals
