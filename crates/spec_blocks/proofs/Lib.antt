@@ -8,3 +8,4 @@ pub mod SoundOperations
 pub mod SoundAttestations
 pub mod Fixed
 pub mod SoundBlock
+pub mod Each

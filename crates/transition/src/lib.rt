@@ -4,6 +4,7 @@
 #![tactic(auto)]
 
 mod pending;
+pub mod process_operations;
 pub mod process_slots;
 mod soundness;
 mod step;
