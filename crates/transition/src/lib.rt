@@ -3,6 +3,7 @@
 //! States come from genesis, from files, and from the transition itself.
 #![tactic(auto)]
 
+mod get_beacon_proposer_index;
 mod pending;
 pub mod process_operations;
 pub mod process_slots;

@@ -74,7 +74,11 @@ fn attester_slashings(
 
 /// One voluntary exit.
 #[tactic(auto, unfolding(crate::specs::inside::Operations::by_exit))]
-fn voluntary_exit(state: &mut State, exit: &SignedVoluntaryExit, config: &Config) -> Result<(), Stop>
+fn voluntary_exit(
+    state: &mut State,
+    exit: &SignedVoluntaryExit,
+    config: &Config,
+) -> Result<(), Stop>
     ensures { Moves result state.new (by_exit config.now state.old exit.now) }
 {
     process_voluntary_exit(state, exit, config)

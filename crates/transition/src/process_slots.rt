@@ -8,13 +8,11 @@ ghost use Rattle.spec_transition.specs.ProcessSlots.{Stepped, is_last_of_epoch, 
 
 use crate::step::{States, Step};
 use bc_preset::Config;
+use bc_preset::constants::MAX_SLOTS;
 use bc_words::{Limit, NoMemory, Refusal, Stop};
 use beacon_state::State;
 use slot_step::process_slot::process_slot;
 use std::alloc::Global;
-
-/// How many slots a state is carried through at most.
-pub const MAX_SLOTS: u64 = 65_536;
 
 /// A step that has not begun: a share of the state, which entered no epoch processing.
 fn begun(alloc: Global, state: &State) -> Result<Step, NoMemory>
