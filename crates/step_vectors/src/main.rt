@@ -4,6 +4,9 @@
 //! `data/cases` lists the cases. Each is a folder of `data/`: `call` names the call, with a number behind some, `pre.ssz` is
 //! the state before it, `input.ssz` what it takes beside the state, where it takes something, `config.yaml` the
 //! configuration, and `answer` what it answers. A module of the program has the calls of one crate.
+//!
+//! `data/matching_votes.ssz` is a state whose previous epoch has 13 attestations. Counted outside, by its bytes alone, 11 have
+//! the right target, 10 of these the right head, and these have 34 bits set.
 #![tactic(auto)]
 
 mod answers;
@@ -14,6 +17,7 @@ mod heads;
 mod justifying;
 mod slashings;
 mod slots;
+mod votes;
 
 use answers::answer_line;
 use anyhow::{Result, bail};
@@ -24,6 +28,7 @@ use given::Given;
 use std::alloc::Global;
 use std::fs;
 use std::rt::Files;
+use votes::matching_line;
 
 /// Makes the call on the state.
 fn call_on(alloc: Global, state: &mut State, given: &Given) -> Result<Result<(), Stop>> {
@@ -34,6 +39,7 @@ fn call_on(alloc: Global, state: &mut State, given: &Given) -> Result<Result<(),
         "process_eth1_data" => heads::process_eth1_data(alloc, state, given),
         "process_proposer_slashing" => slashings::process_proposer_slashing(alloc, state, given),
         "process_attester_slashing" => slashings::process_attester_slashing(alloc, state, given),
+        "process_attestation" => votes::process_attestation(alloc, state, given),
         "process_voluntary_exit" => exits::process_voluntary_exit(alloc, state, given),
         call => epoch_call_on(alloc, state, call),
     }
@@ -101,6 +107,20 @@ fn run_case<R: Files + Print + AllocGlobal>(rt: &R, case: &str) -> Result<bool> 
     Ok(agrees)
 }
 
+/// Counts the attestations of a recorded state that match, and prints how many there are.
+fn run_matching<R: Files + Print + AllocGlobal>(rt: &R) -> Result<()> {
+    let alloc = rt.alloc();
+    let bytes = fs::read(rt, "matching_votes.ssz")?;
+    match State::read(alloc, &Preset::minimal(), &bytes) {
+        Ok(state) => {
+            let line = matching_line(alloc, &state)?;
+            println!(rt; "matching votes: {line}")?;
+            Ok(())
+        }
+        Err(_) => bail!("the state doesn't read"),
+    }
+}
+
 fn main(rt: HostRuntime) -> Result<()> {
     let mut failed = 0u32;
     let cases = fs::read_to_string(&rt, "cases")?;
@@ -109,6 +129,7 @@ fn main(rt: HostRuntime) -> Result<()> {
             failed = failed.saturating_add(1);
         }
     }
+    run_matching(&rt)?;
     println!(rt; "{failed} not as expected")?;
     Ok(())
 }

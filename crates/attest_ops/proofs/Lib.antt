@@ -1,0 +1,3 @@
+pub mod Attested
+pub mod Matching
+pub mod Members
