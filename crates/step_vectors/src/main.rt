@@ -11,6 +11,7 @@
 
 mod answers;
 mod closing;
+mod deposits;
 mod exits;
 mod given;
 mod heads;
@@ -40,6 +41,7 @@ fn call_on(alloc: Global, state: &mut State, given: &Given) -> Result<Result<(),
         "process_proposer_slashing" => slashings::process_proposer_slashing(alloc, state, given),
         "process_attester_slashing" => slashings::process_attester_slashing(alloc, state, given),
         "process_attestation" => votes::process_attestation(alloc, state, given),
+        "process_deposit" => deposits::process_deposit(alloc, state, given),
         "process_voluntary_exit" => exits::process_voluntary_exit(alloc, state, given),
         call => epoch_call_on(alloc, state, call),
     }
