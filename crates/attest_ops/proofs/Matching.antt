@@ -1,5 +1,6 @@
 -- Taking the attestations that match, one after another.
 use Rattle.std.proofs.Common.{◌≡◌, ℕ, zero, suc, ◌+◌, ◌<◌, ◌≤◌, Bool, true, false, cond, List, [], ◌∷◌, ◌++◌, length, get_or, drop, Some, None, slice_get, refl, sym, ap, ◌∙◌, append_assoc, arith}
+use Rattle.std.proofs.Math.ListN.{drop_of_length-le}
 use Rattle.std.specs.Prelude.{filter}
 use Rattle.std.proofs.lemmas.List.{append-nil}
 
@@ -16,11 +17,6 @@ past : {A : Type 0} (items : List A) (i : ℕ) → None ≡ slice_get items i �
 past [] i e = of_nothing (i + 1) ∙ sym (of_nothing i)
 past (x ∷ items) zero e = absurd cc
 past (x ∷ items) (suc i) e = ap (λ k. drop k (x ∷ items)) (let s : suc i + 1 ≡ suc (i + 1) = omega arith in s) ∙ past items i e
-
-none_left : {A : Type 0} (items : List A) (i : ℕ) → length items ≤ i → drop i items ≡ []
-none_left [] i h = of_nothing i
-none_left (x ∷ items) zero h = absurd (omega arith)
-none_left (x ∷ items) (suc i) h = none_left items i (omega arith)
 
 -- what is found at a place is what the definitions read there
 pub read_there : (items : List (List ℕ)) (i : ℕ) (item : List ℕ) → Some item ≡ slice_get items i → item ≡ get_or items i []
@@ -49,7 +45,7 @@ module _ {A : Type 0} (target : A → Bool) where
   no_target items i e = ap (filter target) (past items i e)
 
   pub targets_end : (items found : List A) (i : ℕ) → length items ≤ i → found ++ filter target (drop i items) ≡ found
-  targets_end items found i h = ap (λ xs. found ++ filter target xs) (none_left items i h) ∙ append-nil found
+  targets_end items found i h = ap (λ xs. found ++ filter target xs) (drop_of_length-le items h) ∙ append-nil found
 
   module _ (head : A → Bool) where
     pub head_matches : (items found : List A) (i : ℕ) (item : A) → Some item ≡ slice_get items i → target item ≡ true → head item ≡ true → (found ++ item ∷ []) ++ filter head (filter target (drop (i + 1) items)) ≡ found ++ filter head (filter target (drop i items))
@@ -70,4 +66,4 @@ module _ {A : Type 0} (target : A → Bool) where
     no_head items i e = ap (filter head) (no_target items i e)
 
     pub heads_end : (items found : List A) (i : ℕ) → length items ≤ i → found ++ filter head (filter target (drop i items)) ≡ found
-    heads_end items found i h = ap (λ xs. found ++ filter head (filter target xs)) (none_left items i h) ∙ append-nil found
+    heads_end items found i h = ap (λ xs. found ++ filter head (filter target xs)) (drop_of_length-le items h) ∙ append-nil found

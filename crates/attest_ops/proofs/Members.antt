@@ -1,5 +1,6 @@
 -- The members of a committee whose bit is set, one after another.
 use Rattle.std.proofs.Common.{◌≡◌, ℕ, zero, suc, ◌+◌, ◌<◌, ◌≤◌, Bool, true, false, cond, not, nat_eq, List, [], ◌∷◌, ◌++◌, length, get_or, drop, refl, sym, ap, ◌∙◌, append_assoc, arith}
+use Rattle.std.proofs.Math.ListN.{drop_of_length-le}
 use Rattle.std.proofs.lemmas.Bool.{ne_eqb}
 use Rattle.std.proofs.lemmas.List.{append-nil}
 use Rattle.spec_state.specs.Accessors.{members_with_bits}
@@ -40,13 +41,8 @@ one_does_not committee bits i h unset = at committee bits i h ∙ ap (λ b. cond
 here : (committee : List ℕ) (bits : List Bool) (i : ℕ) → i < length committee → is_set bits i ≡ true → from committee bits i ≡ get_or committee i 0 ∷ from committee bits (i + 1)
 here committee bits i h set_bit = at committee bits i h ∙ ap (λ b. cond b (get_or committee i 0 ∷ from committee bits (i + 1)) (from committee bits (i + 1))) set_bit
 
-none_left : (committee : List ℕ) (i : ℕ) → length committee ≤ i → drop i committee ≡ []
-none_left [] i h = dropped i
-none_left (member ∷ committee) zero h = absurd (omega arith)
-none_left (member ∷ committee) (suc i) h = none_left committee i (omega arith)
-
 from_end : (committee : List ℕ) (bits : List Bool) (i : ℕ) → length committee ≤ i → from committee bits i ≡ []
-from_end committee bits i h = ap (λ ms. members_with_bits ms (drop i bits)) (none_left committee i h) ∙ no_member (drop i bits)
+from_end committee bits i h = ap (λ ms. members_with_bits ms (drop i bits)) (drop_of_length-le committee h) ∙ no_member (drop i bits)
 
 -- ---- the list so far, before what is left
 

@@ -1,5 +1,6 @@
 -- Counting the votes for some data, one after another.
-use Rattle.std.proofs.Common.{◌≡◌, ℕ, zero, suc, ◌+◌, ◌<◌, ◌≤◌, Bool, true, false, cond, List, [], ◌∷◌, length, drop, refl, sym, ap, ◌∙◌, add_comm, zero-add, arith}
+use Rattle.std.proofs.Common.{◌≡◌, ℕ, zero, suc, ◌+◌, ◌<◌, ◌≤◌, true, false, cond, List, [], ◌∷◌, length, drop, refl, ap, ◌∙◌, add_comm, zero-add, arith}
+use Rattle.std.proofs.Math.ListN.{drop_of_length-le}
 use Rattle.std.proofs.lemmas.List.Sums.{sum_by-cons, count_by-le-length}
 use Rattle.beacon_types.specs.declared.eth1_data.Eth1Data.{Eth1Data}
 use Rattle.spec_blocks.specs.ProcessEth1Data.{same_eth1_data, votes_for}
@@ -24,14 +25,8 @@ one_for votes i voted h is = at votes i voted h ∙ ap (λ b. cond b 1 0 + votes
 pub one_against : (votes : List Eth1Data) (i : ℕ) (voted : Eth1Data) → i < length votes → is_for voted votes i ≡ false → votes_for (drop i votes) voted ≡ votes_for (drop (i + 1) votes) voted
 one_against votes i voted h is = at votes i voted h ∙ ap (λ b. cond b 1 0 + votes_for (drop (i + 1) votes) voted) is ∙ zero-add (votes_for (drop (i + 1) votes) voted)
 
-nothing_left : {A : Type 0} (items : List A) (i : ℕ) → length items ≤ i → drop i items ≡ []
-nothing_left [] zero h = refl
-nothing_left [] (suc i) h = refl
-nothing_left (x ∷ items) zero h = absurd (omega arith)
-nothing_left (x ∷ items) (suc i) h = nothing_left items i (omega arith)
-
 pub votes_end : (votes : List Eth1Data) (i : ℕ) (voted : Eth1Data) → length votes ≤ i → votes_for (drop i votes) voted ≡ 0
-votes_end votes i voted h = ap (λ vs. votes_for vs voted) (nothing_left votes i h) ∙ none voted
+votes_end votes i voted h = ap (λ vs. votes_for vs voted) (drop_of_length-le votes h) ∙ none voted
 
 pub votes_begin : (votes : List Eth1Data) (voted : Eth1Data) → votes_for (drop 0 votes) voted ≡ votes_for votes voted
 votes_begin votes voted = refl

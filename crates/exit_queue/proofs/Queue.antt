@@ -1,5 +1,6 @@
 -- The queue of those who leave, one validator of the registry at a time.
-use Rattle.std.proofs.Common.{◌≡◌, ℕ, zero, suc, ◌+◌, ◌≤◌, max, Bool, true, false, cond, not, List, [], ◌∷◌, ◌++◌, length, drop, Option, Some, None, slice_get, refl, sym, ap, ◌∙◌, add_comm, zero-add, arith}
+use Rattle.std.proofs.Common.{◌≡◌, ℕ, zero, suc, ◌+◌, ◌≤◌, max, Bool, true, false, cond, not, List, [], ◌∷◌, ◌++◌, length, drop, refl, sym, ap, ◌∙◌, add_comm, zero-add, arith}
+use Rattle.std.proofs.Math.ListN.{drop_of_length-le}
 use Rattle.std.specs.Prelude.{◌==◌}
 use Rattle.std.proofs.lemmas.Bool.{eq-eqb, ne_eqb}
 use Rattle.std.proofs.lemmas.List.Sums.{sum_by-cons}
@@ -7,7 +8,7 @@ use Rattle.bc_words.specs.Outcome.{done, refused}
 use Rattle.bc_words.specs.declared.refusal.Refusal.{Refusal}
 use Rattle.beacon_types.specs.declared.validator.Validator.{Validator}
 use Rattle.spec_state.specs.Constants.{far_future_epoch}
-use Rattle.spec_blocks.specs.Checks.{item_at, found}
+use Rattle.spec_blocks.specs.Checks.{item_at}
 use Rattle.spec_blocks.specs.InitiateValidatorExit.{exit_epochs, greatest, exit_queue_churn}
 use Rattle.exit_queue.specs.inside.Queue.{queue_end, later}
 
@@ -64,18 +65,12 @@ end_without validators i epoch why e = ap (λ vs. queue_end vs epoch) (past vali
 pub end_begins : (validators : List Validator) (epoch : ℕ) → queue_end (drop 0 validators) epoch ≡ queue_end validators epoch
 end_begins validators epoch = refl
 
-none_left : {A : Type 0} (items : List A) (i : ℕ) → length items ≤ i → drop i items ≡ []
-none_left [] zero h = refl
-none_left [] (suc i) h = refl
-none_left (x ∷ items) zero h = absurd (omega arith)
-none_left (x ∷ items) (suc i) h = none_left items i (omega arith)
-
 end_alone : (epoch : ℕ) → queue_end [] epoch ≡ epoch
 unfolding queue_end exit_epochs greatest
 end_alone epoch = omega arith
 
 pub end_of_none : (validators : List Validator) (i epoch : ℕ) → length validators ≤ i → queue_end (drop i validators) epoch ≡ epoch
-end_of_none validators i epoch h = ap (λ vs. queue_end vs epoch) (none_left validators i h) ∙ end_alone epoch
+end_of_none validators i epoch h = ap (λ vs. queue_end vs epoch) (drop_of_length-le validators h) ∙ end_alone epoch
 
 -- ---- how many leave at an epoch
 
@@ -108,4 +103,4 @@ unfolding exit_queue_churn
 churn_alone epoch = refl
 
 pub churn_of_none : (validators : List Validator) (i epoch : ℕ) → length validators ≤ i → exit_queue_churn (drop i validators) epoch ≡ 0
-churn_of_none validators i epoch h = ap (λ vs. exit_queue_churn vs epoch) (none_left validators i h) ∙ churn_alone epoch
+churn_of_none validators i epoch h = ap (λ vs. exit_queue_churn vs epoch) (drop_of_length-le validators h) ∙ churn_alone epoch

@@ -1,5 +1,6 @@
 -- Slashing one validator after another of those whose indices are in two lists.
-use Rattle.std.proofs.Common.{◌≡◌, ℕ, zero, suc, ◌+◌, ◌<◌, ◌≤◌, Bool, true, false, cond, List, [], ◌∷◌, length, get_or, drop, refl, sym, ap, ◌∙◌, arith}
+use Rattle.std.proofs.Common.{◌≡◌, ℕ, zero, suc, ◌+◌, ◌<◌, ◌≤◌, Bool, true, false, cond, List, [], ◌∷◌, length, get_or, drop, refl, ap, ◌∙◌, arith}
+use Rattle.std.proofs.Math.ListN.{drop_of_length-le}
 use Rattle.std.specs.Prelude.{◌==◌}
 use Rattle.std.specs.List.{list_any}
 use Rattle.bc_words.specs.Outcome.{Outcome, done, bind, Stops}
@@ -38,12 +39,6 @@ each_none : {S : Type 0} (step : S → ℕ → Outcome S) (state : S) → each_o
 unfolding each_of
 each_none step state = refl
 
-nothing_left : (items : List ℕ) (i : ℕ) → length items ≤ i → drop i items ≡ []
-nothing_left [] zero h = refl
-nothing_left [] (suc i) h = refl
-nothing_left (x ∷ items) zero h = absurd (omega arith)
-nothing_left (x ∷ items) (suc i) h = nothing_left items i (omega arith)
-
 module _ {S : Type 0} (step : S → ℕ → Outcome S) where
   each_here : (first second : List ℕ) (i : ℕ) (state : S) → i < length first → among second (get_or first i 0) ≡ true → each_of step state (in_both (drop i first) second) ≡ bind (step state (get_or first i 0)) (λ next. each_of step next (in_both (drop (i + 1) first) second))
   each_here first second i state h there = ap (each_of step state) (here first second i h there) ∙ each_opens step state (get_or first i 0) (in_both (drop (i + 1) first) second)
@@ -55,7 +50,7 @@ module _ {S : Type 0} (step : S → ℕ → Outcome S) where
   one_stops first second i state stop h there e = rw (each_here first second i state h there) (stops_bound stop (step state (get_or first i 0)) (λ s. each_of step s (in_both (drop (i + 1) first) second)) e)
 
   pub all_ended : (first second : List ℕ) (i : ℕ) (state : S) → length first ≤ i → each_of step state (in_both (drop i first) second) ≡ done state
-  all_ended first second i state past = ap (λ xs. each_of step state (in_both xs second)) (nothing_left first i past) ∙ ap (each_of step state) (none_in_both second) ∙ each_none step state
+  all_ended first second i state past = ap (λ xs. each_of step state (in_both xs second)) (drop_of_length-le first past) ∙ ap (each_of step state) (none_in_both second) ∙ each_none step state
 
   pub all_begin : (first second : List ℕ) (state : S) → each_of step state (in_both (drop 0 first) second) ≡ each_of step state (in_both first second)
   all_begin first second state = refl
