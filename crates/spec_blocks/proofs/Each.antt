@@ -41,14 +41,14 @@ module _ {A S : Type 0} (step : S → A → Outcome S) where
   pub item_below_stops : (items : List A) (i : ℕ) (d : A) (state : S) (stop : Stop) → i < length items → Stops stop (step state (get_or items i d)) → Stops stop (each_of step state (drop i items))
   item_below_stops items i d state stop inside e = item_stops items i (get_or items i d) state stop (slice_get-get_or items i d inside) e
 
-  -- and where the step leaves the state as it was
-  pub item_below_undone : (items : List A) (i : ℕ) (d : A) (state new : S) (stop : Stop) → i < length items → (new ≡ state) × Stops stop (step state (get_or items i d)) → Stops stop (each_of step state (drop i items))
-  item_below_undone items i d state new stop inside e = item_below_stops items i d state stop inside e.1
-
   -- behind the last item the state is the value
   pub items_end : (items : List A) (i : ℕ) (state : S) → length items ≤ i → each_of step state (drop i items) ≡ done state
   unfolding each_of
   items_end items i state past = ap (each_of step state) (drop_all i items past)
+
+  -- without items too
+  pub no_items : (items : List A) (state : S) → length items ≡ 0 → each_of step state items ≡ done state
+  no_items items state none = items_end items 0 state (omega arith)
 
   -- all items are those from the first on
   pub items_begin : (items : List A) (state : S) → each_of step state (drop 0 items) ≡ each_of step state items

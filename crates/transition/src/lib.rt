@@ -5,9 +5,11 @@
 
 mod get_beacon_proposer_index;
 mod pending;
+pub mod process_block;
 pub mod process_operations;
 pub mod process_slots;
 mod soundness;
+pub mod state_transition;
 mod step;
 
 pub use soundness::{genesis_is_sound, is_sound, sound_within_epoch};

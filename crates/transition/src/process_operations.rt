@@ -1,18 +1,28 @@
 //! The operations of a block (beacon-chain.md, "Operations").
 
-ghost use Rattle.std.specs.Prelude.{◌≡◌};
-ghost use Rattle.bc_words.specs.Outcome.{Moves};
+ghost use Rattle.std.specs.Prelude.{◌≡◌, IfOk};
+ghost use Rattle.bc_words.specs.Outcome.{Moves, GivesBy};
+ghost use Rattle.spec_state.specs.Accessors.{get_current_epoch, get_previous_epoch, epoch_committees};
 ghost use Rattle.spec_blocks.specs.Checks.{each_of};
-ghost use Rattle.transition.specs.inside.Operations.{by_proposer_slashing, by_attester_slashing, by_exit};
+ghost use Rattle.spec_blocks.specs.ProcessDeposit.{process_deposit};
+ghost use Rattle.spec_blocks.specs.ProcessOperations.{check_deposit_count, process_operations};
+ghost use Rattle.deposit_ops.specs.Indexes.{Indexes};
+ghost use Rattle.transition.specs.inside.Operations.{by_proposer_slashing, by_attester_slashing, by_attestation, by_exit};
 
+use attest_ops::process_attestation::process_attestation;
+use balance_totals::{committees_of_epoch, current_epoch, previous_epoch};
 use bc_preset::Config;
-use bc_words::Stop;
-use beacon_body::{AttesterSlashing, ProposerSlashing};
+use bc_words::{Refusal, Stop, checked_sub};
+use beacon_body::{Attestation, AttesterSlashing, BeaconBlockBody, ProposerSlashing};
 use beacon_state::State;
-use beacon_types::SignedVoluntaryExit;
+use beacon_types::{Deposit, SignedVoluntaryExit};
+use committees::EpochCommittees;
+use deposit_ops::PubkeyIndex;
+use deposit_ops::process_deposit::process_deposit;
 use exit_queue::process_voluntary_exit::process_voluntary_exit;
 use slashing_ops::process_attester_slashing::process_attester_slashing;
 use slashing_ops::process_proposer_slashing::process_proposer_slashing;
+use std::alloc::Global;
 
 /// One proposer slashing.
 #[tactic(auto, unfolding(crate::specs::inside::Operations::by_proposer_slashing))]
@@ -97,4 +107,128 @@ fn voluntary_exits(
         voluntary_exit(state, exit, config)?;
     }
     Ok(())
+}
+
+/// One attestation, with the committees of the state's previous and current epoch, which it leaves as they are.
+#[tactic(auto, using(spec_blocks::proofs::AttestedCommittees::previous_stays, spec_blocks::proofs::AttestedCommittees::current_stays), unfolding(crate::specs::inside::Operations::by_attestation))]
+fn attestation(
+    state: &mut State,
+    attestation: &Attestation,
+    proposer: u64,
+    previous: &EpochCommittees,
+    current: &EpochCommittees,
+) -> Result<(), Stop>
+    requires previous { previous.now ≡ epoch_committees state.old (get_previous_epoch state.old) }
+    requires current { current.now ≡ epoch_committees state.old (get_current_epoch state.old) }
+    ensures step { Moves result state.new (by_attestation proposer state.old attestation.now) }
+    ensures previous { IfOk result (λ _. previous.now ≡ epoch_committees state.new (get_previous_epoch state.new)) }
+    ensures current { IfOk result (λ _. current.now ≡ epoch_committees state.new (get_current_epoch state.new)) }
+{
+    process_attestation(state, attestation, proposer, previous, current)
+}
+
+/// Each attestation, in order.
+#[tactic(auto, using(spec_blocks::proofs::Each::items_begin, spec_blocks::proofs::Each::items_end, spec_blocks::proofs::Each::item_done, spec_blocks::proofs::Each::item_stops, spec_blocks::proofs::Each::item_below_done, spec_blocks::proofs::Each::item_below_stops))]
+fn each_attestation(
+    state: &mut State,
+    attestations: &[Attestation],
+    proposer: u64,
+    previous: &EpochCommittees,
+    current: &EpochCommittees,
+) -> Result<(), Stop>
+    requires previous { previous.now ≡ epoch_committees state.old (get_previous_epoch state.old) }
+    requires current { current.now ≡ epoch_committees state.old (get_current_epoch state.old) }
+    ensures { Moves result state.new (each_of (by_attestation proposer) state.old attestations.now) }
+{
+    for voted in attestations {
+        attestation(state, voted, proposer, previous, current)?;
+    }
+    Ok(())
+}
+
+/// The attestations of a block: the committees of the two epochs whose attestations may wait are made once for all of
+/// them, and not at all where there are none.
+#[tactic(auto, using(spec_blocks::proofs::Each::no_items))]
+fn attestations(
+    alloc: Global,
+    state: &mut State,
+    attestations: &[Attestation],
+    proposer: u64,
+) -> Result<(), Stop>
+    ensures { Moves result state.new (each_of (by_attestation proposer) state.old attestations.now) }
+{
+    if attestations.len() == 0 {
+        return Ok(());
+    }
+    let previous = committees_of_epoch(alloc, state, previous_epoch(state))?;
+    let current = committees_of_epoch(alloc, state, current_epoch(state))?;
+    each_attestation(state, attestations, proposer, &previous, &current)
+}
+
+/// One deposit, with the first index of each key.
+fn deposit(state: &mut State, deposit: &Deposit, keys: &mut PubkeyIndex) -> Result<(), Stop>
+    requires { Indexes keys.old state.old.validators }
+    ensures step { Moves result state.new (process_deposit state.old deposit.now) }
+    ensures keys { IfOk result (λ _. Indexes keys.new state.new.validators) }
+{
+    process_deposit(state, deposit, keys)
+}
+
+/// Each deposit, in order.
+#[tactic(auto, using(spec_blocks::proofs::Each::items_begin, spec_blocks::proofs::Each::items_end, spec_blocks::proofs::Each::item_done, spec_blocks::proofs::Each::item_stops, spec_blocks::proofs::Each::item_below_done, spec_blocks::proofs::Each::item_below_stops))]
+fn each_deposit(state: &mut State, deposits: &[Deposit], keys: &mut PubkeyIndex) -> Result<(), Stop>
+    requires { Indexes keys.old state.old.validators }
+    ensures { Moves result state.new (each_of process_deposit state.old deposits.now) }
+{
+    for brought in deposits {
+        deposit(state, brought, keys)?;
+    }
+    Ok(())
+}
+
+/// The deposits of a block: the first index of each key is looked up once for all of them, and not at all where there are
+/// none.
+#[tactic(auto, using(spec_blocks::proofs::Each::no_items))]
+fn deposits(alloc: Global, state: &mut State, deposits: &[Deposit]) -> Result<(), Stop>
+    ensures { Moves result state.new (each_of process_deposit state.old deposits.now) }
+{
+    if deposits.len() == 0 {
+        return Ok(());
+    }
+    let mut keys = PubkeyIndex::of(alloc, state)?;
+    each_deposit(state, deposits, &mut keys)
+}
+
+/// Refused where the block doesn't bring as many deposits as are due.
+#[tactic(auto, unfolding(spec_blocks::specs::ProcessOperations::check_deposit_count))]
+fn check_deposit_count(state: &State, body: &BeaconBlockBody) -> Result<(), Stop>
+    ensures { GivesBy (λ _. tt) result (check_deposit_count state.now body.now) }
+{
+    let due = checked_sub(state.eth1_data().deposit_count, state.eth1_deposit_index())?;
+    if body.deposits.len() != state.preset().max_deposits.min(due) {
+        return Err(Stop::Refused(Refusal::DepositCount));
+    }
+    Ok(())
+}
+
+/// Each operation of each list, in order (beacon-chain.md, `process_operations`). `proposer` is the block's proposer. It
+/// leaves anything in the state after a stop.
+///
+/// Refused as `DepositCount` where the block doesn't bring as many deposits as are due, and where an operation is.
+#[tactic(auto, unfolding(spec_blocks::specs::ProcessOperations::process_operations, crate::specs::inside::Operations::by_proposer_slashing, crate::specs::inside::Operations::by_attester_slashing, crate::specs::inside::Operations::by_attestation, crate::specs::inside::Operations::by_exit))]
+pub fn process_operations(
+    alloc: Global,
+    state: &mut State,
+    body: &BeaconBlockBody,
+    proposer: u64,
+    config: &Config,
+) -> Result<(), Stop>
+    ensures { Moves result state.new (process_operations state.old body.now proposer config.now) }
+{
+    check_deposit_count(state, body)?;
+    proposer_slashings(state, body.proposer_slashings.as_slice(), proposer, config)?;
+    attester_slashings(state, body.attester_slashings.as_slice(), proposer, config)?;
+    attestations(alloc, state, body.attestations.as_slice(), proposer)?;
+    deposits(alloc, state, body.deposits.as_slice())?;
+    voluntary_exits(state, body.voluntary_exits.as_slice(), config)
 }

@@ -1,0 +1,35 @@
+//! A block on a state of its slot (beacon-chain.md, "Block processing").
+
+ghost use Rattle.bc_words.specs.Outcome.{Moves};
+ghost use Rattle.spec_blocks.specs.ProcessBlock.{process_block};
+
+use crate::get_beacon_proposer_index::proposer_index;
+use crate::process_operations::process_operations;
+use bc_preset::Config;
+use bc_words::Stop;
+use beacon_body::BeaconBlock;
+use beacon_state::State;
+use block_head::process_eth1_data::process_eth1_data;
+use block_head::process_header;
+use block_head::process_randao::process_randao;
+use std::alloc::Global;
+
+/// The block's header, randomness, vote for the deposit contract, and operations (beacon-chain.md, `process_block`). It
+/// leaves anything in the state after a stop.
+///
+/// Refused, in this order: as the proposer of the slot, the header, the vote and the operations are.
+#[tactic(auto, unfolding(spec_blocks::specs::ProcessBlock::process_block))]
+pub fn process_block(
+    alloc: Global,
+    state: &mut State,
+    block: &BeaconBlock,
+    config: &Config,
+) -> Result<(), Stop>
+    ensures { Moves result state.new (process_block state.old block.now config.now) }
+{
+    let proposer = proposer_index(alloc, state)?;
+    process_header(state, block, proposer)?;
+    process_randao(state, &block.body)?;
+    process_eth1_data(state, &block.body)?;
+    process_operations(alloc, state, &block.body, proposer, config)
+}

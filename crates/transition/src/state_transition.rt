@@ -1,0 +1,39 @@
+//! The step of a state by a block (beacon-chain.md, "Beacon chain state transition function").
+
+ghost use Rattle.std.specs.Prelude.{◌≡◌, ◌/◌};
+ghost use Rattle.bc_words.specs.Outcome.{Gives};
+ghost use Rattle.spec_state.specs.Soundness.{IsSound};
+ghost use Rattle.spec_transition.specs.StateTransition.{state_transition};
+
+use crate::process_block::process_block;
+use crate::process_slots::process_slots;
+use crate::step::Step;
+use bc_preset::Config;
+use bc_words::{Refusal, Stop};
+use beacon_body::SignedBeaconBlock;
+use beacon_state::State;
+use std::alloc::Global;
+
+/// Takes the sound state through the slots up to the block's, and then through the block (beacon-chain.md,
+/// `state_transition`). The given state is untouched. The signature isn't checked.
+///
+/// Refused, in this order: as the slots and the block are, and as `StateRoot` where the block's state root isn't that of the
+/// state behind it.
+#[tactic(auto, unfolding(spec_transition::specs::StateTransition::state_transition))]
+pub fn state_transition(
+    alloc: Global,
+    state: &State,
+    block: &SignedBeaconBlock,
+    config: &Config,
+) -> Result<Step, Stop>
+    requires sound { IsSound state.now }
+    requires same_epoch { state.now.slot / state.now.preset.slots_per_epoch ≡ block.now.message.slot / state.now.preset.slots_per_epoch }
+    ensures { Gives result (state_transition state.now block.now config.now) }
+{
+    let mut step = process_slots(alloc, state, block.message.slot, config)?;
+    process_block(alloc, &mut step.state, &block.message, config)?;
+    if block.message.state_root != step.state.root() {
+        return Err(Stop::Refused(Refusal::StateRoot));
+    }
+    Ok(step)
+}
