@@ -2,3 +2,4 @@ pub mod Loop
 pub mod Tests
 pub mod Genesis
 pub mod Slots
+pub mod Blocks

@@ -1,10 +1,13 @@
 //! A block on a state of its slot (beacon-chain.md, "Block processing").
 
+ghost use Rattle.std.specs.Prelude.{◌≡◌, IfOk};
 ghost use Rattle.bc_words.specs.Outcome.{Moves};
+ghost use Rattle.spec_state.specs.Soundness.{IsSound};
 ghost use Rattle.spec_blocks.specs.ProcessBlock.{process_block};
 
 use crate::get_beacon_proposer_index::proposer_index;
 use crate::process_operations::process_operations;
+use balance_totals::current_epoch;
 use bc_preset::Config;
 use bc_words::Stop;
 use beacon_body::BeaconBlock;
@@ -14,12 +17,9 @@ use block_head::process_header;
 use block_head::process_randao::process_randao;
 use std::alloc::Global;
 
-/// The block's header, randomness, vote for the deposit contract, and operations (beacon-chain.md, `process_block`). It
-/// leaves anything in the state after a stop.
-///
-/// Refused, in this order: as the proposer of the slot, the header, the vote and the operations are.
+/// The steps of a block, one after another.
 #[tactic(auto, unfolding(spec_blocks::specs::ProcessBlock::process_block))]
-pub fn process_block(
+fn take_steps(
     alloc: Global,
     state: &mut State,
     block: &BeaconBlock,
@@ -32,4 +32,24 @@ pub fn process_block(
     process_randao(state, &block.body)?;
     process_eth1_data(state, &block.body)?;
     process_operations(alloc, state, &block.body, proposer, config)
+}
+
+/// The block's header, randomness, vote for the deposit contract, and operations (beacon-chain.md, `process_block`), on a
+/// state of the block's slot. It leaves a sound state sound, and anything in the state after a stop.
+///
+/// Refused, in this order: as the proposer of the slot, the header, the vote and the operations are.
+#[tactic(auto, using(crate::proofs::Blocks::block_sound))]
+pub fn process_block(
+    alloc: Global,
+    state: &mut State,
+    block: &BeaconBlock,
+    config: &Config,
+) -> Result<(), Stop>
+    requires slot { block.now.slot ≡ state.old.slot }
+    ensures sound { IfOk result (λ _. IsSound state.old → IsSound state.new) }
+    ensures step { Moves result state.new (process_block state.old block.now config.now) }
+{
+    state.preset().bounds();
+    let _epoch = current_epoch(state);
+    take_steps(alloc, state, block, config)
 }

@@ -47,6 +47,8 @@ fn go_to(alloc: Global, state: &State, slot: u64, config: &Config) -> Result<Ste
     requires same_epoch { state.now.slot / state.now.preset.slots_per_epoch ≡ slot / state.now.preset.slots_per_epoch }
     requires sound { IsSound state.now }
     ensures sound { IfOk result (λ step. IsSound step.state) }
+    ensures slot { IfOk result (λ step. step.state.slot ≡ slot) }
+    ensures preset { IfOk result (λ step. step.state.preset ≡ state.now.preset) }
     ensures step { Gives result (each_from (λ index. next_slot config.now) (slot - state.now.slot) state.now.slot (record { state = state.now; entered = [] })) }
 {
     state.preset().bounds();
@@ -66,6 +68,8 @@ pub fn process_slots(alloc: Global, state: &State, slot: u64, config: &Config) -
     requires sound { IsSound state.now }
     requires same_epoch { state.now.slot / state.now.preset.slots_per_epoch ≡ slot / state.now.preset.slots_per_epoch }
     ensures sound { IfOk result (λ step. IsSound step.state) }
+    ensures slot { IfOk result (λ step. step.state.slot ≡ slot) }
+    ensures preset { IfOk result (λ step. step.state.preset ≡ state.now.preset) }
     ensures step { Gives result (process_slots state.now slot config.now) }
 {
     if slot <= state.slot() {

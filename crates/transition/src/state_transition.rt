@@ -1,6 +1,6 @@
 //! The step of a state by a block (beacon-chain.md, "Beacon chain state transition function").
 
-ghost use Rattle.std.specs.Prelude.{◌≡◌, ◌/◌};
+ghost use Rattle.std.specs.Prelude.{◌≡◌, ◌/◌, IfOk};
 ghost use Rattle.bc_words.specs.Outcome.{Gives};
 ghost use Rattle.spec_state.specs.Soundness.{IsSound};
 ghost use Rattle.spec_transition.specs.StateTransition.{state_transition};
@@ -15,7 +15,7 @@ use beacon_state::State;
 use std::alloc::Global;
 
 /// Takes the sound state through the slots up to the block's, and then through the block (beacon-chain.md,
-/// `state_transition`). The given state is untouched. The signature isn't checked.
+/// `state_transition`). The given state is untouched, and the new one is sound. The signature isn't checked.
 ///
 /// Refused, in this order: as the slots and the block are, and as `StateRoot` where the block's state root isn't that of the
 /// state behind it.
@@ -28,7 +28,8 @@ pub fn state_transition(
 ) -> Result<Step, Stop>
     requires sound { IsSound state.now }
     requires same_epoch { state.now.slot / state.now.preset.slots_per_epoch ≡ block.now.message.slot / state.now.preset.slots_per_epoch }
-    ensures { Gives result (state_transition state.now block.now config.now) }
+    ensures sound { IfOk result (λ step. IsSound step.state) }
+    ensures step { Gives result (state_transition state.now block.now config.now) }
 {
     let mut step = process_slots(alloc, state, block.message.slot, config)?;
     process_block(alloc, &mut step.state, &block.message, config)?;
