@@ -1,10 +1,13 @@
 //! What totals read of one validator of a state.
 
 ghost use Rattle.std.specs.Prelude.{◌≡◌};
+ghost use Rattle.bc_words.specs.Outcome.{GivesExactly};
+ghost use Rattle.spec_blocks.specs.Checks.{item_at};
 ghost use Rattle.spec_state.specs.Predicates.{is_active_validator};
 ghost use Rattle.spec_state.specs.Misc.{effective_balance};
 ghost use Rattle.balance_totals.specs.inside.Lookups.{passes};
 
+use bc_words::{Refusal, Stop};
 use beacon_state::State;
 use beacon_types::Validator;
 
@@ -33,5 +36,25 @@ pub(crate) fn effective_at(state: &State, index: u64) -> u64
     match state.validators_at(index) {
         Some(validator) => validator.effective_balance,
         None => 0,
+    }
+}
+
+/// The validator with an index, refused exactly where the registry has none.
+pub fn validator_at(state: &State, index: u64) -> Result<Validator, Stop>
+    ensures { GivesExactly result (item_at state.now.validators index) }
+{
+    match state.validators_at(index) {
+        Some(validator) => Ok(*validator),
+        None => Err(Stop::Refused(Refusal::IndexRange)),
+    }
+}
+
+/// The balance of the validator with an index, in Gwei, refused exactly where there is none.
+pub fn balance_at(state: &State, index: u64) -> Result<u64, Stop>
+    ensures { GivesExactly result (item_at state.now.balances index) }
+{
+    match state.balances_at(index) {
+        Some(balance) => Ok(balance),
+        None => Err(Stop::Refused(Refusal::IndexRange)),
     }
 }

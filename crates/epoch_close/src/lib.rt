@@ -11,4 +11,3 @@ pub mod process_participation_record_updates;
 pub mod process_randao_mixes_reset;
 pub mod process_slashings;
 pub mod process_slashings_reset;
-mod reads;

@@ -6,7 +6,7 @@ ghost use Rattle.bc_preset.specs.Presets.{IsPreset};
 ghost use Rattle.spec_epochs.specs.Each.{validator_indices, checked_map};
 ghost use Rattle.spec_epochs.specs.ProcessEffectiveBalanceUpdates.{process_effective_balance_updates, updated_validator, is_out_of_bounds};
 
-use crate::reads::{balance_at, validator_at};
+use balance_totals::{balance_at, validator_at};
 use bc_preset::Preset;
 use bc_words::{Stop, checked_add};
 use beacon_state::State;

@@ -6,8 +6,7 @@ ghost use Rattle.spec_state.specs.Accessors.{get_current_epoch};
 ghost use Rattle.spec_epochs.specs.Each.{validator_indices, checked_map};
 ghost use Rattle.spec_epochs.specs.ProcessSlashings.{process_slashings, penalized_balance};
 
-use crate::reads::{balance_at, validator_at};
-use balance_totals::{current_epoch, total_active};
+use balance_totals::{balance_at, current_epoch, total_active, validator_at};
 use bc_words::{Stop, checked_add, checked_mul};
 use beacon_state::State;
 use beacon_types::Validator;

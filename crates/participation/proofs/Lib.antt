@@ -3,3 +3,4 @@ pub mod Places
 pub mod Flags
 pub mod Weighed
 pub mod Sound
+pub mod Entries

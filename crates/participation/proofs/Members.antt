@@ -12,7 +12,7 @@ pub members_begin : (members : List ℕ) (bits : List Bool) → members_from mem
 unfolding members_from
 members_begin members bits = refl
 
-opens : (members : List ℕ) (bits : List Bool) (position : ℕ) (bit : Bool) → position < length members → Some bit ≡ slice_get bits position
+pub opens : (members : List ℕ) (bits : List Bool) (position : ℕ) (bit : Bool) → position < length members → Some bit ≡ slice_get bits position
     → members_with_bits (drop position members) (drop position bits) ≡ cond bit (get_or members position 0 ∷ members_with_bits (drop (suc position) members) (drop (suc position) bits)) (members_with_bits (drop (suc position) members) (drop (suc position) bits))
 unfolding members_with_bits
 opens [] bits position bit less e = absurd (omega arith)
@@ -25,7 +25,7 @@ unfolding members_with_bits
 no_bits [] = refl
 no_bits (m ∷ members) = refl
 
-past_bits : (members : List ℕ) (bits : List Bool) (position : ℕ) → None ≡ slice_get bits position → members_with_bits (drop position members) (drop position bits) ≡ []
+pub past_bits : (members : List ℕ) (bits : List Bool) (position : ℕ) → None ≡ slice_get bits position → members_with_bits (drop position members) (drop position bits) ≡ []
 unfolding members_with_bits
 past_bits [] [] zero e = refl
 past_bits [] [] (suc position) e = refl
@@ -36,7 +36,7 @@ past_bits (m ∷ members) [] (suc position) e = no_bits (drop position members)
 past_bits (m ∷ members) (b ∷ bits) zero e = absurd cc
 past_bits (m ∷ members) (b ∷ bits) (suc position) e = past_bits members bits position e
 
-next : (i : ℕ) → suc i ≡ i + 1
+pub next : (i : ℕ) → suc i ≡ i + 1
 next i = omega arith
 
 module _ (flags : List Bool) (members : List ℕ) (bits : List Bool) (position : ℕ) where

@@ -1,3 +1,4 @@
 -- Words of this crate's own contracts.
 pub mod Votes
 pub mod Marks
+pub mod Inclusions

@@ -30,7 +30,7 @@ pub fn flag_at(flags: &[bool], index: u64) -> bool
 
 /// The effective balance of a validator, where its flag is set and it isn't slashed.
 #[tactic(auto, using(crate::proofs::Weighed::choosing))]
-fn counted(state: &State, flags: &[bool], index: u64) -> Option<u64>
+pub fn counted(state: &State, flags: &[bool], index: u64) -> Option<u64>
     ensures { MatchOption result (flagged_from state.now flags.now index ≡ flagged_from state.now flags.now (index + 1)) (λ balance. (balance ≡ effective_balance state.now.validators index) × (flagged_from state.now flags.now index ≡ index ∷ flagged_from state.now flags.now (index + 1))) }
 {
     match state.validators_at(index) {

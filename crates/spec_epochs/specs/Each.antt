@@ -1,7 +1,7 @@
 -- Loops of the published text that make a number, or another value, for each validator.
 use Rattle.std.specs.Prelude.{ℕ, Bool, List, [], ◌∷◌, length, ◌==◌}
 use Rattle.std.specs.List.{range_with_len, list_any}
-use Rattle.bc_words.specs.Outcome.{Outcome, done, ◌>>=◌, checked_sum}
+use Rattle.bc_words.specs.Outcome.{Outcome, done, ◌>>=◌, checked_add}
 use Rattle.spec_state.specs.declared.plain.PlainState.{PlainState}
 
 -- range(len(state.validators)): the indices of all validators
@@ -16,11 +16,17 @@ checked_map make (item ∷ items) = do
   others ← checked_map make items
   done (first ∷ others)
 
+-- the sum of a number and what each item of a list counts, from left to right; the first stop is that of all
+unfoldable pub checked_total_from : {A : Type 0} → (A → Outcome ℕ) → ℕ → List A → Outcome ℕ
+checked_total_from count sum [] = done sum
+checked_total_from count sum (item ∷ items) = do
+  number ← count item
+  more ← checked_add sum number
+  checked_total_from count more items
+
 -- the sum of what each item of a list counts
 unfoldable pub checked_total : {A : Type 0} → (A → Outcome ℕ) → List A → Outcome ℕ
-checked_total count items = do
-  numbers ← checked_map count items
-  checked_sum numbers
+checked_total count items = checked_total_from count 0 items
 
 -- whether an index is one of a list
 unfoldable pub is_among : ℕ → List ℕ → Bool

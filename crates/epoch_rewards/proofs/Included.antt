@@ -1,0 +1,35 @@
+-- The gains of proposers by those whose flag is set, from an index on.
+use Rattle.std.proofs.Common.{◌≡◌, ℕ, ◌+◌, ◌≤◌, Bool, false, not, List, ◌∷◌, Option, length, filter, get_or, refl, ap, ◌∙◌}
+use Rattle.std.proofs.lemmas.List.{drop_all}
+use Rattle.bc_words.specs.Outcome.{done, bind, Stops}
+use Rattle.bc_words.specs.declared.stop.Stop.{Stop}
+use Rattle.bc_words.proofs.Outcomes.{stops_bound}
+use Rattle.spec_state.specs.declared.plain.PlainState.{PlainState}
+use Rattle.spec_state.specs.Accessors.{indices_from}
+use Rattle.participation.specs.declared.inclusions.Inclusion.{Inclusion}
+use Rattle.participation.specs.inside.Marks.{flagged, flagged_from}
+use Rattle.epoch_rewards.specs.inside.Inclusions.{entry_at, included, all_included}
+
+module _ (state : PlainState) (flags : List Bool) (entries : List (Option Inclusion)) where
+  pub included_begins : (gains : List ℕ) → all_included state entries gains (flagged_from state flags 0) ≡ all_included state entries gains (flagged state flags)
+  unfolding flagged
+  included_begins gains = refl
+
+  pub included_ends : (gains : List ℕ) (index : ℕ) → length state.validators ≤ index → all_included state entries gains (flagged_from state flags index) ≡ done gains
+  unfolding flagged_from indices_from all_included
+  included_ends gains index over = ap (λ vs. all_included state entries gains (filter (λ i. get_or flags i false) (indices_from (λ v. not v.slashed) index vs))) (drop_all index state.validators over)
+
+  pub included_more : (gains more : List ℕ) (index : ℕ) → flagged_from state flags index ≡ index ∷ flagged_from state flags (index + 1) → included state index (entry_at entries index) gains ≡ done more
+      → all_included state entries gains (flagged_from state flags index) ≡ all_included state entries more (flagged_from state flags (index + 1))
+  unfolding all_included
+  included_more gains more index one e = ap (all_included state entries gains) one ∙ ap (λ o. bind o (λ next. all_included state entries next (flagged_from state flags (index + 1)))) e
+
+  pub included_stops : (gains : List ℕ) (index : ℕ) (stop : Stop) → flagged_from state flags index ≡ index ∷ flagged_from state flags (index + 1) → Stops stop (included state index (entry_at entries index) gains)
+      → Stops stop (all_included state entries gains (flagged_from state flags index))
+  unfolding all_included
+  included_stops gains index stop one e = rw one (stops_bound stop (included state index (entry_at entries index) gains) (λ next. all_included state entries next (flagged_from state flags (index + 1))) e)
+
+  pub included_left : (gains : List ℕ) (index : ℕ) → flagged_from state flags index ≡ flagged_from state flags (index + 1) → all_included state entries gains (flagged_from state flags index) ≡ all_included state entries gains (flagged_from state flags (index + 1))
+  included_left gains index e = ap (all_included state entries gains) e
+
+pub ruleset including = (included_begins, included_ends, included_more, included_stops, included_left)

@@ -1,0 +1,9 @@
+pub mod Divisor
+pub mod Among
+pub mod Components
+pub mod Included
+pub mod Nothing
+pub mod LeakDeltas
+pub mod Overflows
+pub mod Gained
+pub mod Joined

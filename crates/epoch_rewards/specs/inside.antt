@@ -1,0 +1,6 @@
+-- Words of this crate's own contracts.
+pub mod Divisor
+pub mod Components
+pub mod Inclusions
+pub mod Leak
+pub mod Added

@@ -1,0 +1,126 @@
+//! All rewards and penalties of an epoch (beacon-chain.md, "get_attestation_deltas").
+
+ghost use Rattle.std.specs.Prelude.{◌≡◌, slice_index};
+ghost use Rattle.bc_words.specs.Outcome.{Gives, GivesBy, GivesExactly};
+ghost use Rattle.spec_state.specs.Accessors.{get_previous_epoch, epoch_committees};
+ghost use Rattle.spec_state.specs.Soundness.{IsSoundWithinEpoch};
+ghost use Rattle.spec_epochs.specs.Each.{validator_indices, checked_map};
+ghost use Rattle.epoch_rewards.specs.inside.Added.{added};
+ghost use Rattle.spec_epochs.specs.GetAttestationDeltas.{sum_at, get_attestation_deltas};
+
+use crate::get_head_deltas::head_deltas;
+use crate::get_inactivity_penalty_deltas::inactivity_deltas;
+use crate::get_inclusion_delay_deltas::inclusion_deltas;
+use crate::get_source_deltas::source_deltas;
+use crate::get_target_deltas::target_deltas;
+use bc_words::{Stop, checked_add};
+use beacon_state::State;
+use committees::EpochCommittees;
+use spec_epochs::Deltas;
+use ssz_codec::Items;
+use std::alloc::Global;
+
+/// A number of a list, or 0 past its end.
+pub(crate) fn item(items: &Items<u64>, index: u64) -> u64
+    ensures { result ≡ slice_index items.now index }
+{
+    items.as_slice().get(index as usize).copied().unwrap_or(0)
+}
+
+/// The sum of what stands at a place of four lists.
+#[tactic(auto, unfolding(spec_epochs::specs::GetAttestationDeltas::sum_at))]
+fn sum_at(
+    a: &Items<u64>,
+    b: &Items<u64>,
+    c: &Items<u64>,
+    d: &Items<u64>,
+    index: u64,
+) -> Result<u64, Stop>
+    ensures { GivesExactly result (sum_at a.now b.now c.now d.now index) }
+{
+    let two = checked_add(item(a, index), item(b, index))?;
+    let three = checked_add(two, item(c, index))?;
+    checked_add(three, item(d, index))
+}
+
+/// The sums of what stands at each validator's place of four lists.
+#[tactic(auto, unfolding(spec_epochs::specs::Each::validator_indices), using(spec_epochs::proofs::Each::each_made))]
+fn sums(
+    alloc: Global,
+    state: &State,
+    a: &Items<u64>,
+    b: &Items<u64>,
+    c: &Items<u64>,
+    d: &Items<u64>,
+) -> Result<Vec<u64>, Stop>
+    ensures { GivesBy (λ sums. sums.items) result (checked_map (sum_at a.now b.now c.now d.now) (validator_indices state.now)) }
+{
+    let mut sums = Vec::new(alloc);
+    for index in 0..state.validators_len() {
+        sums.push(sum_at(a, b, c, d, index)?)?;
+    }
+    Ok(sums)
+}
+
+/// The five parts added up.
+#[tactic(auto, unfolding(crate::specs::inside::Added::added))]
+fn added(
+    alloc: Global,
+    state: &State,
+    source: &Deltas,
+    target: &Deltas,
+    head: &Deltas,
+    inclusion: &Deltas,
+    inactivity: &Deltas,
+) -> Result<Deltas, Stop>
+    ensures { Gives result (added state.now source.now target.now head.now inclusion.now inactivity.now) }
+{
+    let rewards = sums(
+        alloc,
+        state,
+        &source.rewards,
+        &target.rewards,
+        &head.rewards,
+        &inclusion.rewards,
+    )?;
+    let penalties = sums(
+        alloc,
+        state,
+        &source.penalties,
+        &target.penalties,
+        &head.penalties,
+        &inactivity.penalties,
+    )?;
+    Ok(Deltas {
+        rewards: Items::from_vec(rewards),
+        penalties: Items::from_vec(penalties),
+    })
+}
+
+/// What each validator gains and loses by the previous epoch's attestations (beacon-chain.md, `get_attestation_deltas`). The
+/// committees are those of the previous epoch. Refused as an overflow exactly where a sum or product does not fit.
+#[tactic(auto, unfolding(spec_epochs::specs::GetAttestationDeltas::get_attestation_deltas, crate::specs::inside::Added::added))]
+pub(crate) fn attestation_deltas(
+    alloc: Global,
+    state: &State,
+    previous: &EpochCommittees,
+) -> Result<Deltas, Stop>
+    requires sound { IsSoundWithinEpoch state.now }
+    requires committees { previous.now ≡ epoch_committees state.now (get_previous_epoch state.now) }
+    ensures { Gives result (get_attestation_deltas state.now) }
+{
+    let source = source_deltas(alloc, state, previous)?;
+    let target = target_deltas(alloc, state, previous)?;
+    let head = head_deltas(alloc, state, previous)?;
+    let inclusion = inclusion_deltas(alloc, state, previous)?;
+    let inactivity = inactivity_deltas(alloc, state, previous)?;
+    added(
+        alloc,
+        state,
+        &source,
+        &target,
+        &head,
+        &inclusion,
+        &inactivity,
+    )
+}

@@ -1,0 +1,212 @@
+//! Rewards for the inclusion of attestations (beacon-chain.md, "get_inclusion_delay_deltas").
+
+ghost use Rattle.std.specs.Prelude.{◌≡◌, length, replicate, slice_index, slice_set};
+ghost use Rattle.bc_words.specs.Outcome.{Gives, GivesBy, GivesExactly, Moves, bind, done, checked_add};
+ghost use Rattle.spec_state.specs.Accessors.{get_previous_epoch, epoch_committees};
+ghost use Rattle.spec_state.specs.Soundness.{IsSoundWithinEpoch};
+ghost use Rattle.spec_epochs.specs.Each.{validator_indices, checked_map};
+ghost use Rattle.spec_epochs.specs.GetInclusionDelayDeltas.{get_inclusion_delay_deltas};
+ghost use Rattle.participation.specs.inside.Marks.{flagged};
+ghost use Rattle.epoch_rewards.specs.inside.Divisor.{divisor_of};
+ghost use Rattle.epoch_rewards.specs.inside.Inclusions.{entry_at, included, all_included, delayed_by, own_reward, joined_reward, all_joined, joined_deltas};
+
+use crate::attested::{previous_attesters, previous_inclusions};
+use crate::eligible::is_attester;
+use crate::get_base_reward::{base_reward, divisor, proposer_reward};
+use crate::zeros::zeros;
+use bc_words::{Stop, checked_add, checked_sub};
+use beacon_state::State;
+use committees::EpochCommittees;
+use participation::{Inclusion, Vote, counted, inclusion_at};
+use spec_epochs::Deltas;
+use ssz_codec::Items;
+use std::alloc::Global;
+
+/// A number of a list, or 0 past its end.
+fn number_at(numbers: &[u64], index: u64) -> u64
+    ensures { result ≡ slice_index numbers.now index }
+{
+    numbers.get(index as usize).copied().unwrap_or(0)
+}
+
+/// Adds to the gains of a validator.
+fn add_gain(gains: &mut Vec<u64>, index: u64, reward: u64) -> Result<(), Stop>
+    ensures { Moves result gains.new.items (bind (checked_add (slice_index gains.old.items index) reward) (λ sum. done (slice_set gains.old.items index sum))) }
+{
+    let sum = checked_add(number_at(gains, index), reward)?;
+    if (index as usize) < gains.len() {
+        gains[index as usize] = sum;
+    }
+    Ok(())
+}
+
+/// Adds the gain of the proposer who included an attester.
+#[tactic(auto, unfolding(crate::specs::inside::Inclusions::included))]
+fn include(
+    gains: &mut Vec<u64>,
+    state: &State,
+    divisor: Result<u64, Stop>,
+    entries: &[Option<Inclusion>],
+    attester: u64,
+) -> Result<(), Stop>
+    requires { GivesExactly divisor (divisor_of state.now) }
+    ensures { Moves result gains.new.items (included state.now attester (entry_at entries.now attester) gains.old.items) }
+{
+    match inclusion_at(entries, attester) {
+        Some(inclusion) => {
+            let reward = proposer_reward(state, divisor, attester)?;
+            add_gain(gains, inclusion.proposer, reward)
+        }
+        None => Ok(()),
+    }
+}
+
+/// What each validator gains as a proposer, in Gwei, in order of index.
+#[tactic(auto, using(crate::proofs::Included::including))]
+fn proposer_gains(
+    alloc: Global,
+    state: &State,
+    divisor: Result<u64, Stop>,
+    flags: &[bool],
+    entries: &[Option<Inclusion>],
+) -> Result<Vec<u64>, Stop>
+    requires { GivesExactly divisor (divisor_of state.now) }
+    ensures { GivesBy (λ gains. gains.items) result (all_included state.now entries.now (replicate (length state.now.validators) 0) (flagged state.now flags.now)) }
+{
+    let mut gains = zeros(alloc, state)?;
+    for index in 0..state.validators_len() {
+        match counted(state, flags, index) {
+            Some(_) => include(&mut gains, state, divisor, entries, index)?,
+            None => {}
+        }
+    }
+    Ok(gains)
+}
+
+/// What an attester gets for an inclusion, in Gwei, after its delay.
+#[tactic(auto, unfolding(crate::specs::inside::Inclusions::delayed_by))]
+fn delayed_reward(
+    state: &State,
+    divisor: Result<u64, Stop>,
+    index: u64,
+    inclusion: Option<Inclusion>,
+) -> Result<u64, Stop>
+    requires { GivesExactly divisor (divisor_of state.now) }
+    ensures { GivesExactly result (delayed_by state.now index inclusion) }
+{
+    match inclusion {
+        Some(inclusion) => {
+            let base = base_reward(state, divisor, index)?;
+            let proposer = proposer_reward(state, divisor, index)?;
+            let most = checked_sub(base, proposer)?;
+            Ok(most.checked_div(inclusion.delay).unwrap_or(0))
+        }
+        None => Ok(0),
+    }
+}
+
+/// What a validator gets as an attester, in Gwei, where it is one.
+#[tactic(auto, unfolding(crate::specs::inside::Inclusions::own_reward))]
+fn own_reward(
+    state: &State,
+    divisor: Result<u64, Stop>,
+    flags: &[bool],
+    entries: &[Option<Inclusion>],
+    index: u64,
+) -> Result<u64, Stop>
+    requires { GivesExactly divisor (divisor_of state.now) }
+    ensures { GivesExactly result (own_reward state.now entries.now (flagged state.now flags.now) index) }
+{
+    if !is_attester(state, flags, index) {
+        return Ok(0);
+    }
+    delayed_reward(state, divisor, index, inclusion_at(entries, index))
+}
+
+/// What a validator gets, in Gwei, by its gains as a proposer and as an attester.
+#[tactic(auto, unfolding(crate::specs::inside::Inclusions::joined_reward))]
+fn joined_reward(
+    state: &State,
+    divisor: Result<u64, Stop>,
+    flags: &[bool],
+    entries: &[Option<Inclusion>],
+    gains: &[u64],
+    index: u64,
+) -> Result<u64, Stop>
+    requires { GivesExactly divisor (divisor_of state.now) }
+    ensures { GivesExactly result (joined_reward state.now entries.now (flagged state.now flags.now) gains.now index) }
+{
+    let own = own_reward(state, divisor, flags, entries, index)?;
+    checked_add(number_at(gains, index), own)
+}
+
+/// What each validator gets, in Gwei, in order of index.
+#[tactic(auto, unfolding(spec_epochs::specs::Each::validator_indices), using(spec_epochs::proofs::Each::each_made))]
+fn joined_rewards(
+    alloc: Global,
+    state: &State,
+    divisor: Result<u64, Stop>,
+    flags: &[bool],
+    entries: &[Option<Inclusion>],
+    gains: &[u64],
+) -> Result<Vec<u64>, Stop>
+    requires { GivesExactly divisor (divisor_of state.now) }
+    ensures { GivesBy (λ rewards. rewards.items) result (checked_map (joined_reward state.now entries.now (flagged state.now flags.now) gains.now) (validator_indices state.now)) }
+{
+    let mut rewards = Vec::new(alloc);
+    for index in 0..state.validators_len() {
+        rewards.push(joined_reward(state, divisor, flags, entries, gains, index)?)?;
+    }
+    Ok(rewards)
+}
+
+/// What each validator gets for inclusions, in Gwei, in order of index.
+#[tactic(auto, unfolding(crate::specs::inside::Inclusions::all_joined))]
+fn inclusion_rewards(
+    alloc: Global,
+    state: &State,
+    flags: &[bool],
+    entries: &[Option<Inclusion>],
+) -> Result<Vec<u64>, Stop>
+    ensures { GivesBy (λ rewards. rewards.items) result (all_joined state.now entries.now (flagged state.now flags.now)) }
+{
+    let divisor = divisor(state);
+    let gains = proposer_gains(alloc, state, divisor, flags, entries)?;
+    joined_rewards(alloc, state, divisor, flags, entries, &gains)
+}
+
+/// Rewards and penalties where those with a flag, the slashed aside, attested with these inclusions.
+#[tactic(auto, unfolding(crate::specs::inside::Inclusions::joined_deltas))]
+fn joined_deltas(
+    alloc: Global,
+    state: &State,
+    flags: &[bool],
+    entries: &[Option<Inclusion>],
+) -> Result<Deltas, Stop>
+    ensures { Gives result (joined_deltas state.now entries.now (flagged state.now flags.now)) }
+{
+    let rewards = inclusion_rewards(alloc, state, flags, entries)?;
+    let penalties = zeros(alloc, state)?;
+    Ok(Deltas {
+        rewards: Items::from_vec(rewards),
+        penalties: Items::from_vec(penalties),
+    })
+}
+
+/// What each validator gains by the inclusion of the previous epoch's attestations, as a proposer and as an attester
+/// (beacon-chain.md, `get_inclusion_delay_deltas`). Nobody loses by it. The committees are those of the previous epoch.
+/// Refused as an overflow exactly where a sum or product does not fit.
+#[tactic(auto, unfolding(participation::specs::inside::Votes::matching), using(crate::proofs::Joined::joined_are))]
+pub fn inclusion_deltas(
+    alloc: Global,
+    state: &State,
+    previous: &EpochCommittees,
+) -> Result<Deltas, Stop>
+    requires sound { IsSoundWithinEpoch state.now }
+    requires committees { previous.now ≡ epoch_committees state.now (get_previous_epoch state.now) }
+    ensures { Gives result (get_inclusion_delay_deltas state.now) }
+{
+    let flags = previous_attesters(alloc, state, previous, Vote::Source)?;
+    let entries = previous_inclusions(alloc, state, previous)?;
+    joined_deltas(alloc, state, &flags, &entries)
+}

@@ -1,0 +1,33 @@
+//! Rewards and penalties for the source of attestations (beacon-chain.md, "get_source_deltas").
+
+ghost use Rattle.std.specs.Prelude.{◌≡◌};
+ghost use Rattle.bc_words.specs.Outcome.{Gives};
+ghost use Rattle.spec_state.specs.Accessors.{get_previous_epoch, epoch_committees};
+ghost use Rattle.spec_state.specs.Soundness.{IsSoundWithinEpoch};
+ghost use Rattle.spec_epochs.specs.GetSourceDeltas.{get_source_deltas};
+
+use crate::attested::previous_attesters;
+use crate::get_attestation_component_deltas::component_deltas;
+use bc_words::Stop;
+use beacon_state::State;
+use committees::EpochCommittees;
+use participation::Vote;
+use spec_epochs::Deltas;
+use std::alloc::Global;
+
+/// What each validator gains and loses by the source of the previous epoch's attestations (beacon-chain.md,
+/// `get_source_deltas`). The committees are those of the previous epoch. Refused as an overflow exactly where a sum or
+/// product does not fit.
+#[tactic(auto, unfolding(spec_epochs::specs::GetSourceDeltas::get_source_deltas, participation::specs::inside::Votes::matching), using(crate::proofs::Components::component_deltas_are))]
+pub fn source_deltas(
+    alloc: Global,
+    state: &State,
+    previous: &EpochCommittees,
+) -> Result<Deltas, Stop>
+    requires sound { IsSoundWithinEpoch state.now }
+    requires committees { previous.now ≡ epoch_committees state.now (get_previous_epoch state.now) }
+    ensures { Gives result (get_source_deltas state.now) }
+{
+    let flags = previous_attesters(alloc, state, previous, Vote::Source)?;
+    component_deltas(alloc, state, &flags)
+}

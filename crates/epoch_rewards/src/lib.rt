@@ -1,0 +1,28 @@
+//! Rewards and penalties of an epoch (beacon-chain.md, "Rewards and penalties").
+//!
+//! States come from epoch processing, behind justification, and go on to the registry with their balances changed. Who
+//! attested is found in passes over the pending attestations; each part is then a pass over the registry. A file has the
+//! name of the published function that it holds.
+#![tactic(auto)]
+
+mod attested;
+mod eligible;
+mod get_attestation_component_deltas;
+mod get_attestation_deltas;
+mod get_base_reward;
+mod get_head_deltas;
+mod get_inactivity_penalty_deltas;
+mod get_inclusion_delay_deltas;
+mod get_source_deltas;
+mod get_target_deltas;
+mod leak;
+mod process_rewards_and_penalties;
+mod zeros;
+
+pub use get_head_deltas::head_deltas;
+pub use get_inactivity_penalty_deltas::inactivity_deltas;
+pub use get_inclusion_delay_deltas::inclusion_deltas;
+pub use get_source_deltas::source_deltas;
+pub use get_target_deltas::target_deltas;
+pub use process_rewards_and_penalties::process_rewards;
+pub use spec_epochs::Deltas;
