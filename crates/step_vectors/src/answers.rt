@@ -22,9 +22,16 @@ fn refused_line(alloc: Global, why: Refusal) -> Result<String> {
 pub fn answer_line(alloc: Global, state: &State, outcome: Result<(), Stop>) -> Result<String> {
     match outcome {
         Ok(()) => done_line(alloc, state),
-        Err(Stop::Refused(why)) => refused_line(alloc, why),
-        Err(Stop::Limit(Limit::Slots(slots))) => Ok(format!(in alloc; "limit Slots({slots})")?),
-        Err(Stop::Limit(Limit::Proposer)) => bail!("no proposer"),
-        Err(Stop::NoMemory) => bail!("out of memory"),
+        Err(stop) => stop_line(alloc, stop),
+    }
+}
+
+/// The line of a stop.
+pub fn stop_line(alloc: Global, stop: Stop) -> Result<String> {
+    match stop {
+        Stop::Refused(why) => refused_line(alloc, why),
+        Stop::Limit(Limit::Slots(slots)) => Ok(format!(in alloc; "limit Slots({slots})")?),
+        Stop::Limit(Limit::Proposer) => bail!("no proposer"),
+        Stop::NoMemory => bail!("out of memory"),
     }
 }

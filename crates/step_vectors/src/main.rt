@@ -17,6 +17,7 @@ mod given;
 mod heads;
 mod justifying;
 mod slashings;
+mod rewarding;
 mod slots;
 mod votes;
 
@@ -26,6 +27,7 @@ use bc_preset::{Config, Preset};
 use bc_words::Stop;
 use beacon_state::State;
 use given::Given;
+use rewarding::{deltas_answer, is_part};
 use std::alloc::Global;
 use std::fs;
 use std::rt::Files;
@@ -49,12 +51,13 @@ fn call_on(alloc: Global, state: &mut State, given: &Given) -> Result<Result<(),
 
 /// Makes a call of epoch processing on the state.
 fn epoch_call_on(alloc: Global, state: &mut State, call: &str) -> Result<Result<(), Stop>> {
-    if call == "process_justification" {
-        return justifying::process_justification(alloc, state);
-    }
-    match closing::closing_part(alloc, state, call) {
-        Some(outcome) => Ok(outcome),
-        None => bail!("no such call"),
+    match call {
+        "process_justification" => justifying::process_justification(alloc, state),
+        "process_rewards" => rewarding::process_rewards(alloc, state),
+        _ => match closing::closing_part(alloc, state, call) {
+            Some(outcome) => Ok(outcome),
+            None => bail!("no such call"),
+        },
     }
 }
 
@@ -62,6 +65,9 @@ fn epoch_call_on(alloc: Global, state: &mut State, call: &str) -> Result<Result<
 fn answer_of(alloc: Global, bytes: &[u8], given: &Given) -> Result<String> {
     let preset = Preset::minimal();
     match State::read(alloc, &preset, bytes) {
+        Ok(state) if is_part(given.name.as_str()) => {
+            deltas_answer(alloc, &state, given.name.as_str())
+        }
         Ok(mut state) => {
             let outcome = call_on(alloc, &mut state, given)?;
             answer_line(alloc, &state, outcome)

@@ -68,9 +68,9 @@ from_none epoch xs h = elim (cases_Bool (nat_eq epoch 0)) [
 ]
 
 -- the tests of a state hold exactly where it is sound
-pub sound_exactly : (s : PlainState) → IsPreset s.preset → ((figures_test s && (list_all (pending_test (epoch_committees s (get_previous_epoch s)) s (get_previous_epoch s)) s.previous_epoch_attestations
-    && list_all (pending_test (epoch_committees s (get_current_epoch s)) s (get_current_epoch s)) s.current_epoch_attestations)) ≡ true) ↔ IsSound s
-sound_exactly s is = (
+pub sound_exactly : (justified : ℕ) (s : PlainState) → IsPreset s.preset → ((figures_test justified s && (list_all (pending_test (epoch_committees s (get_previous_epoch s)) s (get_previous_epoch s)) s.previous_epoch_attestations
+    && list_all (pending_test (epoch_committees s (get_current_epoch s)) s (get_current_epoch s)) s.current_epoch_attestations)) ≡ true) ↔ IsSoundTo justified s
+sound_exactly justified s is = (
   λ h.
       let p1 = and_parts _ _ h in
       let lists = and_parts _ _ p1.1 in

@@ -12,5 +12,5 @@ mod soundness;
 pub mod state_transition;
 mod step;
 
-pub use soundness::{genesis_is_sound, is_sound, sound_within_epoch};
+pub use soundness::{genesis_is_sound, is_sound, is_sound_within_epoch, sound_within_epoch};
 pub use step::{States, Step};

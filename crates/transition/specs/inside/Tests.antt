@@ -37,8 +37,8 @@ abbrev pub passes_at : (PendingAttestation → Bool) → List PendingAttestation
 passes_at test items i = tested test (slice_get items i)
 
 -- balances, header and checkpoints, and that nothing is pending before the first epoch
-abbrev pub figures_test : PlainState → Bool
-figures_test state =
-    nat_eq (length state.balances) (length state.validators) && (nat_le state.latest_block_header.slot state.slot && (nat_le state.previous_justified_checkpoint.epoch (get_previous_epoch state)
-    && (nat_le state.current_justified_checkpoint.epoch (get_previous_epoch state) && (nat_le state.finalized_checkpoint.epoch (get_previous_epoch state)
+abbrev pub figures_test : ℕ → PlainState → Bool
+figures_test justified state =
+    nat_eq (length state.balances) (length state.validators) && (nat_le state.latest_block_header.slot state.slot && (nat_le state.previous_justified_checkpoint.epoch justified
+    && (nat_le state.current_justified_checkpoint.epoch justified && (nat_le state.finalized_checkpoint.epoch (get_previous_epoch state)
     && (not (nat_eq (get_current_epoch state) 0) || nat_eq (length state.previous_epoch_attestations) 0)))))

@@ -1,0 +1,93 @@
+//! Rewards and penalties.
+
+ghost use Rattle.std.specs.Prelude.{◌≡◌};
+ghost use Rattle.spec_state.specs.Accessors.{get_previous_epoch, epoch_committees};
+ghost use Rattle.spec_state.specs.Soundness.{IsSoundWithinEpoch};
+
+use crate::answers::stop_line;
+use anyhow::{Result, bail};
+use balance_totals::{committees_of_epoch, previous_epoch};
+use bc_words::Stop;
+use beacon_state::State;
+use committees::EpochCommittees;
+use epoch_rewards::{
+    Deltas, head_deltas, inactivity_deltas, inclusion_deltas, source_deltas, target_deltas,
+};
+use ssz_codec::Items;
+use std::alloc::Global;
+use transition::is_sound_within_epoch;
+
+/// Adds to the balances what the previous epoch's attestations bring, and takes what they cost.
+pub fn process_rewards(alloc: Global, state: &mut State) -> Result<Result<(), Stop>> {
+    if !is_sound_within_epoch(alloc, state)? {
+        bail!("the state isn't sound");
+    }
+    let previous = committees_of_epoch(alloc, state, previous_epoch(state))?;
+    Ok(epoch_rewards::process_rewards(alloc, state, &previous))
+}
+
+/// A line of numbers.
+fn numbers_line(alloc: Global, word: &str, numbers: &Items<u64>) -> Result<String> {
+    let mut line = String::from_str(alloc, word)?;
+    for number in numbers.as_slice() {
+        let more = format!(in alloc; " {number}")?;
+        line.push_str(more.as_str())?;
+    }
+    Ok(line)
+}
+
+/// The lines of rewards and penalties, or why there are none.
+fn deltas_lines(alloc: Global, outcome: Result<Deltas, Stop>) -> Result<String> {
+    match outcome {
+        Ok(deltas) => {
+            let rewards = numbers_line(alloc, "rewards", &deltas.rewards)?;
+            let penalties = numbers_line(alloc, "penalties", &deltas.penalties)?;
+            Ok(format!(in alloc; "ok\n{rewards}\n{penalties}")?)
+        }
+        Err(stop) => stop_line(alloc, stop),
+    }
+}
+
+/// A part of rewards and penalties by its name. None where there is no such part.
+fn part(
+    alloc: Global,
+    state: &State,
+    previous: &EpochCommittees,
+    call: &str,
+) -> Option<Result<Deltas, Stop>>
+    requires sound { IsSoundWithinEpoch state.now }
+    requires committees { previous.now ≡ epoch_committees state.now (get_previous_epoch state.now) }
+{
+    match call {
+        "source_deltas" => Some(source_deltas(alloc, state, previous)),
+        "target_deltas" => Some(target_deltas(alloc, state, previous)),
+        "head_deltas" => Some(head_deltas(alloc, state, previous)),
+        "inclusion_deltas" => Some(inclusion_deltas(alloc, state, previous)),
+        "inactivity_deltas" => Some(inactivity_deltas(alloc, state, previous)),
+        _ => None,
+    }
+}
+
+/// Whether the call is a part of rewards and penalties.
+pub fn is_part(call: &str) -> bool {
+    matches!(
+        call,
+        "source_deltas"
+            | "target_deltas"
+            | "head_deltas"
+            | "inclusion_deltas"
+            | "inactivity_deltas"
+    )
+}
+
+/// The answer of a part of rewards and penalties.
+pub fn deltas_answer(alloc: Global, state: &State, call: &str) -> Result<String> {
+    if !is_sound_within_epoch(alloc, state)? {
+        bail!("the state isn't sound");
+    }
+    let previous = committees_of_epoch(alloc, state, previous_epoch(state))?;
+    match part(alloc, state, &previous, call) {
+        Some(outcome) => deltas_lines(alloc, outcome),
+        None => bail!("no such part"),
+    }
+}
