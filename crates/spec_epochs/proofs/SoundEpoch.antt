@@ -164,3 +164,16 @@ epoch_sound s t config is bounds before last sound =
     let preset = leaves.preset ∙ first.preset in
     let within = within_stays p.justified p.rooted leaves (justification_sound s p.justified p.to_justified sound) in
     next_of_rotated p.rooted t p.rotated (rotation_sound p.rooted (subst HasPresetBounds (sym preset) bounds) (last_too s p.rooted preset (leaves.slot ∙ first.slot) last) within)
+
+rotated_header : (s t : PlainState) → process_participation_record_updates s ≡ t → t.latest_block_header ≡ s.latest_block_header
+unfolding process_participation_record_updates
+rotated_header s t is = ap (λ (x : PlainState). x.latest_block_header) (sym is)
+
+-- An epoch's end leaves the header of the latest block
+pub epoch_header : (s t : PlainState) (config : ConfigValues) → process_epoch s config ≡ done t → HasPresetBounds s.preset → s.slot / s.preset.slots_per_epoch < far_future_epoch → t.latest_block_header ≡ s.latest_block_header
+unfolding get_current_epoch
+epoch_header s t config is bounds before =
+    let p = parts_of s t config is in
+    let first = justification_leaves s p.justified p.to_justified in
+    let leaves = parts_leave s t config p bounds before in
+    rotated_header p.rooted t p.rotated ∙ (leaves.header ∙ first.header)

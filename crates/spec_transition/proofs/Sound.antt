@@ -22,7 +22,8 @@ either : (b : Bool) (x y : BeaconBlockHeader) (slot : ℕ) → x.slot ≡ slot �
 either true x y slot one other = one
 either false x y slot one other = other
 
-header_slot : (s : PlainState) → (block_header_of s).slot ≡ s.latest_block_header.slot
+-- the header keeps its slot
+pub header_slot : (s : PlainState) → (block_header_of s).slot ≡ s.latest_block_header.slot
 unfolding block_header_of
 header_slot s = either (same_root s.latest_block_header.state_root zero_root) _ _ s.latest_block_header.slot refl refl
 

@@ -1,9 +1,16 @@
 //! The step of a state by a block (beacon-chain.md, "Beacon chain state transition function").
 
-ghost use Rattle.std.specs.Prelude.{◌≡◌, ◌/◌, IfOk};
-ghost use Rattle.bc_words.specs.Outcome.{Gives};
+ghost use Rattle.std.specs.Prelude.{◌≡◌, ℕ, ◌/◌, ◌<◌, ◌^◌, false, IfOk};
+ghost use Rattle.bc_words.specs.Outcome.{Gives, done};
+ghost use Rattle.bc_preset.specs.Presets.{IsPreset};
+ghost use Rattle.bc_preset.specs.declared.configuration.ConfigValues.{ConfigValues};
+ghost use Rattle.beacon_types.specs.Equality.{same_root};
+ghost use Rattle.spec_state.specs.declared.plain.PlainState.{PlainState};
+ghost use Rattle.spec_state.specs.States.{state_codec};
+ghost use Rattle.spec_state.specs.Genesis.{zero_root};
 ghost use Rattle.spec_state.specs.Soundness.{IsSound};
-ghost use Rattle.spec_transition.specs.StateTransition.{state_transition};
+ghost use Rattle.spec_transition.specs.StateTransition.{IsNext, state_transition};
+ghost use Rattle.spec_transition.specs.ProcessSlots.{Stepped, process_slots};
 
 use crate::process_block::process_block;
 use crate::process_slots::process_slots;
@@ -38,3 +45,10 @@ pub fn state_transition(
     }
     Ok(step)
 }
+
+/// The law that the published checks of a block's slot and parent root hold of every block that the state transition takes:
+/// of one on a sound state whose root isn't zero, where the block's parent root is the state's header root. It does nothing
+/// when it runs.
+pub fn header_checks_hold()
+    ensures { (s : PlainState) (slot : ℕ) (config : ConfigValues) (t : Stepped) → process_slots s slot config ≡ done t → IsPreset s.preset → slot < 2 ^ 64 → same_root ((state_codec s.preset).hash_tree_root s) zero_root ≡ false → IsSound s → IsNext s t.state slot }
+{}
