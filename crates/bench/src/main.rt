@@ -1,6 +1,7 @@
 //! Measures what has to be fast, each against the hashes that it can't do without, in one run.
 //!
-//! The word behind the program's name says what to measure: `pairs`, `shuffle`, `state` or `block`. Without a word nothing is measured.
+//! The word behind the program's name says what to measure: `pairs`, `shuffle`, `state`, `registry`, `slot` or
+//! `block`. Without a word nothing is measured.
 #![tactic(auto)]
 
 mod block;
@@ -13,7 +14,7 @@ use anyhow::Result;
 use std::env;
 
 /// What is printed where no word names a measurement.
-const USAGE: &str = "name what to measure: pairs, shuffle, state or block";
+const USAGE: &str = "name what to measure: pairs, shuffle, state, registry, slot or block";
 
 fn main(rt: HostRuntime) -> Result<()> {
     let mut words = env::args(&rt)?;
@@ -21,7 +22,9 @@ fn main(rt: HostRuntime) -> Result<()> {
     match words.next() {
         Some(word) if word.as_str() == "pairs" => pairs::measure(&rt)?,
         Some(word) if word.as_str() == "shuffle" => shuffle::measure(&rt)?,
-        Some(word) if word.as_str() == "state" => state::measure(&rt)?,
+        Some(word) if word.as_str() == "state" => state::measure(&rt, 16_384)?,
+        Some(word) if word.as_str() == "registry" => state::measure(&rt, 262_144)?,
+        Some(word) if word.as_str() == "slot" => state::measure_slot(&rt)?,
         Some(word) if word.as_str() == "block" => block::measure(&rt)?,
         _ => println!(rt; "{USAGE}")?,
     }

@@ -75,9 +75,9 @@ idempotent : (entry : Option Inclusion) (new : Inclusion) → better (better ent
 unfolding better
 idempotent None new = ap (λ b. cond b (Some new) (Some new)) (le-leb new.delay new.delay (omega arith))
 idempotent (Some kept) new = elim (cases_Bool (leb kept.delay new.delay)) as (λ _. better (better (Some kept) new) new ≡ better (Some kept) new) [
-    | inl t ↦ ap (λ b. better (cond b (Some kept) (Some new)) new) t
-    | inr f ↦ ap (λ b. better (cond b (Some kept) (Some new)) new) f ∙ ap (λ b. cond b (Some new) (Some new)) (le-leb new.delay new.delay (omega arith)) ∙ sym (ap (λ b. cond b (Some kept) (Some new)) f)
-  ]
+  | inl t ↦ ap (λ b. better (cond b (Some kept) (Some new)) new) t
+  | inr f ↦ ap (λ b. better (cond b (Some kept) (Some new)) new) f ∙ ap (λ b. cond b (Some new) (Some new)) (le-leb new.delay new.delay (omega arith)) ∙ sym (ap (λ b. cond b (Some kept) (Some new)) f)
+]
 
 pub length-put : (entries : List (Option Inclusion)) (indices : List ℕ) (new : Inclusion) → length (put entries indices new) ≡ length entries
 unfolding put
@@ -103,15 +103,15 @@ get_or-put entries (index ∷ indices) new k less =
     let after = set entries index (better (get_or entries index None) new) in
     get_or-put after indices new k (omega (arith, length-set entries index (better (get_or entries index None) new)))
     ∙ elim (cases_eq index k) as (λ _. taken (list_any (λ other. eqb other k) indices) (get_or after k None) new ≡ taken (eqb index k || list_any (λ other. eqb other k) indices) (get_or entries k None) new) [
-        | inl e ↦
-            ap (λ i. taken (list_any (λ other. eqb other k) indices) (get_or (set entries i (better (get_or entries i None) new)) k None) new) e
-            ∙ ap (λ entry. taken (list_any (λ other. eqb other k) indices) entry new) (get_or-set_same entries k (better (get_or entries k None) new) None less)
-            ∙ same_taken (list_any (λ other. eqb other k) indices) (get_or entries k None) new
-            ∙ sym (ap (λ b. taken (b || list_any (λ other. eqb other k) indices) (get_or entries k None) new) (eq-eqb index k e))
-        | inr ne ↦
-            ap (λ entry. taken (list_any (λ other. eqb other k) indices) entry new) (get_or-set_other entries index k (better (get_or entries index None) new) None (λ e. ne (sym e)))
-            ∙ sym (ap (λ b. taken (b || list_any (λ other. eqb other k) indices) (get_or entries k None) new) (ne_eqb index k ne))
-      ]
+      | inl e ↦
+          ap (λ i. taken (list_any (λ other. eqb other k) indices) (get_or (set entries i (better (get_or entries i None) new)) k None) new) e
+          ∙ ap (λ entry. taken (list_any (λ other. eqb other k) indices) entry new) (get_or-set_same entries k (better (get_or entries k None) new) None less)
+          ∙ same_taken (list_any (λ other. eqb other k) indices) (get_or entries k None) new
+          ∙ sym (ap (λ b. taken (b || list_any (λ other. eqb other k) indices) (get_or entries k None) new) (eq-eqb index k e))
+      | inr ne ↦
+          ap (λ entry. taken (list_any (λ other. eqb other k) indices) entry new) (get_or-set_other entries index k (better (get_or entries index None) new) None (λ e. ne (sym e)))
+          ∙ sym (ap (λ b. taken (b || list_any (λ other. eqb other k) indices) (get_or entries k None) new) (ne_eqb index k ne))
+    ]
 
 -- the best of an entry and the inclusions of some attestations, in order
 all_better : Option Inclusion → List PendingAttestation → Option Inclusion
@@ -137,31 +137,31 @@ get_or-all_put state entries (a ∷ attestations) k less =
 better_of : (c x y : Inclusion) → better (better (Some c) x) y ≡ better (Some c) (cond (leb x.delay y.delay) x y)
 unfolding better
 better_of c x y = elim (cases_Bool (leb c.delay x.delay)) as (λ _. better (better (Some c) x) y ≡ better (Some c) (cond (leb x.delay y.delay) x y)) [
-    | inl cx ↦ elim (cases_Bool (leb x.delay y.delay)) as (λ _. better (better (Some c) x) y ≡ better (Some c) (cond (leb x.delay y.delay) x y)) [
-        | inl xy ↦
-            ap (λ b. better (cond b (Some c) (Some x)) y) cx
-            ∙ ap (λ b. cond b (Some c) (Some y)) (le-leb c.delay y.delay (omega (arith, leb-true c.delay x.delay cx, leb-true x.delay y.delay xy)))
-            ∙ sym (ap (λ b. better (Some c) (cond b x y)) xy ∙ ap (λ b. cond b (Some c) (Some x)) cx)
-        | inr yx ↦ ap (λ b. better (cond b (Some c) (Some x)) y) cx ∙ sym (ap (λ b. better (Some c) (cond b x y)) yx)
-      ]
-    | inr xc ↦ elim (cases_Bool (leb x.delay y.delay)) as (λ _. better (better (Some c) x) y ≡ better (Some c) (cond (leb x.delay y.delay) x y)) [
-        | inl xy ↦
-            ap (λ b. better (cond b (Some c) (Some x)) y) xc
-            ∙ ap (λ b. cond b (Some x) (Some y)) xy
-            ∙ sym (ap (λ b. better (Some c) (cond b x y)) xy ∙ ap (λ b. cond b (Some c) (Some x)) xc)
-        | inr yx ↦
-            ap (λ b. better (cond b (Some c) (Some x)) y) xc
-            ∙ ap (λ b. cond b (Some x) (Some y)) yx
-            ∙ sym (ap (λ b. better (Some c) (cond b x y)) yx ∙ ap (λ b. cond b (Some c) (Some y)) (lt-leb c.delay y.delay (omega (arith, leb-false x.delay y.delay yx, leb-false c.delay x.delay xc))))
-      ]
+  | inl cx ↦ elim (cases_Bool (leb x.delay y.delay)) as (λ _. better (better (Some c) x) y ≡ better (Some c) (cond (leb x.delay y.delay) x y)) [
+    | inl xy ↦
+        ap (λ b. better (cond b (Some c) (Some x)) y) cx
+        ∙ ap (λ b. cond b (Some c) (Some y)) (le-leb c.delay y.delay (omega (arith, leb-true c.delay x.delay cx, leb-true x.delay y.delay xy)))
+        ∙ sym (ap (λ b. better (Some c) (cond b x y)) xy ∙ ap (λ b. cond b (Some c) (Some x)) cx)
+    | inr yx ↦ ap (λ b. better (cond b (Some c) (Some x)) y) cx ∙ sym (ap (λ b. better (Some c) (cond b x y)) yx)
   ]
+  | inr xc ↦ elim (cases_Bool (leb x.delay y.delay)) as (λ _. better (better (Some c) x) y ≡ better (Some c) (cond (leb x.delay y.delay) x y)) [
+    | inl xy ↦
+        ap (λ b. better (cond b (Some c) (Some x)) y) xc
+        ∙ ap (λ b. cond b (Some x) (Some y)) xy
+        ∙ sym (ap (λ b. better (Some c) (cond b x y)) xy ∙ ap (λ b. cond b (Some c) (Some x)) xc)
+    | inr yx ↦
+        ap (λ b. better (cond b (Some c) (Some x)) y) xc
+        ∙ ap (λ b. cond b (Some x) (Some y)) yx
+        ∙ sym (ap (λ b. better (Some c) (cond b x y)) yx ∙ ap (λ b. cond b (Some c) (Some y)) (lt-leb c.delay y.delay (omega (arith, leb-false x.delay y.delay yx, leb-false c.delay x.delay xc))))
+  ]
+]
 
 better_first : (x y : Inclusion) → better (Some x) y ≡ better None (cond (leb x.delay y.delay) x y)
 unfolding better
 better_first x y = elim (cases_Bool (leb x.delay y.delay)) as (λ _. better (Some x) y ≡ better None (cond (leb x.delay y.delay) x y)) [
-    | inl t ↦ ap (λ b. cond b (Some x) (Some y)) t ∙ sym (ap (λ b. better None (cond b x y)) t)
-    | inr f ↦ ap (λ b. cond b (Some x) (Some y)) f ∙ sym (ap (λ b. better None (cond b x y)) f)
-  ]
+  | inl t ↦ ap (λ b. cond b (Some x) (Some y)) t ∙ sym (ap (λ b. better None (cond b x y)) t)
+  | inr f ↦ ap (λ b. cond b (Some x) (Some y)) f ∙ sym (ap (λ b. better None (cond b x y)) f)
+]
 
 better_twice : (entry : Option Inclusion) (x y : Inclusion) → better (better entry x) y ≡ better entry (cond (leb x.delay y.delay) x y)
 unfolding better
@@ -200,10 +200,10 @@ entries_are state attestations =
     let first : ℕ → Option Inclusion = λ index. option_map entry_of (first_of_least_delay (filter (attests state index) attestations)) in
     let len : length none ≡ count = length-replicate count None in
     ext_get_or None (all_put state none attestations) (map first (range_with_len 0 count))
-      (length-all_put state none attestations ∙ len ∙ sym (length-map-range_with_len first 0 count))
-      (λ k less. let below : k < count = omega (arith, less, length-all_put state none attestations, len) in
-        get_or-all_put state none attestations k (omega (arith, len))
-        ∙ ap (λ entry. all_better entry (filter (attests state k) attestations)) (get_or-replicate count k None None below)
-        ∙ all_better_is None (filter (attests state k) attestations)
-        ∙ from_none (first_of_least_delay (filter (attests state k) attestations))
-        ∙ sym (get_or-map-range_with_len first 0 count k k None below (omega arith)))
+    (length-all_put state none attestations ∙ len ∙ sym (length-map-range_with_len first 0 count))
+    (λ k less. let below : k < count = omega (arith, less, length-all_put state none attestations, len) in
+    get_or-all_put state none attestations k (omega (arith, len))
+    ∙ ap (λ entry. all_better entry (filter (attests state k) attestations)) (get_or-replicate count k None None below)
+    ∙ all_better_is None (filter (attests state k) attestations)
+    ∙ from_none (first_of_least_delay (filter (attests state k) attestations))
+    ∙ sym (get_or-map-range_with_len first 0 count k k None below (omega arith)))

@@ -95,12 +95,7 @@ fn put_attesters(
         proposer: attestation.proposer_index,
     };
     match committees.committee(content.slot, content.index) {
-        Some(members) => put_members(
-            entries,
-            members,
-            &attestation.aggregation_bits,
-            inclusion,
-        ),
+        Some(members) => put_members(entries, members, &attestation.aggregation_bits, inclusion),
         None => {}
     }
 }

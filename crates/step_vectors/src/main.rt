@@ -16,8 +16,8 @@ mod exits;
 mod given;
 mod heads;
 mod justifying;
-mod slashings;
 mod rewarding;
+mod slashings;
 mod slots;
 mod votes;
 

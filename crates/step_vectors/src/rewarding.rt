@@ -72,11 +72,7 @@ fn part(
 pub fn is_part(call: &str) -> bool {
     matches!(
         call,
-        "source_deltas"
-            | "target_deltas"
-            | "head_deltas"
-            | "inclusion_deltas"
-            | "inactivity_deltas"
+        "source_deltas" | "target_deltas" | "head_deltas" | "inclusion_deltas" | "inactivity_deltas"
     )
 }
 
