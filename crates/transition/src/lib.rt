@@ -4,6 +4,7 @@
 #![tactic(auto)]
 
 mod get_beacon_proposer_index;
+pub mod operations_keep_sound;
 mod pending;
 pub mod process_block;
 pub mod process_operations;
