@@ -1,6 +1,6 @@
 -- An attestation leaves the committees of the state's epochs as they are.
-use Rattle.std.proofs.Common.{◌≡◌, ◌∙◌, ℕ, not, ◌==◌, List, length, refl, sym, subst, inl, inr}
-use Rattle.bc_words.specs.Outcome.{Outcome, done, checked_sub, checked_push}
+use Rattle.std.proofs.Common.{◌≡◌, ℕ, not, ◌==◌, List, length, refl, subst, inl, inr}
+use Rattle.bc_words.specs.Outcome.{done, checked_sub, checked_push}
 use Rattle.bc_words.specs.declared.refusal.Refusal.TheVariants.{AtSource, AtEmpty}
 use Rattle.beacon_types.specs.Equality.{same_checkpoint}
 use Rattle.beacon_types.specs.declared.attestation_data.AttestationData.{AttestationData}
@@ -11,7 +11,7 @@ use Rattle.spec_state.specs.States.{attestations_limit}
 use Rattle.spec_state.specs.Accessors.{get_current_epoch, get_previous_epoch, get_attesting_indices, epoch_committees, get_active_validator_indices, get_randao_mix}
 use Rattle.spec_blocks.specs.Checks.{check}
 use Rattle.spec_blocks.specs.ProcessAttestation.{process_attestation, check_times, check_committee, with_pending, with_current_pending, with_previous_pending}
-use Rattle.spec_blocks.proofs.Done.{OnTheWay, on_the_way, chosen, same_value}
+use Rattle.spec_blocks.proofs.Done.{on_the_way, chosen, same_value}
 
 -- the committees of the two epochs whose attestations may wait
 pub record Seated (s t : PlainState) : Type 0 where

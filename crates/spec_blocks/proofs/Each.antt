@@ -1,6 +1,6 @@
 -- Steps for the items of a list, one at a time. A loop over the items names `each_item` in its #[tactic(auto, using(..))] and
 -- has the invariant `each_of step state (drop i items) ≡ each_of step old items`.
-use Rattle.std.proofs.Common.{◌≡◌, ℕ, zero, suc, ◌+◌, ◌<◌, ◌≤◌, Option, Some, None, List, [], ◌∷◌, length, drop, get_or, slice_get, refl, sym, ap, ap₂, ◌∙◌, arith}
+use Rattle.std.proofs.Common.{◌≡◌, ℕ, suc, ◌+◌, ◌<◌, ◌≤◌, Option, Some, None, List, ◌∷◌, length, drop, get_or, slice_get, refl, sym, ap, ap₂, ◌∙◌, arith}
 use Rattle.std.proofs.lemmas.List.{drop_all}
 use Rattle.std.proofs.lemmas.Option.{slice_get_within, slice_get-get_or}
 use Rattle.std.proofs.Math.Seq.{drop-cons}
@@ -53,3 +53,6 @@ module _ {A S : Type 0} (step : S → A → Outcome S) where
   -- all items are those from the first on
   pub items_begin : (items : List A) (state : S) → each_of step state (drop 0 items) ≡ each_of step state items
   items_begin items state = refl
+
+-- what a loop over the items needs
+pub ruleset each_item = (items_begin, items_end, item_done, item_stops, item_below_done, item_below_stops)

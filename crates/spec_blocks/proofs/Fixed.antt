@@ -1,8 +1,8 @@
 -- Each operation of a block leaves the preset and the slot of a state, and takes nobody out of the registry.
-use Rattle.std.proofs.Common.{◌≡◌, ◌∙◌, ℕ, ◌+◌, ◌-◌, ◌%◌, ◌/◌, ◌<◌, ◌≤◌, Bool, true, max, not, ◌==◌, leb, List, [], ◌∷◌, ◌++◌, Option, Some, None, length, slice_get, slice_set, refl, sym, ap, ap₂, subst, length-append, arith, inl, inr}
+use Rattle.std.proofs.Common.{◌≡◌, ◌∙◌, ℕ, ◌+◌, ◌-◌, ◌%◌, ◌/◌, ◌≤◌, true, max, not, ◌==◌, leb, List, [], ◌∷◌, ◌++◌, Option, Some, None, length, slice_set, sym, ap₂, subst, length-append, arith, inl, inr}
 use Rattle.std.proofs.lemmas.List.{length-set}
 use Rattle.bc_words.specs.Outcome.{done, checked_add, checked_sub, checked_push}
-use Rattle.bc_words.specs.declared.refusal.Refusal.TheVariants.{WrongProposer, ProposerSlashed, ExInactive, ExLeaving, ExEarly, ExYoung, PsSlots, PsProposers, PsSame, NotSlashable, DpBranch}
+use Rattle.bc_words.specs.declared.refusal.Refusal.TheVariants.{ExInactive, ExLeaving, ExEarly, ExYoung, PsSlots, PsProposers, PsSame, NotSlashable, DpBranch}
 use Rattle.bc_preset.specs.declared.presets.Preset.{Preset}
 use Rattle.bc_preset.specs.declared.configuration.ConfigValues.{ConfigValues}
 use Rattle.beacon_types.specs.declared.validator.Validator.{Validator}
@@ -10,31 +10,27 @@ use Rattle.beacon_types.specs.declared.signed_exit.SignedVoluntaryExit.{SignedVo
 use Rattle.beacon_types.specs.declared.deposit.Deposit.{Deposit}
 use Rattle.beacon_types.specs.Containers.{deposit_contract_tree_depth, deposit_data_codec}
 use Rattle.beacon_body.specs.declared.proposer_slashing.ProposerSlashing.{ProposerSlashing}
-use Rattle.beacon_body.specs.declared.block.BeaconBlock.{BeaconBlock}
 use Rattle.spec_state.specs.declared.plain.PlainState.{PlainState}
 use Rattle.spec_state.specs.Constants.{far_future_epoch}
 use Rattle.spec_state.specs.Predicates.{is_active_validator, is_slashable_validator}
 use Rattle.spec_state.specs.Accessors.{get_current_epoch}
-use Rattle.spec_state.specs.Soundness.{IsSound}
 use Rattle.spec_blocks.specs.Checks.{check, item_at}
 use Rattle.spec_blocks.specs.IncreaseBalance.{increase_balance}
 use Rattle.spec_blocks.specs.DecreaseBalance.{decrease_balance}
 use Rattle.spec_blocks.specs.InitiateValidatorExit.{initiate_validator_exit, exit_queue_epoch}
 use Rattle.spec_blocks.specs.SlashValidator.{mark_slashed, slash_validator}
-use Rattle.spec_blocks.specs.ProcessBlockHeader.{process_block_header, header_of}
 use Rattle.spec_blocks.specs.ProcessProposerSlashing.{process_proposer_slashing, same_header}
 use Rattle.spec_blocks.specs.IsValidMerkleBranch.{is_valid_merkle_branch}
 use Rattle.spec_blocks.specs.GetValidatorFromDeposit.{get_validator_from_deposit}
 use Rattle.spec_blocks.specs.ProcessDeposit.{process_deposit, add_validator, credit_deposit, index_of_pubkey}
 use Rattle.spec_blocks.specs.ProcessVoluntaryExit.{process_voluntary_exit}
-use Rattle.spec_blocks.proofs.Done.{OnTheWay, on_the_way, check_holds, chosen, same_value, push_is}
-use Rattle.bc_words.specs.declared.refusal.Refusal.TheVariants.{AtTargetEpoch, AtSlotEpoch, AtEarly, AtLate, AtIndex, AtBits, AtSource, AtEmpty}
+use Rattle.spec_blocks.proofs.Done.{on_the_way, chosen, same_value, push_is}
+use Rattle.bc_words.specs.declared.refusal.Refusal.TheVariants.{AtSource, AtEmpty}
 use Rattle.beacon_types.specs.Equality.{same_checkpoint}
 use Rattle.beacon_types.specs.declared.pending_attestation.PendingAttestation.{PendingAttestation}
 use Rattle.beacon_body.specs.declared.attestation.Attestation.{Attestation}
 use Rattle.spec_state.specs.States.{attestations_limit}
-use Rattle.spec_state.specs.Misc.{compute_epoch_at_slot}
-use Rattle.spec_state.specs.Accessors.{get_current_epoch, get_previous_epoch, get_committee_count_per_slot, get_beacon_committee, get_attesting_indices}
+use Rattle.spec_state.specs.Accessors.{get_current_epoch, get_attesting_indices}
 use Rattle.spec_blocks.specs.ProcessAttestation.{process_attestation, check_times, check_committee, with_pending, with_current_pending, with_previous_pending}
 
 -- the preset and the slot of a state, and at least so many validators

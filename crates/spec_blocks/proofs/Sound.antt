@@ -12,6 +12,11 @@ use Rattle.spec_state.specs.Misc.{compute_epoch_at_slot}
 use Rattle.spec_state.specs.Accessors.{get_current_epoch, get_previous_epoch, get_active_validator_indices, get_seed, get_committee_count_per_slot, get_beacon_committee, indices_from}
 use Rattle.spec_state.specs.Soundness.{IsSoundPending, IsSoundTo, IsSound}
 
+-- the previous epoch is the one before the current one, or the same
+pub previous_below : (s : PlainState) → (get_previous_epoch s ≤ get_current_epoch s) × (get_current_epoch s ≤ get_previous_epoch s + 1)
+unfolding get_previous_epoch
+previous_below s = (omega arith, omega arith)
+
 -- the committees of an epoch are those of another state
 pub record SameCommittees (s t : PlainState) (epoch : ℕ) : Type 0 where
   pub preset : t.preset ≡ s.preset

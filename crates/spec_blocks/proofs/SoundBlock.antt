@@ -1,5 +1,5 @@
 -- A block keeps a state sound.
-use Rattle.std.proofs.Common.{◌≡◌, ◌∙◌, ℕ, ◌/◌, ◌<◌, ◌≤◌, ◌*◌, Bool, false, not, nat_lt, ◌==◌, List, [], ◌∷◌, length, slice_get, Some, refl, sym, ap, subst, arith, inl, inr}
+use Rattle.std.proofs.Common.{◌≡◌, ◌∙◌, ℕ, ◌/◌, ◌<◌, ◌*◌, false, not, nat_lt, ◌==◌, List, [], ◌∷◌, length, slice_get, Some, refl, sym, ap, subst, arith, inl, inr}
 use Rattle.std.proofs.lemmas.Bool.{eqb-true}
 use Rattle.std.proofs.lemmas.Option.{slice_get_within}
 use Rattle.bc_words.specs.Outcome.{Outcome, done, checked_push}
@@ -36,7 +36,7 @@ use Rattle.spec_blocks.specs.ProcessRandao.{process_randao}
 use Rattle.spec_blocks.specs.ProcessEth1Data.{process_eth1_data, votes_for}
 use Rattle.spec_blocks.specs.ProcessBlock.{process_block}
 use Rattle.spec_blocks.specs.ProcessOperations.{process_operations, check_deposit_count}
-use Rattle.spec_blocks.proofs.Done.{OnTheWay, on_the_way, chosen, same_value, check_holds, item_is}
+use Rattle.spec_blocks.proofs.Done.{on_the_way, chosen, same_value, check_holds, item_is}
 use Rattle.spec_blocks.proofs.Fixed.{Fixed, proposer_slashing_fixed, slash_fixed, attestation_fixed, deposit_fixed, voluntary_exit_fixed}
 use Rattle.spec_blocks.proofs.SoundOperations.{block_header_sound, slash_sound, proposer_slashing_sound, deposit_sound, voluntary_exit_sound}
 use Rattle.spec_blocks.proofs.SoundHeads.{eth1_sound, randao_sound}

@@ -19,7 +19,8 @@ unfolding greatest
 greatest_of_last [] n = omega arith
 greatest_of_last (m ∷ numbers) n = let rest = greatest_of_last numbers n in omega arith
 
-earliest_later : (p : Preset) (epoch earliest : ℕ) → compute_activation_exit_epoch p epoch ≡ done earliest → epoch < earliest
+-- who leaves or enters now does so later
+pub earliest_later : (p : Preset) (epoch earliest : ℕ) → compute_activation_exit_epoch p epoch ≡ done earliest → epoch < earliest
 unfolding compute_activation_exit_epoch
 earliest_later p epoch earliest is =
     let next = on_the_way (checked_add epoch 1) _ earliest is in

@@ -13,7 +13,7 @@ use Rattle.spec_state.specs.declared.plain.PlainState.{PlainState}
 use Rattle.spec_state.specs.Constants.{domain_beacon_attester}
 use Rattle.spec_state.specs.Accessors.{get_current_epoch, get_previous_epoch, get_active_validator_indices, get_seed, get_randao_mix}
 use Rattle.spec_state.specs.Soundness.{IsSound}
-use Rattle.spec_blocks.proofs.Sound.{still_sound}
+use Rattle.spec_blocks.proofs.Sound.{still_sound, previous_below}
 
 -- a sound state with the header of a block of its slot is sound
 pub header_sound : (s : PlainState) (header : BeaconBlockHeader) → header.slot ≡ s.slot → IsSound s → IsSound (record s { latest_block_header = header })
@@ -52,30 +52,26 @@ eth1_sound s votes data_voted sound = still_sound s (record s { eth1_data_votes 
 }) sound
 
 -- no two numbers less than n apart have one remainder
-apart : (n a b : ℕ) → a < b → b < a + n → a % n ≢ b % n
+pub apart : (n a b : ℕ) → a < b → b < a + n → a % n ≢ b % n
 apart n a b less near same = elim (cases_lt (a / n) (b / n)) [
   | inl more ↦ omega (arith, mul-le-mul_left {m = a / n + 1} {n = b / n} n (omega arith), div-add-mod a n, div-add-mod b n)
   | inr most ↦ omega (arith, mul-le-mul_left {m = b / n} {n = a / n} n most, div-add-mod a n, div-add-mod b n)
 ]
 
--- the mix of the current epoch is none that the committees of the current and the previous epoch are shuffled by
-other_place : (n e at : ℕ) → 64 ≤ n → at ≤ e → e ≤ at + 1 → e % n ≢ (at + n - 1 - 1) % n
+-- the mix of an epoch, or of one of the two behind it, is none that its committees are shuffled by
+pub other_place : (n e at : ℕ) → 64 ≤ n → at ≤ e → e ≤ at + 2 → e % n ≢ (at + n - 1 - 1) % n
 other_place n e at many low high = apart n e (at + n - 1 - 1) (omega arith) (omega arith)
 
-same_seed : (s : PlainState) (epoch : ℕ) (mix : List ℕ) → HasPresetBounds s.preset → epoch ≤ get_current_epoch s → get_current_epoch s ≤ epoch + 1
-    → get_seed (record s { randao_mixes = slice_set s.randao_mixes (get_current_epoch s % s.preset.epochs_per_historical_vector) mix }) epoch domain_beacon_attester ≡ get_seed s epoch domain_beacon_attester
+pub same_seed : (s : PlainState) (epoch written : ℕ) (mix : List ℕ) → HasPresetBounds s.preset → epoch ≤ written → written ≤ epoch + 2
+    → get_seed (record s { randao_mixes = slice_set s.randao_mixes (written % s.preset.epochs_per_historical_vector) mix }) epoch domain_beacon_attester ≡ get_seed s epoch domain_beacon_attester
 unfolding get_randao_mix seed_from
-same_seed s epoch mix bounds low high =
+same_seed s epoch written mix bounds low high =
     let n : ℕ = s.preset.epochs_per_historical_vector in
     let place : ℕ → ℕ = λ (lookahead : ℕ). (epoch + n - lookahead - 1) % n in
     let taken : place s.preset.min_seed_lookahead ≡ place 1 = ap place bounds.min_seed_lookahead in
-    let other : get_current_epoch s % n ≢ place 1 = other_place n (get_current_epoch s) epoch bounds.least_epochs_per_historical_vector low high in
+    let other : written % n ≢ place 1 = other_place n written epoch bounds.least_epochs_per_historical_vector low high in
     ap (λ (m : List ℕ). hash (domain_beacon_attester ++ to_le_bytes w64 epoch ++ m))
-    (get_or-set_other s.randao_mixes (get_current_epoch s % n) (place s.preset.min_seed_lookahead) mix [] (λ same. other (sym same ∙ taken)))
-
-previous_below : (s : PlainState) → (get_previous_epoch s ≤ get_current_epoch s) × (get_current_epoch s ≤ get_previous_epoch s + 1)
-unfolding get_previous_epoch
-previous_below s = (omega arith, omega arith)
+    (get_or-set_other s.randao_mixes (written % n) (place s.preset.min_seed_lookahead) mix [] (λ same. other (sym same ∙ taken)))
 
 same_epoch : (s : PlainState) (mixes : List (List ℕ)) → get_current_epoch (record s { randao_mixes = mixes }) ≡ get_current_epoch s
 unfolding get_current_epoch
@@ -87,8 +83,8 @@ unfolding get_active_validator_indices
 randao_sound s mix bounds sound = still_sound s (record s { randao_mixes = slice_set s.randao_mixes (get_current_epoch s % s.preset.epochs_per_historical_vector) mix }) (record {
   epoch = same_epoch s _;
   slot = omega arith;
-  current = record { preset = refl; active = refl; seed = same_seed s (get_current_epoch s) mix bounds (omega arith) (omega arith) };
-  previous = record { preset = refl; active = refl; seed = same_seed s (get_previous_epoch s) mix bounds (previous_below s).0 (previous_below s).1 };
+  current = record { preset = refl; active = refl; seed = same_seed s (get_current_epoch s) (get_current_epoch s) mix bounds (omega arith) (omega arith) };
+  previous = record { preset = refl; active = refl; seed = let (below, above) = previous_below s in same_seed s (get_previous_epoch s) (get_current_epoch s) mix bounds below (omega arith) };
   validators = omega arith;
   balances = sound.balances;
   header = sound.header;

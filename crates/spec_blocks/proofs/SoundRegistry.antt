@@ -9,7 +9,7 @@ use Rattle.spec_state.specs.Constants.{far_future_epoch}
 use Rattle.spec_state.specs.Predicates.{is_active_validator}
 use Rattle.spec_state.specs.Accessors.{get_current_epoch, get_previous_epoch, get_active_validator_indices, get_randao_mix, indices_from}
 use Rattle.spec_state.specs.Soundness.{IsSound}
-use Rattle.spec_blocks.proofs.Sound.{still_sound, indices_of_changed, indices_of_added}
+use Rattle.spec_blocks.proofs.Sound.{previous_below, still_sound, indices_of_changed, indices_of_added}
 
 -- who is active in an epoch, of a list of validators
 abbrev pub active_of : List Validator → ℕ → List ℕ
@@ -38,10 +38,6 @@ registry_sound s validators balances slashings deposits grown paired now before 
       current_attestations = refl;
     }) sound
 
-previous_below : (s : PlainState) → get_previous_epoch s ≤ get_current_epoch s
-unfolding get_previous_epoch
-previous_below s = omega arith
-
 -- with one validator that changes, and is active as before
 pub changed_sound : (s : PlainState) (index : ℕ) (old new : Validator) (balances slashings : List ℕ)
     → slice_get s.validators index ≡ Some old → length balances ≡ length s.balances
@@ -51,11 +47,11 @@ changed_sound s index old new balances slashings is paired same sound =
     let count : length (slice_set s.validators index new) ≡ length s.validators = length-set s.validators index new in
     registry_sound s (slice_set s.validators index new) balances slashings s.eth1_deposit_index (omega arith) (paired ∙ (sound.balances ∙ sym count))
     (indices_of_changed (λ v. is_active_validator v (get_current_epoch s)) 0 index s.validators old new is (same (get_current_epoch s) (omega arith)))
-    (indices_of_changed (λ v. is_active_validator v (get_previous_epoch s)) 0 index s.validators old new is (same (get_previous_epoch s) (previous_below s)))
+    (indices_of_changed (λ v. is_active_validator v (get_previous_epoch s)) 0 index s.validators old new is (same (get_previous_epoch s) (previous_below s).0))
     sound
 
 -- one who leaves later is active as before
-still_active : (v : Validator) (exit withdrawable now epoch : ℕ) → v.exit_epoch ≡ far_future_epoch → now < exit → now < far_future_epoch → epoch ≤ now
+pub still_active : (v : Validator) (exit withdrawable now epoch : ℕ) → v.exit_epoch ≡ far_future_epoch → now < exit → now < far_future_epoch → epoch ≤ now
     → is_active_validator (record v { exit_epoch = exit; withdrawable_epoch = withdrawable }) epoch ≡ is_active_validator v epoch
 unfolding is_active_validator
 still_active v exit withdrawable now epoch stays later before low =
@@ -74,7 +70,8 @@ pub balances_sound : (s : PlainState) (balances : List ℕ) → length balances 
 balances_sound s balances paired sound =
     registry_sound s s.validators balances s.slashings s.eth1_deposit_index (omega arith) (paired ∙ sound.balances) refl refl sound
 
-not_yet : (v : Validator) (epoch : ℕ) → epoch < v.activation_epoch → is_active_validator v epoch ≡ false
+-- one whose activation comes later isn't active
+pub not_yet : (v : Validator) (epoch : ℕ) → epoch < v.activation_epoch → is_active_validator v epoch ≡ false
 unfolding is_active_validator
 not_yet v epoch later = ap (λ (b : Bool). b && nat_lt epoch v.exit_epoch) (lt-leb v.activation_epoch epoch later)
 
@@ -87,5 +84,5 @@ added_sound s new balance deposits later before sound =
     (omega (arith, length-append s.validators (new ∷ [])))
     (length-append s.balances (balance ∷ []) ∙ (ap (λ (n : ℕ). n + 1) sound.balances ∙ sym (length-append s.validators (new ∷ []))))
     (indices_of_added (λ v. is_active_validator v (get_current_epoch s)) 0 s.validators new (waits (get_current_epoch s) (omega arith)))
-    (indices_of_added (λ v. is_active_validator v (get_previous_epoch s)) 0 s.validators new (waits (get_previous_epoch s) (previous_below s)))
+    (indices_of_added (λ v. is_active_validator v (get_previous_epoch s)) 0 s.validators new (waits (get_previous_epoch s) (previous_below s).0))
     sound

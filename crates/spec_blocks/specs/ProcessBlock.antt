@@ -1,5 +1,4 @@
 -- process_block (beacon-chain.md, "Block processing").
-use Rattle.std.specs.Prelude.{ℕ}
 use Rattle.bc_words.specs.Outcome.{Outcome, ◌>>=◌}
 use Rattle.bc_preset.specs.declared.configuration.ConfigValues.{ConfigValues}
 use Rattle.beacon_body.specs.declared.block.BeaconBlock.{BeaconBlock}

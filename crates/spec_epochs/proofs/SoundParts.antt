@@ -1,23 +1,17 @@
 -- The parts of epoch processing that leave the registry's activity: rewards, slashings, resets, roots, effective balances.
-use Rattle.std.proofs.Common.{◌≡◌, ◌≢◌, ◌∙◌, ℕ, suc, ◌+◌, ◌-◌, ◌/◌, ◌%◌, ◌<◌, ◌≤◌, Bool, min, not, ◌==◌, if◌then◌else◌, List, [], ◌∷◌, ◌++◌, Option, Some, None, length, slice_get, slice_set, refl, sym, ap, subst, arith, inl, inr}
-use Rattle.std.specs.Int.{w64, to_le_bytes}
+use Rattle.std.proofs.Common.{◌≡◌, ◌∙◌, ℕ, suc, ◌+◌, ◌/◌, ◌%◌, ◌≤◌, Bool, min, not, ◌==◌, if◌then◌else◌, List, [], ◌∷◌, Option, Some, None, length, slice_get, slice_set, refl, sym, ap, subst, arith, inl, inr}
 use Rattle.std.specs.List.{range_with_len}
-use Rattle.std.proofs.lemmas.Bool.{cases_lt}
-use Rattle.std.proofs.lemmas.List.{get_or-set_other}
 use Rattle.std.proofs.lemmas.List.FromFn.{length-range_with_len}
-use Rattle.std.proofs.Math.Nat.{div-add-mod, mul-le-mul_left}
-use Rattle.hash_tree.specs.Merkle.{hash}
 use Rattle.bc_words.specs.Outcome.{Outcome, done, checked_mul, checked_sum, checked_push}
 use Rattle.bc_preset.specs.laws.Bounds.{HasPresetBounds}
 use Rattle.beacon_types.specs.declared.validator.Validator.{Validator}
 use Rattle.beacon_types.specs.declared.eth1_data.Eth1Data.{Eth1Data}
-use Rattle.committees.specs.Seeds.{seed_from}
 use Rattle.spec_state.specs.declared.plain.PlainState.{PlainState}
-use Rattle.spec_state.specs.Constants.{domain_beacon_attester}
 use Rattle.spec_state.specs.Predicates.{is_active_validator}
-use Rattle.spec_state.specs.Accessors.{get_current_epoch, get_active_validator_indices, get_seed, get_randao_mix, get_total_active_balance, indices_from}
+use Rattle.spec_state.specs.Accessors.{get_current_epoch, get_active_validator_indices, get_randao_mix, get_total_active_balance, indices_from}
 use Rattle.spec_blocks.specs.Checks.{item_at}
 use Rattle.spec_blocks.proofs.Done.{on_the_way, chosen, same_value, item_is}
+use Rattle.spec_blocks.proofs.SoundHeads.{same_seed}
 use Rattle.spec_epochs.specs.Each.{validator_indices, checked_map}
 use Rattle.spec_epochs.specs.GetAttestationDeltas.{get_attestation_deltas}
 use Rattle.spec_epochs.specs.ProcessRewardsAndPenalties.{process_rewards_and_penalties, rewarded_balance}
@@ -103,29 +97,7 @@ historical_roots_leave s t is = elim (chosen (not ((get_current_epoch s + 1) % (
       subst (Leaves s) (same_value _ t roots.then_done) (with_others s s.eth1_data_votes s.balances s.slashings roots.value (λ paired. paired))
 ]
 
--- ---- the mix of the next epoch
-
--- no two numbers less than n apart have one remainder
-apart : (n a b : ℕ) → a < b → b < a + n → a % n ≢ b % n
-apart n a b less near same = elim (cases_lt (a / n) (b / n)) [
-  | inl more ↦ omega (arith, mul-le-mul_left {m = a / n + 1} {n = b / n} n (omega arith), div-add-mod a n, div-add-mod b n)
-  | inr most ↦ omega (arith, mul-le-mul_left {m = b / n} {n = a / n} n most, div-add-mod a n, div-add-mod b n)
-]
-
--- the mix of the next epoch is none that the committees of the current and the previous epoch are shuffled by
-other_place : (n e at : ℕ) → 64 ≤ n → at ≤ e → e ≤ at + 1 → (e + 1) % n ≢ (at + n - 1 - 1) % n
-other_place n e at many low high = apart n (e + 1) (at + n - 1 - 1) (omega arith) (omega arith)
-
-same_seed : (s : PlainState) (epoch : ℕ) (mix : List ℕ) → HasPresetBounds s.preset → epoch ≤ get_current_epoch s → get_current_epoch s ≤ epoch + 1
-    → get_seed (record s { randao_mixes = slice_set s.randao_mixes ((get_current_epoch s + 1) % s.preset.epochs_per_historical_vector) mix }) epoch domain_beacon_attester ≡ get_seed s epoch domain_beacon_attester
-unfolding get_randao_mix seed_from
-same_seed s epoch mix bounds low high =
-    let n : ℕ = s.preset.epochs_per_historical_vector in
-    let place : ℕ → ℕ = λ (lookahead : ℕ). (epoch + n - lookahead - 1) % n in
-    let taken : place s.preset.min_seed_lookahead ≡ place 1 = ap place bounds.min_seed_lookahead in
-    let other : (get_current_epoch s + 1) % n ≢ place 1 = other_place n (get_current_epoch s) epoch bounds.least_epochs_per_historical_vector low high in
-    ap (λ (m : List ℕ). hash (domain_beacon_attester ++ to_le_bytes w64 epoch ++ m))
-    (get_or-set_other s.randao_mixes ((get_current_epoch s + 1) % n) (place s.preset.min_seed_lookahead) mix [] (λ same. other (sym same ∙ taken)))
+-- ---- the mix of the next epoch, by which the committees of the current and the previous epoch aren't shuffled
 
 -- process_randao_mixes_reset
 pub randao_mixes_reset_leaves : (s : PlainState) → HasPresetBounds s.preset → Leaves s (process_randao_mixes_reset s)
@@ -141,7 +113,7 @@ randao_mixes_reset_leaves s bounds = record {
   finalized = refl;
   previous_attestations = refl;
   current_attestations = refl;
-  committees = λ epoch low high. record { preset = refl; active = refl; seed = same_seed s epoch (get_randao_mix s (get_current_epoch s)) bounds low high };
+  committees = λ epoch low high. record { preset = refl; active = refl; seed = same_seed s epoch (get_current_epoch s + 1) (get_randao_mix s (get_current_epoch s)) bounds (omega arith) (omega arith) };
 }
 
 -- ---- effective balances

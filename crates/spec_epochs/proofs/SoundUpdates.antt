@@ -1,11 +1,10 @@
 -- The registry's updates leave who was active in the current and the previous epoch: activations and exits come later.
-use Rattle.std.proofs.Common.{◌≡◌, ◌∙◌, ℕ, suc, ◌+◌, ◌<◌, ◌≤◌, Bool, true, false, ◌&&◌, not, ◌==◌, leb, nat_lt, if◌then◌else◌, List, [], ◌∷◌, Some, length, map, slice_get, slice_set, refl, sym, ap, subst, arith, inl, inr}
+use Rattle.std.proofs.Common.{◌≡◌, ◌∙◌, ℕ, suc, ◌+◌, ◌<◌, ◌≤◌, Bool, true, false, ◌&&◌, not, ◌==◌, leb, if◌then◌else◌, List, [], ◌∷◌, Some, length, map, slice_get, slice_set, refl, sym, ap, subst, arith, inl, inr}
 use Rattle.std.specs.List.{enumerate_from}
-use Rattle.std.proofs.lemmas.Bool.{false≢true, eqb-true, not-false, lt-ltb, lt-leb}
+use Rattle.std.proofs.lemmas.Bool.{false≢true, eqb-true, not-false}
 use Rattle.std.proofs.lemmas.List.{length-set}
 use Rattle.std.proofs.lemmas.List.FromFn.{length-enumerate_from}
 use Rattle.bc_words.specs.Outcome.{done, checked_add}
-use Rattle.bc_preset.specs.declared.presets.Preset.{Preset}
 use Rattle.bc_preset.specs.declared.configuration.ConfigValues.{ConfigValues}
 use Rattle.beacon_types.specs.declared.validator.Validator.{Validator}
 use Rattle.spec_state.specs.declared.plain.PlainState.{PlainState}
@@ -15,9 +14,10 @@ use Rattle.spec_state.specs.Predicates.{is_active_validator, is_eligible_for_act
 use Rattle.spec_state.specs.Accessors.{get_current_epoch, indices_from}
 use Rattle.spec_blocks.specs.Checks.{item_at, each_of}
 use Rattle.spec_blocks.specs.InitiateValidatorExit.{initiate_validator_exit, exit_queue_epoch}
-use Rattle.spec_blocks.proofs.Done.{on_the_way, chosen, same_value, sum_is, item_is}
+use Rattle.spec_blocks.proofs.Done.{on_the_way, chosen, same_value, item_is}
 use Rattle.spec_blocks.proofs.Sound.{indices_of_changed}
-use Rattle.spec_blocks.proofs.SoundExits.{queue_later}
+use Rattle.spec_blocks.proofs.SoundRegistry.{still_active, not_yet}
+use Rattle.spec_blocks.proofs.SoundExits.{earliest_later, queue_later}
 use Rattle.spec_blocks.proofs.SoundBlock.{each_keeps}
 use Rattle.spec_epochs.specs.Each.{validator_indices}
 use Rattle.spec_epochs.specs.ProcessRegistryUpdates.{process_registry_updates, eligibility_and_ejection, with_eligibility, with_activations, is_dequeued}
@@ -31,13 +31,6 @@ changed_leaves : (s : PlainState) (index : ℕ) (old new : Validator) → slice_
 changed_leaves s index old new is same =
     with_registry s (slice_set s.validators index new) (length-set s.validators index new)
     (λ epoch low. indices_of_changed (λ v. is_active_validator v epoch) 0 index s.validators old new is (same epoch low))
-
--- one who leaves later is active as before
-still_active : (v : Validator) (exit withdrawable now epoch : ℕ) → v.exit_epoch ≡ far_future_epoch → now < exit → now < far_future_epoch → epoch ≤ now
-    → is_active_validator (record v { exit_epoch = exit; withdrawable_epoch = withdrawable }) epoch ≡ is_active_validator v epoch
-unfolding is_active_validator
-still_active v exit withdrawable now epoch stays later before low =
-    ap (λ (b : Bool). leb v.activation_epoch epoch && b) (lt-ltb epoch exit (omega arith) ∙ sym (lt-ltb epoch v.exit_epoch (omega arith)))
 
 -- the exit of a validator
 exit_leaves : (s t : PlainState) (index : ℕ) (config : ConfigValues) → initiate_validator_exit s index config ≡ done t → get_current_epoch s < far_future_epoch → Leaves s t
@@ -97,10 +90,6 @@ indices_of_mapped test change same first from (v ∷ vs) =
     ap (λ (passes : Bool). if passes then first ∷ indices_from test (suc first) others else indices_from test (suc first) others) (same from v)
     ∙ ap (λ (list : List ℕ). if test v then first ∷ list else list) rest
 
-not_yet : (v : Validator) (epoch : ℕ) → epoch < v.activation_epoch → is_active_validator v epoch ≡ false
-unfolding is_active_validator
-not_yet v epoch later = ap (λ (b : Bool). b && nat_lt epoch v.exit_epoch) (lt-leb v.activation_epoch epoch later)
-
 both_hold : (a b : Bool) → a && b ≡ true → (a ≡ true) × (b ≡ true)
 both_hold true true is = (refl, refl)
 both_hold true false is = absurd (false≢true is)
@@ -128,14 +117,6 @@ length-map_of : {A B : Type 0} (f : A → B) (xs : List A) → length (map f xs)
 length-map_of f [] = refl
 length-map_of f (x ∷ xs) = ap suc (length-map_of f xs)
 
-activation_later : (p : Preset) (epoch at : ℕ) → compute_activation_exit_epoch p epoch ≡ done at → epoch < at
-unfolding compute_activation_exit_epoch
-activation_later p epoch at is =
-    let next = on_the_way (checked_add epoch 1) _ at is in
-    let one = sum_is epoch 1 next.value next.first in
-    let all = sum_is next.value p.max_seed_lookahead at next.then_done in
-    omega arith
-
 activations_leave : (s : PlainState) (config : ConfigValues) (at : ℕ) → get_current_epoch s < at → get_current_epoch s < far_future_epoch → Leaves s (record s { validators = with_activations s config at })
 unfolding with_activations
 activations_leave s config at later before =
@@ -152,4 +133,4 @@ registry_updates_leave s t config is before =
     let at = on_the_way (compute_activation_exit_epoch x.preset (get_current_epoch x)) _ t ejected.then_done in
     let first = ejections_leave config s x (validator_indices s) ejected.first before in
     let same = same_epoch s x first in
-    leaves_both s x t first (subst (Leaves x) (same_value _ t at.then_done) (activations_leave x config at.value (activation_later x.preset (get_current_epoch x) at.value at.first) (omega arith)))
+    leaves_both s x t first (subst (Leaves x) (same_value _ t at.then_done) (activations_leave x config at.value (earliest_later x.preset (get_current_epoch x) at.value at.first) (omega arith)))

@@ -6,7 +6,7 @@ use Rattle.spec_state.specs.declared.plain.PlainState.{PlainState}
 use Rattle.spec_state.specs.Misc.{compute_epoch_at_slot}
 use Rattle.spec_state.specs.Accessors.{get_current_epoch, get_previous_epoch}
 use Rattle.spec_state.specs.Soundness.{IsSoundTo, IsSoundWithinEpoch}
-use Rattle.spec_blocks.proofs.Sound.{SameCommittees, Keeps, sound_stays}
+use Rattle.spec_blocks.proofs.Sound.{SameCommittees, Keeps, previous_below, sound_stays}
 
 -- The preset, the slot, the header, the checkpoints, the pending attestations, how many validators there are, and the
 -- committees of the current and the previous epoch
@@ -67,10 +67,6 @@ leaves_both s t u first next =
           let other = next.committees epoch (omega arith) (omega arith) in
           record { preset = other.preset ∙ one.preset; active = other.active ∙ one.active; seed = other.seed ∙ one.seed };
     }
-
-previous_below : (s : PlainState) → (get_previous_epoch s ≤ get_current_epoch s) × (get_current_epoch s ≤ get_previous_epoch s + 1)
-unfolding get_previous_epoch
-previous_below s = (omega arith, omega arith)
 
 keeps_of : (justified : ℕ) (s t : PlainState) → Leaves s t → IsSoundTo justified s → Keeps s t
 keeps_of justified s t leaves sound = record {
