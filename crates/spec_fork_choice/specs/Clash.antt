@@ -1,0 +1,34 @@
+-- Roots that are no name for one block alone. The published text takes a root for its block; here a block that would be
+-- accepted is compared, and none of two blocks with one root is silently the other. Signatures don't count.
+use Rattle.std.specs.Prelude.{ℕ, Bool, ◌||◌, not, List, Option, Some, None, if◌then◌else◌}
+use Rattle.std.specs.List.{position_or_len}
+use Rattle.std.specs.Option.{option_map_or}
+use Rattle.std.specs.Prelude.{false}
+use Rattle.bc_words.specs.declared.store_stop.ClashKind.{ClashKind}
+use Rattle.bc_words.specs.declared.store_stop.ClashKind.TheVariants.{ZeroBlock, ZeroState, Kept}
+use Rattle.beacon_types.specs.Equality.{same_root}
+use Rattle.beacon_body.specs.declared.block.BeaconBlock.{BeaconBlock}
+use Rattle.spec_state.specs.Genesis.{zero_root}
+use Rattle.spec_fork_choice.specs.Store.{KeptBlock, block_of}
+use Rattle.spec_fork_choice.specs.SameBlock.{same_block}
+
+-- whether a kept block is there and is another one
+unfoldable pub is_another : Option BeaconBlock → BeaconBlock → Bool
+is_another kept block = option_map_or (λ other. not (same_block other block)) kept false
+
+-- whether a block with these roots clashes with the kept block of its root
+unfoldable pub clashes : List ℕ → List ℕ → Option BeaconBlock → BeaconBlock → Bool
+clashes root state_root kept block = same_root root zero_root || (same_root state_root zero_root || is_another kept block)
+
+-- the place of a root's block among the kept ones
+unfoldable pub place_of : List KeptBlock → List ℕ → ℕ
+place_of blocks root = position_or_len (λ kept. same_root kept.root root) blocks
+
+-- how a block with these roots clashes with kept ones, if it does: its root is zero, or else its state root is, or else its
+-- root is that of another kept block
+unfoldable pub clash_of : List KeptBlock → List ℕ → List ℕ → BeaconBlock → Option ClashKind
+clash_of blocks root state_root block =
+    if same_root root zero_root then Some ZeroBlock
+    else if same_root state_root zero_root then Some ZeroState
+    else if is_another (option_map_or (λ kept. Some kept.block) (block_of blocks root) None) block then Some (Kept (place_of blocks root))
+    else None

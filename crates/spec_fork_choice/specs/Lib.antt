@@ -1,0 +1,17 @@
+pub mod Clash
+pub mod FilterBlockTree
+pub mod GetAncestor
+pub mod GetForkchoiceStore
+pub mod GetHead
+pub mod GetLatestAttestingBalance
+pub mod OnAttestation
+pub mod OnBlock
+pub mod OnEvent
+pub mod OnTick
+pub mod SameBlock
+pub mod ShouldUpdateJustifiedCheckpoint
+pub mod Slots
+pub mod Store
+pub mod StoreTargetCheckpointState
+pub mod UpdateLatestMessages
+pub mod ValidateOnAttestation
