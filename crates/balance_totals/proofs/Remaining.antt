@@ -85,3 +85,10 @@ module _ (state : PlainState) (epoch : ℕ) where
 
   pub sum_is_whole : (i sum : ℕ) → length state.validators ≤ i → checked_sum_from balance sum (remaining i) ≡ done sum
   sum_is_whole i sum past = ap (checked_sum_from balance sum) (none_remain i past) ∙ sum_of_nothing balance sum
+
+-- what the loops over the registry need: of the list, of the count, and of the sum
+pub ruleset listing = (all_remain, list_grows, list_ends, one_passed_over)
+
+pub ruleset counting = (all_remain, count_grows, count_stays, count_ends)
+
+pub ruleset summing = (all_remain, sum_grows, sum_stays, sum_stops_here, sum_is_whole)

@@ -1,9 +1,8 @@
 //! The committees of an epoch of a state.
 
-ghost use Rattle.std.specs.Prelude.{◌≡◌, ◌<◌, ◌≤◌, ◌^◌, ℕ, IfOk, Some};
-ghost use Rattle.committees.specs.Committees.{committee_at};
-ghost use Rattle.spec_state.specs.Misc.{compute_epoch_at_slot};
-ghost use Rattle.spec_state.specs.Accessors.{epoch_committees, get_beacon_committee, get_committee_count_per_slot};
+ghost use Rattle.std.specs.Prelude.{◌≡◌, ◌≤◌, ◌^◌, IfOk};
+ghost use Rattle.spec_state.specs.Accessors.{epoch_committees, get_committee_count_per_slot};
+ghost use Rattle.balance_totals.specs.inside.PerSlot.{ArePublished};
 
 use crate::totals::{active, active_are_indices};
 use bc_words::NoMemory;
@@ -22,7 +21,7 @@ pub fn committees_of_epoch(
     requires { epoch ≤ 2 ^ 61 }
     ensures exact { IfOk result (λ committees. committees ≡ epoch_committees state.now epoch) }
     ensures per_slot { IfOk result (λ committees. committees.per_slot ≡ get_committee_count_per_slot state.now epoch) }
-    ensures published { IfOk result (λ committees. (slot index : ℕ) → compute_epoch_at_slot state.now.preset slot ≡ epoch → index < get_committee_count_per_slot state.now epoch → committee_at committees slot index ≡ Some (get_beacon_committee state.now slot index)) }
+    ensures published { IfOk result (λ committees. ArePublished state.now epoch committees) }
 {
     let preset = Lookup::preset(state);
     let seed = seed_of(state, epoch, DOMAIN_BEACON_ATTESTER);

@@ -14,7 +14,7 @@ use std::alloc::Global;
 
 /// The indices of the validators that are active at the epoch, in order (beacon-chain.md,
 /// `get_active_validator_indices`).
-#[tactic(auto, using(crate::proofs::Remaining::all_remain, crate::proofs::Remaining::list_grows, crate::proofs::Remaining::list_ends, crate::proofs::Remaining::one_passed_over))]
+#[tactic(auto, using(crate::proofs::Remaining::listing))]
 pub fn active(alloc: Global, state: &State, epoch: u64) -> Result<Vec<u64>, NoMemory>
     ensures { IfOk result (λ indices. indices.items ≡ get_active_validator_indices state.now epoch) }
 {
@@ -29,7 +29,7 @@ pub fn active(alloc: Global, state: &State, epoch: u64) -> Result<Vec<u64>, NoMe
 }
 
 /// How many validators are active at the epoch: as many as the list of `get_active_validator_indices` has.
-#[tactic(auto, using(crate::proofs::Remaining::all_remain, crate::proofs::Remaining::count_grows, crate::proofs::Remaining::count_stays, crate::proofs::Remaining::count_ends))]
+#[tactic(auto, using(crate::proofs::Remaining::counting))]
 pub fn count_active(state: &State, epoch: u64) -> u64
     ensures { result ≡ length (get_active_validator_indices state.now epoch) }
 {
@@ -48,7 +48,7 @@ pub fn count_active(state: &State, epoch: u64) -> u64
 /// when it runs.
 pub fn active_are_indices(state: &State, epoch: u64)
     ensures fits { length (get_active_validator_indices state.now epoch) ≤ 2 ^ 40 }
-    ensures in_registry { (k : ℕ) → k < length (get_active_validator_indices state.now epoch) → slice_index (get_active_validator_indices state.now epoch) k < length state.now.validators }
+    ensures in_registry { let indices = get_active_validator_indices state.now epoch in (k : ℕ) → k < length indices → slice_index indices k < length state.now.validators }
     ensures without_repeats { IsWithoutRepeats (get_active_validator_indices state.now epoch) }
 {
     Lookup::preset(state).bounds();
@@ -78,7 +78,7 @@ pub fn total_of(state: &State, indices: &[u64]) -> Result<u64, Stop>
 }
 
 /// The sum of the effective balances of the validators that are active at the epoch, in Gwei.
-#[tactic(auto, using(bc_words::proofs::Sums::sum_begins, crate::proofs::Remaining::all_remain, crate::proofs::Remaining::sum_grows, crate::proofs::Remaining::sum_stays, crate::proofs::Remaining::sum_stops_here, crate::proofs::Remaining::sum_is_whole))]
+#[tactic(auto, using(bc_words::proofs::Sums::sum_begins, crate::proofs::Remaining::summing))]
 fn sum_active(state: &State, epoch: u64) -> Result<u64, Stop>
     ensures { GivesExactly result (checked_sum_by (effective_balance state.now.validators) (get_active_validator_indices state.now epoch)) }
 {

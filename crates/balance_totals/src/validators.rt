@@ -1,6 +1,6 @@
 //! What totals read of one validator of a state.
 
-ghost use Rattle.std.specs.Prelude.{◌≡◌};
+ghost use Rattle.std.specs.Prelude.{◌≡◌, ◌<◌, length, IfOk};
 ghost use Rattle.bc_words.specs.Outcome.{GivesExactly};
 ghost use Rattle.spec_blocks.specs.Checks.{item_at};
 ghost use Rattle.spec_state.specs.Predicates.{is_active_validator};
@@ -41,7 +41,8 @@ pub(crate) fn effective_at(state: &State, index: u64) -> u64
 
 /// The validator with an index, refused exactly where the registry has none.
 pub fn validator_at(state: &State, index: u64) -> Result<Validator, Stop>
-    ensures { GivesExactly result (item_at state.now.validators index) }
+    ensures exact { GivesExactly result (item_at state.now.validators index) }
+    ensures in_registry { IfOk result (λ validator. index < length state.now.validators) }
 {
     match state.validators_at(index) {
         Some(validator) => Ok(*validator),
@@ -51,7 +52,8 @@ pub fn validator_at(state: &State, index: u64) -> Result<Validator, Stop>
 
 /// The balance of the validator with an index, in Gwei, refused exactly where there is none.
 pub fn balance_at(state: &State, index: u64) -> Result<u64, Stop>
-    ensures { GivesExactly result (item_at state.now.balances index) }
+    ensures exact { GivesExactly result (item_at state.now.balances index) }
+    ensures in_list { IfOk result (λ balance. index < length state.now.balances) }
 {
     match state.balances_at(index) {
         Some(balance) => Ok(balance),
