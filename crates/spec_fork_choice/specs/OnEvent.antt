@@ -7,7 +7,7 @@ use Rattle.bc_words.specs.declared.refusal.Refusal.TheVariants.{Malformed}
 use Rattle.bc_words.specs.declared.store_stop.ClashKind.{ClashKind}
 use Rattle.beacon_body.specs.declared.attestation.Attestation.{Attestation}
 use Rattle.beacon_body.specs.declared.signed_block.SignedBeaconBlock.{SignedBeaconBlock}
-use Rattle.beacon_body.specs.Containers.{signed_block_codec, attestation_codec}
+use Rattle.beacon_body.specs.Containers.{block_codec, signed_block_codec, attestation_codec}
 use Rattle.spec_state.specs.declared.plain.PlainState.{PlainState}
 use Rattle.spec_state.specs.States.{state_codec}
 use Rattle.bc_preset.specs.declared.configuration.ConfigValues.{ConfigValues}
@@ -50,12 +50,15 @@ on_event store kind payload =
     else if kind == 2 then handle_block store (signed_block_codec.deserialize payload)
     else handle_attestation store (kind == 4) (attestation_codec.deserialize payload)
 
--- the store at genesis, unless the genesis block's root or its state's root is zero
+-- how the genesis block clashes, if it does: its root is zero, or else its state's root is
+unfoldable pub genesis_clash : PlainState → Option ClashKind
+genesis_clash genesis =
+    clash_of [] (block_codec.hash_tree_root (genesis_block genesis)) ((state_codec genesis.preset).hash_tree_root genesis) (genesis_block genesis)
+
+-- the store at genesis, unless the genesis block clashes
 unfoldable pub open_unless : Option ClashKind → Store → EventOutcome Store
 open_unless (Some kind) store = event_clashes kind
 open_unless None store = accepted store
 
 unfoldable pub open_store : ConfigValues → PlainState → EventOutcome Store
-open_store config genesis =
-    let store : Store = get_forkchoice_store config genesis in
-    open_unless (clash_of [] store.justified_checkpoint.root ((state_codec genesis.preset).hash_tree_root genesis) (genesis_block genesis)) store
+open_store config genesis = open_unless (genesis_clash genesis) (get_forkchoice_store config genesis)
