@@ -7,7 +7,9 @@ ghost use Rattle.beacon_body.specs.laws.Containers.{attestation_lawful};
 use bc_words::NoMemory;
 use beacon_types::{AggregationBits, AttestationData};
 use hash_tree::{Leaf, Root};
-use ssz_codec::{Field, Ssz, SszFault, VariableSsz, Writer, read_container, root_of_container};
+use ssz_codec::{
+    Field, ListValue, Ssz, SszFault, VariableSsz, Writer, read_container, root_of_container,
+};
 use std::alloc::Global;
 
 /// A vote with the members of a committee that cast it (beacon-chain.md, "Attestation").
@@ -84,4 +86,14 @@ impl VariableSsz for Attestation {
     }
 
     ghost is_variable = { refl };
+}
+
+impl ListValue for Attestation {
+    fn copied(&self) -> Result<Attestation, NoMemory> {
+        self.copy()
+    }
+
+    fn same(&self, other: &Attestation) -> bool {
+        self.equals(other)
+    }
 }

@@ -10,7 +10,8 @@ use bc_words::NoMemory;
 use beacon_types::IndexedAttestation;
 use hash_tree::{Leaf, Root};
 use ssz_codec::{
-    Field, PartsWriter, Ssz, SszFault, VariableSsz, Writer, read_container, root_of_container,
+    Field, ListValue, PartsWriter, Ssz, SszFault, VariableSsz, Writer, read_container,
+    root_of_container,
 };
 use std::alloc::Global;
 
@@ -91,4 +92,14 @@ impl VariableSsz for AttesterSlashing {
     }
 
     ghost is_variable = { refl };
+}
+
+impl ListValue for AttesterSlashing {
+    fn copied(&self) -> Result<AttesterSlashing, NoMemory> {
+        self.copy()
+    }
+
+    fn same(&self, other: &AttesterSlashing) -> bool {
+        self.equals(other)
+    }
 }

@@ -1,6 +1,6 @@
 //! A block.
 
-ghost use Rattle.std.specs.Prelude.{◌≡◌, refl};
+ghost use Rattle.std.specs.Prelude.{◌≡◌, refl, IsTrue, ◌↔◌};
 ghost use Rattle.beacon_body.specs.Containers.{block_codec};
 ghost use Rattle.beacon_body.specs.laws.Containers.{block_lawful};
 
@@ -23,6 +23,19 @@ pub struct BeaconBlock {
     pub state_root: Root,
     /// What it carries.
     pub body: BeaconBlockBody,
+}
+
+impl BeaconBlock {
+    /// Whether it is the same block.
+    pub fn equals(&self, other: &BeaconBlock) -> bool
+        ensures { IsTrue result ↔ (self.now ≡ other.now) }
+    {
+        self.slot == other.slot
+            && self.proposer_index == other.proposer_index
+            && self.parent_root == other.parent_root
+            && self.state_root == other.state_root
+            && self.body.equals(&other.body)
+    }
 }
 
 impl Leaf for BeaconBlock {

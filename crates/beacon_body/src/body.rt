@@ -1,6 +1,6 @@
 //! What a block carries.
 
-ghost use Rattle.std.specs.Prelude.{◌≡◌, ◌≤◌, ◌^◌, [], length, map, refl, IfOk};
+ghost use Rattle.std.specs.Prelude.{◌≡◌, ◌≤◌, ◌^◌, [], length, map, refl, IfOk, IsTrue, ◌↔◌};
 ghost use Rattle.hash_tree.specs.Merkle.{merkleize, mix_in_length as mixed_in};
 ghost use Rattle.ssz_codec.specs.Containers.{layout_of, parts_of, all_read};
 ghost use Rattle.ssz_codec.specs.Reads.{ReadsAs};
@@ -75,6 +75,20 @@ impl BeaconBlockBody {
         parts.add(&self.deposits)?;
         parts.add(&self.voluntary_exits)?;
         Ok(parts)
+    }
+
+    /// Whether it is the same body.
+    pub fn equals(&self, other: &BeaconBlockBody) -> bool
+        ensures { IsTrue result ↔ (self.now ≡ other.now) }
+    {
+        self.randao_reveal == other.randao_reveal
+            && self.eth1_data == other.eth1_data
+            && self.graffiti == other.graffiti
+            && self.proposer_slashings.equals(&other.proposer_slashings)
+            && self.attester_slashings.equals(&other.attester_slashings)
+            && self.attestations.equals(&other.attestations)
+            && self.deposits.equals(&other.deposits)
+            && self.voluntary_exits.equals(&other.voluntary_exits)
     }
 }
 

@@ -8,7 +8,8 @@ use bc_words::NoMemory;
 use beacon_types::SignedBeaconBlockHeader;
 use hash_tree::{Leaf, Root};
 use ssz_codec::{
-    Field, FixedSsz, Ssz, SszFault, Writer, read_container, root_of_container, write_container,
+    Field, FixedSsz, ListValue, Ssz, SszFault, Writer, read_container, root_of_container,
+    write_container,
 };
 use std::alloc::Global;
 
@@ -61,4 +62,14 @@ impl FixedSsz for ProposerSlashing {
     ghost is_fixed = { proposer_slashing_fixed };
 
     ghost composite = { refl };
+}
+
+impl ListValue for ProposerSlashing {
+    fn copied(&self) -> Result<ProposerSlashing, NoMemory> {
+        Ok(*self)
+    }
+
+    fn same(&self, other: &ProposerSlashing) -> bool {
+        self == other
+    }
 }

@@ -55,3 +55,17 @@ fn copies_are_equal(rt: HostRuntime) -> Result<(), Fail> {
     assert!(rt; !slashing.equals(&AttesterSlashing::read(rt.alloc(), &bytes)?));
     Ok(())
 }
+
+#[test]
+fn blocks_are_compared(rt: HostRuntime) -> Result<(), Fail> {
+    let mut bytes = [0; 304];
+    bytes[80] = 84;
+    for at in [284, 288, 292, 296, 300] {
+        bytes[at] = 220;
+    }
+    let block = BeaconBlock::read(rt.alloc(), &bytes)?;
+    assert!(rt; block.equals(&BeaconBlock::read(rt.alloc(), &bytes)?));
+    bytes[252] = 1;
+    assert!(rt; !block.equals(&BeaconBlock::read(rt.alloc(), &bytes)?));
+    Ok(())
+}
