@@ -1,16 +1,15 @@
 //! A deposit of a block (beacon-chain.md, "Deposits").
 
-ghost use Rattle.std.specs.Prelude.{◌≡◌, ◌+◌, ◌<◌, None, Some, length, IfOk, OnOk, OnErr};
-ghost use Rattle.bc_words.specs.Outcome.{Changes, Gives, GivesExactly};
-ghost use Rattle.spec_blocks.specs.Checks.{item_at};
-ghost use Rattle.beacon_types.specs.Containers.{deposit_contract_tree_depth, deposit_data_codec};
-ghost use Rattle.spec_blocks.specs.IsValidMerkleBranch.{is_valid_merkle_branch};
+ghost use Rattle.std.specs.Prelude.{◌≡◌, ◌+◌, None, Some, OnOk, OnErr};
+ghost use Rattle.bc_words.specs.Outcome.{Changes, Gives};
 ghost use Rattle.spec_blocks.specs.ProcessDeposit.{process_deposit, credit_deposit};
 ghost use Rattle.deposit_ops.specs.Indexes.{Indexes, index_in};
+ghost use Rattle.deposit_ops.specs.inside.Branches.{leads_to_root};
 
 use crate::get_validator_from_deposit::validator_of;
 use crate::is_valid_merkle_branch::branch_holds;
 use crate::pubkey_index::PubkeyIndex;
+use balance_totals::balance_at;
 use bc_words::{Refusal, Stop, checked_add};
 use beacon_state::State;
 use beacon_types::Deposit;
@@ -18,7 +17,7 @@ use hash_tree::Leaf;
 
 /// Whether the deposit's branch leads to the state's deposit root.
 fn leads_to_root(state: &State, deposit: &Deposit) -> bool
-    ensures { result ≡ is_valid_merkle_branch (deposit_data_codec.hash_tree_root deposit.now.content) deposit.now.proof (deposit_contract_tree_depth + 1) state.now.eth1_deposit_index state.now.eth1_data.deposit_root }
+    ensures { result ≡ leads_to_root state.now deposit.now }
 {
     match deposit.proof.as_slice().as_array::<33>() {
         Some(proof) => branch_holds(
@@ -28,17 +27,6 @@ fn leads_to_root(state: &State, deposit: &Deposit) -> bool
             state.eth1_data().deposit_root,
         ),
         None => unreachable!(),
-    }
-}
-
-/// The balance of a validator.
-fn balance_at(state: &State, index: u64) -> Result<u64, Stop>
-    ensures exact { GivesExactly result (item_at state.now.balances index) }
-    ensures in_list { IfOk result (λ balance. index < length state.now.balances) }
-{
-    match state.balances_at(index) {
-        Some(balance) => Ok(balance),
-        None => Err(Stop::Refused(Refusal::IndexRange)),
     }
 }
 

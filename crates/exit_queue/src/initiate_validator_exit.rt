@@ -7,8 +7,7 @@ ghost use Rattle.exit_queue.specs.inside.Queue.{queue_end, later};
 
 use crate::compute_activation_exit_epoch::activation_exit_epoch;
 use crate::get_validator_churn_limit::churn_limit;
-use crate::registry::validator_at;
-use balance_totals::current_epoch;
+use balance_totals::{current_epoch, validator_at};
 use bc_preset::Config;
 use bc_preset::constants::FAR_FUTURE_EPOCH;
 use bc_words::{Stop, checked_add};

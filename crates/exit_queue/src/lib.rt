@@ -8,9 +8,8 @@ mod compute_activation_exit_epoch;
 mod get_validator_churn_limit;
 mod initiate_validator_exit;
 pub mod process_voluntary_exit;
-mod registry;
 
+pub use balance_totals::validator_at;
 pub use compute_activation_exit_epoch::activation_exit_epoch;
 pub use get_validator_churn_limit::churn_limit;
 pub use initiate_validator_exit::initiate_exit;
-pub use registry::validator_at;

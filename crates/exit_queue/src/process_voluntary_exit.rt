@@ -4,8 +4,7 @@ ghost use Rattle.bc_words.specs.Outcome.{Changes};
 ghost use Rattle.spec_blocks.specs.ProcessVoluntaryExit.{process_voluntary_exit};
 
 use crate::initiate_validator_exit::initiate_exit;
-use crate::registry::validator_at;
-use balance_totals::{current_epoch, is_active_validator};
+use balance_totals::{current_epoch, is_active_validator, validator_at};
 use bc_preset::Config;
 use bc_preset::constants::FAR_FUTURE_EPOCH;
 use bc_words::{Refusal, Stop, checked_add};

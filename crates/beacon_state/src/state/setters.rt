@@ -3,8 +3,10 @@
 //! What may take memory answers whether it was refused, and then leaves the state as it was.
 
 ghost use Rattle.std.specs.Prelude.{◌≡◌, ◌<◌, [], length, slice_set};
-ghost use Rattle.bc_words.specs.Outcome.{Pushes, Becomes, bind, checked_push, done};
-ghost use Rattle.spec_state.specs.States.{votes_limit, attestations_limit};
+ghost use Rattle.bc_words.specs.Outcome.{Pushes, Becomes};
+ghost use Rattle.beacon_state.specs.inside.Changes.{one_more_historical_root, one_more_vote, one_more_validator, one_more_balance};
+ghost use Rattle.beacon_state.specs.inside.Changes.{one_more_previous_attestation, one_more_current_attestation};
+ghost use Rattle.beacon_state.specs.inside.Changes.{with_previous_attestation_at, with_current_attestation_at, with_rotated_attestations};
 
 use super::State;
 use crate::groups::{attestations_limit_of, votes_limit_of};
@@ -120,7 +122,7 @@ impl State {
     /// Appends one more root of a batch. Full exactly where there are as many as the limit. On an error the
     /// state is as before.
     pub fn push_historical_roots(&mut self, root: Root) -> Result<(), PushStop>
-        ensures { Pushes result self.old self.new (bind (checked_push self.old.preset.historical_roots_limit self.old.historical_roots root) (λ items. done (record self.old { historical_roots = items }))) }
+        ensures { Pushes result self.old self.new (one_more_historical_root self.old root) }
     {
         let limit = self.preset.historical_roots_limit;
         self.historical_roots.push(root, limit)
@@ -137,7 +139,7 @@ impl State {
     /// Appends one more vote. Full exactly where there are as many as the limit. On an error the
     /// state is as before.
     pub fn push_eth1_data_votes(&mut self, vote: Eth1Data) -> Result<(), PushStop>
-        ensures { Pushes result self.old self.new (bind (checked_push (votes_limit self.old.preset) self.old.eth1_data_votes vote) (λ items. done (record self.old { eth1_data_votes = items }))) }
+        ensures { Pushes result self.old self.new (one_more_vote self.old vote) }
     {
         let limit = votes_limit_of(&self.preset);
         self.eth1_data_votes.push(vote, limit)
@@ -154,7 +156,7 @@ impl State {
     /// Appends one more validator. Full exactly where there are as many as the limit. On an error the
     /// state is as before.
     pub fn push_validators(&mut self, validator: Validator) -> Result<(), PushStop>
-        ensures { Pushes result self.old self.new (bind (checked_push self.old.preset.validator_registry_limit self.old.validators validator) (λ items. done (record self.old { validators = items }))) }
+        ensures { Pushes result self.old self.new (one_more_validator self.old validator) }
     {
         let limit = self.preset.validator_registry_limit;
         self.validators.push(validator, limit)
@@ -171,7 +173,7 @@ impl State {
     /// Appends one more balance. Full exactly where there are as many as the limit. On an error the
     /// state is as before.
     pub fn push_balances(&mut self, balance: u64) -> Result<(), PushStop>
-        ensures { Pushes result self.old self.new (bind (checked_push self.old.preset.validator_registry_limit self.old.balances balance) (λ items. done (record self.old { balances = items }))) }
+        ensures { Pushes result self.old self.new (one_more_balance self.old balance) }
     {
         let limit = self.preset.validator_registry_limit;
         self.balances.push(balance, limit)
@@ -200,7 +202,7 @@ impl State {
         attestation: PendingAttestation,
     ) -> Result<(), NoMemory>
         requires { i < length self.old.previous_epoch_attestations }
-        ensures { Becomes result self.old self.new (record self.old { previous_epoch_attestations = slice_set self.old.previous_epoch_attestations i attestation }) }
+        ensures { Becomes result self.old self.new (with_previous_attestation_at self.old i attestation) }
     {
         self.previous_epoch_attestations.set(i, attestation)
     }
@@ -211,7 +213,7 @@ impl State {
         &mut self,
         attestation: PendingAttestation,
     ) -> Result<(), PushStop>
-        ensures { Pushes result self.old self.new (bind (checked_push (attestations_limit self.old.preset) self.old.previous_epoch_attestations attestation) (λ items. done (record self.old { previous_epoch_attestations = items }))) }
+        ensures { Pushes result self.old self.new (one_more_previous_attestation self.old attestation) }
     {
         let limit = attestations_limit_of(&self.preset);
         self.previous_epoch_attestations.push(attestation, limit)
@@ -224,7 +226,7 @@ impl State {
         attestation: PendingAttestation,
     ) -> Result<(), NoMemory>
         requires { i < length self.old.current_epoch_attestations }
-        ensures { Becomes result self.old self.new (record self.old { current_epoch_attestations = slice_set self.old.current_epoch_attestations i attestation }) }
+        ensures { Becomes result self.old self.new (with_current_attestation_at self.old i attestation) }
     {
         self.current_epoch_attestations.set(i, attestation)
     }
@@ -235,7 +237,7 @@ impl State {
         &mut self,
         attestation: PendingAttestation,
     ) -> Result<(), PushStop>
-        ensures { Pushes result self.old self.new (bind (checked_push (attestations_limit self.old.preset) self.old.current_epoch_attestations attestation) (λ items. done (record self.old { current_epoch_attestations = items }))) }
+        ensures { Pushes result self.old self.new (one_more_current_attestation self.old attestation) }
     {
         let limit = attestations_limit_of(&self.preset);
         self.current_epoch_attestations.push(attestation, limit)
@@ -252,7 +254,7 @@ impl State {
     /// The attestations of the current epoch become those of the previous one, and the current epoch has none. Where
     /// memory is refused, the state is as before.
     pub fn rotate_attestations(&mut self) -> Result<(), NoMemory>
-        ensures { Becomes result self.old self.new (record self.old { previous_epoch_attestations = self.old.current_epoch_attestations; current_epoch_attestations = [] }) }
+        ensures { Becomes result self.old self.new (with_rotated_attestations self.old) }
     {
         self.previous_epoch_attestations.clear();
         mem::swap(
