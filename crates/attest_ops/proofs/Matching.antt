@@ -18,17 +18,6 @@ past [] i e = of_nothing (i + 1) ∙ sym (of_nothing i)
 past (x ∷ items) zero e = absurd cc
 past (x ∷ items) (suc i) e = ap (λ k. drop k (x ∷ items)) (let s : suc i + 1 ≡ suc (i + 1) = omega arith in s) ∙ past items i e
 
--- what is found at a place is what the definitions read there
-pub read_there : (items : List (List ℕ)) (i : ℕ) (item : List ℕ) → Some item ≡ slice_get items i → item ≡ get_or items i []
-read_there [] i item e = absurd cc
-read_there (x ∷ items) zero item e = let same : x ≡ item = cc in sym same
-read_there (x ∷ items) (suc i) item e = read_there items i item e
-
-pub some_there : (items : List (List ℕ)) (i : ℕ) → i < length items → None ≡ slice_get items i → ⊥
-some_there [] i h e = omega arith
-some_there (x ∷ items) zero h e = absurd cc
-some_there (x ∷ items) (suc i) h e = some_there items i (omega arith) e
-
 module _ {A : Type 0} (target : A → Bool) where
   opens : (items : List A) (i : ℕ) (item : A) → Some item ≡ slice_get items i → filter target (drop i items) ≡ cond (target item) (item ∷ filter target (drop (i + 1) items)) (filter target (drop (i + 1) items))
   opens items i item e = ap (filter target) (front items i item e)
@@ -67,3 +56,8 @@ module _ {A : Type 0} (target : A → Bool) where
 
     pub heads_end : (items found : List A) (i : ℕ) → length items ≤ i → found ++ filter head (filter target (drop i items)) ≡ found
     heads_end items found i h = ap (λ xs. found ++ filter head (filter target xs)) (drop_of_length-le items h) ∙ append-nil found
+
+-- what adding an attestation needs, where its target is looked at, and its head too
+pub ruleset adding_target = (target_matches, target_differs, no_target)
+
+pub ruleset adding_head = (head_matches, head_differs, head_of_another_target, no_head)

@@ -69,3 +69,8 @@ somebody_attests committee bits i h set_bit = ap (λ ms. not (nat_eq (length ms)
 
 pub nobody_attests : (committee : List ℕ) (bits : List Bool) (i : ℕ) → length committee ≤ i → members_with_bits (drop i committee) (drop i bits) ≡ []
 nobody_attests committee bits i h = from_end committee bits i h
+
+-- what the loops over a committee need: that of those who attest, and that of whether anybody does
+pub ruleset listing = (members_begin, one_attests, one_does_not, members_end)
+
+pub ruleset looking = (all_begin, somebody_attests, one_does_not, nobody_attests)

@@ -16,7 +16,7 @@ fn is_set(bits: &BitList, i: usize) -> bool
 }
 
 /// The members of a committee whose bit is set, in the committee's order (beacon-chain.md, `get_attesting_indices`).
-#[tactic(auto, using(crate::proofs::Members::members_begin, crate::proofs::Members::one_attests, crate::proofs::Members::one_does_not, crate::proofs::Members::members_end))]
+#[tactic(auto, using(crate::proofs::Members::listing))]
 pub fn attesting_indices(
     alloc: Global,
     committee: &[u64],
@@ -35,7 +35,7 @@ pub fn attesting_indices(
 }
 
 /// Whether the bit of a member of the committee is set.
-#[tactic(auto, using(crate::proofs::Members::all_begin, crate::proofs::Members::somebody_attests, crate::proofs::Members::one_does_not, crate::proofs::Members::nobody_attests))]
+#[tactic(auto, using(crate::proofs::Members::looking))]
 pub(crate) fn is_attested(committee: &[u64], bits: &BitList) -> bool
     ensures { result ≡ not (length (members_with_bits committee.now bits.now) == 0) }
 {

@@ -1,50 +1,18 @@
 //! The pending attestations of an epoch that vote for what is on the chain (beacon-chain.md, "Helper functions" of epoch
 //! processing).
 
-ghost use Rattle.std.specs.Prelude.{◌≡◌, ◌+◌, ◌<◌, ◌≤◌, ◌++◌, [], drop, filter, length, slice_get, slice_index_or, IfOk, OnOk};
+ghost use Rattle.std.specs.Prelude.{◌≡◌, ◌+◌, ◌≤◌, ◌++◌, length, slice_get, IfOk, OnOk};
 ghost use Rattle.std.specs.Option.{option_map};
-ghost use Rattle.spec_state.specs.Accessors.{get_current_epoch, get_block_root, get_block_root_at_slot};
+ghost use Rattle.spec_state.specs.Accessors.{get_current_epoch};
 ghost use Rattle.spec_epochs.specs.Helpers.{get_matching_source_attestations, get_matching_target_attestations, get_matching_head_attestations};
-ghost use Rattle.attest_ops.specs.inside.Matching.{is_for_target, is_for_head};
+ghost use Rattle.attest_ops.specs.inside.Matching.{is_for_target, is_for_head, targets_from, heads_from};
 
-use balance_totals::current_epoch;
+use balance_totals::{block_root, block_root_at_slot, current_epoch};
 use bc_words::NoMemory;
 use beacon_state::State;
 use beacon_types::PendingAttestation;
 use hash_tree::Root;
 use std::alloc::Global;
-
-/// The root of the latest block whose slot has this place.
-fn root_at(state: &State, place: u64) -> Root
-    requires { place < length state.now.block_roots }
-    ensures { result ≡ slice_index_or state.now.block_roots place [] }
-{
-    match state.block_roots_at(place) {
-        Some(root) => *root,
-        None => unreachable!(),
-    }
-}
-
-/// The root of the block at a slot (beacon-chain.md, `get_block_root_at_slot`).
-#[tactic(auto, unfolding(spec_state::specs::Accessors::get_block_root_at_slot), using(bc_preset::proofs::Bounds::preset_bounds))]
-fn block_root_at_slot(state: &State, slot: u64) -> Root
-    ensures { result ≡ get_block_root_at_slot state.now slot }
-{
-    let _roots = state.block_roots_len();
-    root_at(state, slot % state.preset().slots_per_historical_root)
-}
-
-/// The root of the block at the first slot of an epoch (beacon-chain.md, `get_block_root`).
-#[tactic(auto, unfolding(spec_state::specs::Accessors::get_block_root, spec_state::specs::Accessors::get_current_epoch))]
-fn block_root(state: &State, epoch: u64) -> Root
-    requires { epoch ≤ get_current_epoch state.now }
-    ensures { result ≡ get_block_root state.now epoch }
-{
-    let preset = state.preset();
-    preset.bounds();
-    let _slot = state.slot();
-    block_root_at_slot(state, epoch * preset.slots_per_epoch)
-}
 
 /// How many pending attestations the epoch has.
 #[tactic(auto, unfolding(spec_epochs::specs::Helpers::get_matching_source_attestations))]
@@ -85,7 +53,7 @@ fn is_for_head(state: &State, attestation: &PendingAttestation) -> bool
 }
 
 /// Adds the attestation at a place, where its target is right.
-#[tactic(auto, using(crate::proofs::Matching::target_matches, crate::proofs::Matching::target_differs, crate::proofs::Matching::no_target))]
+#[tactic(auto, using(crate::proofs::Matching::adding_target))]
 fn add_target(
     found: &mut Vec<PendingAttestation>,
     state: &State,
@@ -93,7 +61,7 @@ fn add_target(
     root: &Root,
     i: u64,
 ) -> Result<(), NoMemory>
-    ensures { OnOk result (found.new.items ++ filter (is_for_target root.now) (drop (i + 1) (get_matching_source_attestations state.now epoch)) ≡ found.old.items ++ filter (is_for_target root.now) (drop i (get_matching_source_attestations state.now epoch))) }
+    ensures { OnOk result (found.new.items ++ targets_from state.now root.now epoch (i + 1) ≡ found.old.items ++ targets_from state.now root.now epoch i) }
 {
     let Some(attestation) = source_at(state, epoch, i) else {
         return Ok(());
@@ -125,7 +93,7 @@ pub fn matching_target(
 }
 
 /// Adds the attestation at a place, where its target and its head are right.
-#[tactic(auto, using(crate::proofs::Matching::head_matches, crate::proofs::Matching::head_differs, crate::proofs::Matching::head_of_another_target, crate::proofs::Matching::no_head))]
+#[tactic(auto, using(crate::proofs::Matching::adding_head))]
 fn add_head(
     found: &mut Vec<PendingAttestation>,
     state: &State,
@@ -133,7 +101,7 @@ fn add_head(
     root: &Root,
     i: u64,
 ) -> Result<(), NoMemory>
-    ensures { OnOk result (found.new.items ++ filter (is_for_head state.now) (filter (is_for_target root.now) (drop (i + 1) (get_matching_source_attestations state.now epoch))) ≡ found.old.items ++ filter (is_for_head state.now) (filter (is_for_target root.now) (drop i (get_matching_source_attestations state.now epoch)))) }
+    ensures { OnOk result (found.new.items ++ heads_from state.now root.now epoch (i + 1) ≡ found.old.items ++ heads_from state.now root.now epoch i) }
 {
     let Some(attestation) = source_at(state, epoch, i) else {
         return Ok(());

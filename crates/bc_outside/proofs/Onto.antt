@@ -1,5 +1,5 @@
 -- Calls to the operating system meet what a shelf says.
-use Rattle.std.proofs.Common.{◌≡◌, ◌≤◌, ◌<◌, ◌+◌, ℕ, zero, suc, Bool, List, [], ◌∷◌, length, map, set, get_or, Option, Some, None, Result, Ok, Err, refl, sym, ap, ◌∙◌, arith, inl, inr}
+use Rattle.std.proofs.Common.{◌≡◌, ◌≤◌, ◌<◌, ℕ, zero, suc, List, [], ◌∷◌, length, map, set, get_or, Option, Result, Ok, Err, refl, sym, ap, ◌∙◌, arith, inl, inr}
 use Rattle.std.proofs.Math.Nat.{eq-or-lt_of_le}
 use Rattle.bc_outside.specs.declared.trouble.Trouble.{Trouble}
 use Rattle.bc_outside.specs.declared.trouble.Trouble.TheVariants.{Failed, NoMemory}
@@ -8,7 +8,7 @@ use Rattle.std.specs.Prelude.{IfOk, OnErr, take}
 use Rattle.bc_outside.specs.Told.{Agrees, more_of}
 use Rattle.bc_outside.specs.Calls.{FailsOnlyBy, Rose, ShelfKeeps, Reads, meets_end}
 use Rattle.bc_outside.proofs.Taking.{set_more}
-use Rattle.bc_outside.specs.inside.Tries.{Tries, all_faults, interrupted_by, failed_otherwise}
+use Rattle.bc_outside.specs.inside.Tries.{Tries, all_faults}
 use Rattle.bc_outside.specs.inside.Disk.{DiskFile, DiskFiles, disk_told, left_of}
 
 -- where a count can't pass its last number, it rose or stands there

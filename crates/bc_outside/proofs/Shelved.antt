@@ -1,13 +1,12 @@
 -- The files of a shelf in memory meet what a shelf says.
-use Rattle.std.proofs.Common.{◌≡◌, ◌<◌, ◌≤◌, ◌+◌, ℕ, zero, suc, min, Bool, true, false, ◌||◌, ◌&&◌, List, [], ◌∷◌, ◌++◌, length, map, get_or, set, take, drop, Option, Some, None, refl, sym, ap, subst, ◌∙◌, arith, inl, inr, length-take, length-append, Result, Ok, Err}
+use Rattle.std.proofs.Common.{◌≡◌, ◌<◌, ◌≤◌, ◌+◌, ℕ, zero, suc, Bool, true, false, ◌||◌, ◌&&◌, List, [], ◌∷◌, ◌++◌, length, map, get_or, set, take, drop, Option, Some, None, refl, sym, ap, ◌∙◌, arith, inl, inr, Result, Ok, Err}
 use Rattle.std.specs.Prelude.{IfSome, IsSome}
-use Rattle.std.proofs.lemmas.List.{take-append-drop}
 use Rattle.std.proofs.Math.Seq.{take-add}
 use Rattle.std.proofs.lemmas.Grind.{common_steps}
 use Rattle.std.proofs.Math.Nat.{eq-or-lt_of_le}
 use Rattle.bc_outside.specs.declared.trouble.Trouble.{Trouble}
 use Rattle.bc_outside.specs.declared.trouble.Trouble.TheVariants.{Failed, NoMemory}
-use Rattle.bc_outside.specs.Told.{FileHanded, any_byte, more_of, with_more, Agrees, AllThere}
+use Rattle.bc_outside.specs.Told.{any_byte, more_of, Agrees}
 use Rattle.bc_outside.specs.Calls.{Opens, Reads, FailsOnlyBy, Rose, ShelfKeeps}
 use Rattle.bc_outside.specs.Memory.{NamedFile, OpenedFile, MemoryFiles, held_in, handed_of, at_start, is_reliable, is_listed, counted, left_in, with_taken, told_by, OpensIn, ReadsIn}
 use Rattle.bc_outside.specs.inside.Held.{AreHeld}

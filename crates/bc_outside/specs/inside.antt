@@ -1,3 +1,4 @@
 pub mod Disk
 pub mod Held
+pub mod Shelving
 pub mod Tries

@@ -35,7 +35,10 @@ struct DiskFile<F: Read + Drop> {
 impl<F: Read + Drop> Model for DiskFile<F> {
     ghost Value = { DiskFile };
 
-    ghost view = { λ file. record { handed = record { name = file.name; bytes = map (λ s. s.value) file.bytes.items; ended = file.ended; grew = file.grew }; left = F.remaining file.reader } };
+    ghost view = { λ file. record {
+      handed = record { name = file.name; bytes = map (λ s. s.value) file.bytes.items; ended = file.ended; grew = file.grew };
+      left = F.remaining file.reader;
+    } };
 }
 
 impl<F: Read + Drop> DiskFile<F> {

@@ -1,11 +1,14 @@
 //! A shelf whose files lie in memory. It tells everything, and fails where it is told to.
 
-ghost use Rattle.std.specs.Prelude.{◌≡◌, ◌<◌, ◌≤◌, min, ◌+◌, ◌^◌, ◌++◌, List, [], ◌∷◌, true, false, ◌||◌, length, map, take, drop, Some, IfSome, option_map, string_bytes, IfOk, IfErr, IsErr};
+ghost use Rattle.std.specs.Prelude.{◌≡◌, ◌<◌, ◌≤◌, min, ◌+◌, ◌^◌, ◌++◌, ◌||◌, List, [], ◌∷◌, true, false, length, map, take, drop};
+ghost use Rattle.std.specs.Prelude.{Some, IfSome, option_map, string_bytes, IfOk, IfErr, IsErr};
 ghost use Rattle.bc_outside.specs.Told.{with_more};
 ghost use Rattle.bc_outside.specs.Calls.{FailsOnlyBy, Opens, Reads, ShelfKeeps, meets_end};
 ghost use Rattle.bc_outside.specs.declared.trouble.Trouble.TheVariants.{Failed, NoMemory};
-ghost use Rattle.bc_outside.specs.Memory.{counted, is_failing, NamedFile, OpenedFile, MemoryFiles, held_in, handed_of, is_listed, left_in, with_taken, told_by, unopened, OpensIn, ReadsIn};
+ghost use Rattle.bc_outside.specs.Memory.{NamedFile, OpenedFile, MemoryFiles, counted, is_failing, is_listed, held_in, handed_of};
+ghost use Rattle.bc_outside.specs.Memory.{left_in, with_taken, told_by, unopened, OpensIn, ReadsIn};
 ghost use Rattle.bc_outside.specs.inside.Held.{AreHeld};
+ghost use Rattle.bc_outside.specs.inside.Shelving.{with_refused, with_admitted, HandsOut};
 
 use crate::names::AskedName;
 use crate::{Shelf, Trouble};
@@ -136,7 +139,15 @@ pub struct MemoryShelf {
 impl Model for MemoryShelf {
     ghost Value = { MemoryFiles };
 
-    ghost view = { λ shelf. record { files = shelf.files.items; opened = shelf.opened.items; asked = shelf.asked.items; failing = shelf.failing.items; greatest = shelf.greatest; calls = shelf.calls; faults = shelf.faults } };
+    ghost view = { λ shelf. record {
+      files = shelf.files.items;
+      opened = shelf.opened.items;
+      asked = shelf.asked.items;
+      failing = shelf.failing.items;
+      greatest = shelf.greatest;
+      calls = shelf.calls;
+      faults = shelf.faults;
+    } };
 
     ghost invariant = { λ shelf. (1 ≤ shelf.greatest) × AreHeld shelf.files.items shelf.opened.items };
 }
@@ -198,7 +209,7 @@ impl MemoryShelf {
 
     // Asks for a name that can't be opened.
     fn refuse(&mut self, name: &str) -> Result<u32, Trouble>
-        ensures failed { IfErr result (λ trouble. trouble ≡ Failed → self.new ≡ record self.old { asked = self.old.asked ++ name.now ∷ []; calls = counted self.old.calls; faults = counted self.old.faults }) }
+        ensures failed { IfErr result (λ trouble. trouble ≡ Failed → self.new ≡ with_refused self.old name.now) }
         ensures memory { IfErr result (λ trouble. trouble ≡ NoMemory → self.new ≡ self.old) }
         ensures err { IsErr result }
     {
@@ -213,7 +224,7 @@ impl MemoryShelf {
         requires room { length self.old.opened < 2 ^ 32 }
         requires held { held_in self.old.files file.name ≡ Some file.bytes }
         requires start { file.ended ≡ false }
-        ensures ok { IfOk result (λ n. (n ≡ length self.old.opened) × (self.new ≡ record self.old { opened = self.old.opened ++ file ∷ []; asked = self.old.asked ++ name.now ∷ []; calls = counted self.old.calls })) }
+        ensures ok { IfOk result (λ n. (n ≡ length self.old.opened) × (self.new ≡ with_admitted self.old name.now file)) }
         ensures err { IfErr result (λ trouble. (trouble ≡ NoMemory) × (self.new ≡ self.old)) }
     {
         let asked = AskedName::new(self.alloc, name)?;
@@ -295,7 +306,7 @@ fn take_from(opened: &mut Vec<OpenFile>, file: usize, into: &mut [u8], greatest:
     requires some { 1 ≤ greatest }
     ensures within { result ≤ length into.old }
     ensures files { opened.new.items ≡ with_taken opened.old.items file result (meets_end into.old result) }
-    ensures taken { IfSome (left_in opened.old.items file) (λ left. (result ≡ min (min greatest (length into.old)) (length left)) × (into.new ≡ take result left ++ drop result into.old)) }
+    ensures taken { IfSome (left_in opened.old.items file) (HandsOut greatest into.old into.new result) }
     ensures told { map handed_of opened.new.items ≡ with_more (map handed_of opened.old.items) file (take result into.new) (meets_end into.old result) }
     ensures held { (files : List NamedFile) → AreHeld files opened.old.items → AreHeld files opened.new.items }
 {

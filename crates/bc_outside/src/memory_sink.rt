@@ -24,7 +24,13 @@ pub struct MemorySink {
 impl Model for MemorySink {
     ghost Value = { MemoryBytes };
 
-    ghost view = { λ sink. record { written = sink.written.items; failing = sink.failing.items; greatest = sink.greatest; calls = sink.calls; faults = sink.faults } };
+    ghost view = { λ sink. record {
+      written = sink.written.items;
+      failing = sink.failing.items;
+      greatest = sink.greatest;
+      calls = sink.calls;
+      faults = sink.faults;
+    } };
 
     ghost invariant = { λ sink. 1 ≤ sink.greatest };
 }

@@ -4,11 +4,11 @@ ghost use Rattle.std.specs.Prelude.{◌≡◌};
 ghost use Rattle.bc_words.specs.Outcome.{Changes};
 ghost use Rattle.spec_blocks.specs.ProcessBlockHeader.{header_of, process_block_header};
 
+use balance_totals::validator_at;
 use bc_words::{Refusal, Stop};
 use beacon_body::BeaconBlock;
 use beacon_state::State;
 use beacon_types::BeaconBlockHeader;
-use exit_queue::validator_at;
 use hash_tree::Leaf;
 
 /// The header of the block, whose state root is zero until the next slot.

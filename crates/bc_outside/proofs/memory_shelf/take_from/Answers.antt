@@ -1,4 +1,4 @@
-use Rattle.std.proofs.Common.{◌≡◌, ◌≤◌, ap, sym, refl, arith, length, drop}
+use Rattle.std.proofs.Common.{◌≤◌, ap, arith, length, drop}
 use Rattle.bc_outside.specs.Memory.{OpenedFile, handed_of}
 use Rattle.bc_outside.specs.Calls.{meets_end}
 use Rattle.bc_outside.proofs.Taking.{set_more}

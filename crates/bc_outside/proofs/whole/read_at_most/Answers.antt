@@ -1,7 +1,6 @@
-use Rattle.std.proofs.Common.{◌≡◌, ℕ, false, [], ap, refl, arith, rules, zero-le, length, length-append, length-take, subst}
+use Rattle.std.proofs.Common.{ℕ, [], ap, arith, rules, zero-le, length, length-append, length-take}
 use Rattle.std.proofs.lemmas.Result.{err_from_is_err_and}
 use Rattle.std.proofs.lemmas.Grind.{common_steps}
-use Rattle.bc_outside.specs.Calls.{Takes}
 use Rattle.bc_outside.proofs.Keeping.{keeps_none, keeps_then, takes_length}
 use Rattle.bc_outside.proofs.Taking.{takes_none, takes_some_none, takes_some_more, stays_same, read_to_end, read_on}
 use Rattle.bc_outside.proofs.whole.read_at_most.Goals as goal

@@ -1,4 +1,4 @@
-use Rattle.std.proofs.Common.{length, arith}
+use Rattle.std.proofs.Common.{length}
 use Rattle.std.proofs.lemmas.Result.{err_from_is_err_and}
 use Rattle.bc_outside.proofs.Taking.{takes_some_none, stays_same}
 use Rattle.bc_outside.proofs.whole.read_more.Goals as goal

@@ -1,4 +1,3 @@
-use Rattle.std.proofs.Common.{◌≤◌}
 use Rattle.bc_outside.proofs.Onto.{disk_keeps, tried_causes}
 use Rattle.bc_outside.proofs.Keeping.{agreed_opens, opens_length}
 use Rattle.bc_outside.specs.inside.Disk.{disk_told}

@@ -1,4 +1,4 @@
-use Rattle.std.proofs.Common.{[], ◌∷◌, ◌≡◌, ◌++◌, ◌∙◌, ap, refl}
+use Rattle.std.proofs.Common.{[], ◌∷◌}
 use Rattle.bc_outside.proofs.Shelved.{held_append}
 use Rattle.bc_outside.proofs.memory_shelf.MemoryShelf.admit.Goals as goal
 

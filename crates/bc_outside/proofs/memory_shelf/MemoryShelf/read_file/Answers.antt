@@ -1,6 +1,4 @@
-use Rattle.std.proofs.Common.{◌≡◌, ◌≤◌, ap, refl, length, arith}
-use Rattle.bc_outside.specs.Memory.{MemoryFiles}
-use Rattle.bc_outside.specs.inside.Held.{AreHeld}
+use Rattle.std.proofs.Common.{refl}
 use Rattle.bc_outside.proofs.memory_shelf.MemoryShelf.read_file.Goals as goal
 
 pub invariant_of-self : goal.invariant_of-self

@@ -1,4 +1,4 @@
-use Rattle.std.proofs.Common.{◌≤◌, arith}
+use Rattle.std.proofs.Common.{arith}
 use Rattle.bc_outside.specs.Calls.{FailsOnlyBy}
 use Rattle.bc_outside.proofs.Shelved.{opens_of, open_causes, open_keeps, causes_later}
 use Rattle.bc_outside.proofs.memory_shelf.MemoryShelfShelf.open.Goals as goal

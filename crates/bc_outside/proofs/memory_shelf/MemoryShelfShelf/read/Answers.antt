@@ -1,5 +1,4 @@
-use Rattle.std.proofs.Common.{◌≤◌, ◌≡◌, ◌∙◌, sym, arith}
-use Rattle.bc_outside.specs.Calls.{FailsOnlyBy}
+use Rattle.std.proofs.Common.{arith}
 use Rattle.bc_outside.specs.Memory.{ReadsIn}
 use Rattle.bc_outside.proofs.Shelved.{at_left, read_causes, read_keeps, causes_later, length_map}
 use Rattle.bc_outside.proofs.memory_shelf.MemoryShelfShelf.read.Goals as goal
