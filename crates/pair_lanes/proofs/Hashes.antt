@@ -1,6 +1,6 @@
 -- The hash of a message of 64 bytes: two blocks, of which the second is padding alone.
-use Rattle.std.proofs.Common.{◌≡◌, ◌∙◌, ℕ, ◌/◌, List, [], ◌∷◌, ◌++◌, length, take, drop, slice_index, refl, sym, ap, length-append, append_assoc, arith}
-use Rattle.std.proofs.lemmas.List.{take-append-le, drop-append-le, take_all, drop_all, drop_more, take-append-drop}
+use Rattle.std.proofs.Common.{◌≡◌, ℕ, ◌/◌, List, ◌++◌, length, take, drop, refl, ap, length-append, arith}
+use Rattle.std.proofs.lemmas.List.{take-append-le, drop-append-le, take_all, drop_all}
 use Rattle.sha2.specs.Sha256.{sha256, digest_bytes, hash_after, compress, padding, initial_hash_256}
 use Rattle.pair_lanes.specs.inside.Lanes.{padding_block}
 
@@ -33,20 +33,3 @@ hash_of_37 m long =
     let whole : length (m ++ padding 37) ≡ 64 = omega (arith, length-append m (padding 37), padding_of_37_length) in
     let blocks : length (m ++ padding 37) / 64 ≡ 1 = omega arith in
     ap (λ (h : List ℕ). digest_bytes h 8) (rw (long, blocks) (ap (λ (b : List ℕ). compress initial_hash_256 b) (take_all 64 (m ++ padding 37) (omega arith))))
-
--- the bytes of a message behind its first 32
-five_more : (m : List ℕ) → length m ≡ 37 → drop 32 m ≡ slice_index m 32 ∷ slice_index m 33 ∷ slice_index m 34 ∷ slice_index m 35 ∷ slice_index m 36 ∷ []
-five_more m long =
-    drop_more m 32 0 (omega arith)
-    ∙ ap (λ (r : List ℕ). slice_index m 32 ∷ r) (drop_more m 33 0 (omega arith)
-    ∙ ap (λ (r : List ℕ). slice_index m 33 ∷ r) (drop_more m 34 0 (omega arith)
-    ∙ ap (λ (r : List ℕ). slice_index m 34 ∷ r) (drop_more m 35 0 (omega arith)
-    ∙ ap (λ (r : List ℕ). slice_index m 35 ∷ r) (drop_more m 36 0 (omega arith)
-    ∙ ap (λ (r : List ℕ). slice_index m 36 ∷ r) (drop_all 37 m (omega arith))))))
-
--- a message of 37 bytes in its two halves, of which the second goes on
-pub halves_of_37 : (m rest : List ℕ) → length m ≡ 37
-    → take 32 m ++ (slice_index m 32 ∷ slice_index m 33 ∷ slice_index m 34 ∷ slice_index m 35 ∷ slice_index m 36 ∷ rest) ≡ m ++ rest
-halves_of_37 m rest long =
-    let five = slice_index m 32 ∷ slice_index m 33 ∷ slice_index m 34 ∷ slice_index m 35 ∷ slice_index m 36 ∷ [] in
-    sym (append_assoc (take 32 m) five rest) ∙ ap (λ (xs : List ℕ). xs ++ rest) (ap (λ (xs : List ℕ). take 32 m ++ xs) (sym (five_more m long)) ∙ take-append-drop 32 m)

@@ -4,3 +4,4 @@ pub mod Padding
 pub mod Hashes
 pub mod Layers
 pub mod Maps
+pub mod SourceBlocks

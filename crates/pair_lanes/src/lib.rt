@@ -8,11 +8,11 @@ mod constants;
 mod eight;
 mod pairs;
 mod rounds;
-mod short;
+mod sources;
 mod words;
 
 pub use pairs::{hash_layer, hash_pairs};
-pub use short::hash_short;
+pub use sources::hash_sources;
 
 #[cfg(test)]
 mod tests;

@@ -1,4 +1,4 @@
-//! The hashes of every count of pairs and of short messages from 0 to 40 are those of sha2.
+//! The hashes of every count of pairs from 0 to 40, and the sources of pages, are those of sha2.
 
 use super::*;
 use sha2::{Digest, Sha256};
@@ -32,28 +32,26 @@ fn hashes_are_those_of_sha2(rt: HostRuntime) -> Result<(), std::test::Fail> {
     Ok(())
 }
 
-/// A message of 37 bytes without a pattern.
-fn short(number: u64) -> [u8; 37] {
-    let mut message = [0; 37];
-    message[..32].copy_from_slice(&scattered(number));
-    message[32..].copy_from_slice(&scattered(!number)[..5]);
-    message
+/// What sha2 makes of a seed, a round and the number of a page.
+fn source(seed: &[u8; 32], round: u8, page: u32) -> [u8; 32] {
+    let mut hasher = Sha256::new();
+    hasher.update(seed);
+    hasher.update(&[round]);
+    hasher.update(&page.to_le_bytes());
+    hasher.finalize()
 }
 
 #[test]
-fn short_hashes_are_those_of_sha2(rt: HostRuntime) -> Result<(), std::test::Fail> {
-    for count in 0..41u64 {
-        let mut messages = Vec::new(rt.alloc());
-        let mut out = Vec::new(rt.alloc());
-        for k in 0..count {
-            messages.push(short(1000 * count + 2 * k))?;
-            out.push([0u8; 32])?;
-        }
-        assert!(rt; messages.len() == out.len());
-        hash_short(&messages, &mut out);
-        for (message, hash) in messages.iter().zip(out.iter()) {
-            assert_eq!(rt; *hash, Sha256::digest(message));
+fn sources_are_those_of_sha2(rt: HostRuntime) {
+    for first in [0u32, 8, 252, 255, 65_530, 16_777_209, 0xffff_fff8] {
+        for round in [0u8, 1, 89, 255] {
+            assert!(rt; first <= 0xffff_fff8);
+            let seed = scattered(u64::from(first) + u64::from(round));
+            let mut out = [[0; 32]; 8];
+            hash_sources(&seed, round, first, &mut out);
+            for k in 0..8u32 {
+                assert_eq!(rt; out[k as usize], source(&seed, round, first + k));
+            }
         }
     }
-    Ok(())
 }

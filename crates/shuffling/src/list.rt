@@ -92,7 +92,7 @@ fn swap_mirror_images(list: &mut [u64], start: usize, end: usize, seed: &Root, r
     let mut pages = [[0; 32]; 8];
     let mut position = middle;
     while position < end {
-        turn_pages(&mut pages, seed, round, middle, position, end);
+        turn_pages(&mut pages, seed, round, middle, position);
         let next = end.min((position / 64 + 1) * 64);
         let word = word_at(&pages[position / 256 % 8], position as u64);
         swap_where_set(list, sum, position, next, word);

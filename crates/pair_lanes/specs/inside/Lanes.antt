@@ -1,5 +1,6 @@
 -- Eight messages side by side: each word is a vector, with one lane for each message.
-use Rattle.std.specs.Prelude.{ℕ, List, [], ◌∷◌, map, slice_index, slice_index_or}
+use Rattle.std.specs.Prelude.{ℕ, List, [], ◌∷◌, ◌++◌, map, slice_index, slice_index_or}
+use Rattle.std.specs.Int.{w32, to_le_bytes}
 use Rattle.sha2.specs.Sha256.{padding}
 
 -- lane j of each vector
@@ -19,3 +20,7 @@ variables j v =
 -- the block behind a message of 64 bytes
 unfoldable pub padding_block : List ℕ
 padding_block = padding 64
+
+-- the block that a seed, a round and a page's number fill with their padding
+unfoldable pub source_block : List ℕ → ℕ → ℕ → List ℕ
+source_block seed round page = (seed ++ round ∷ to_le_bytes w32 page) ++ padding 37

@@ -18,7 +18,7 @@ loop-position-preserved c =
     record {
       from = omega arith;
       to = omega arith;
-      pages = λ less more k from same begun. c.turn_pages.ensures k (omega arith) (omega arith) begun;
+      pages = λ less more k same. c.turn_pages.ensures k (omega arith);
       passed = join (after_round seed c.args.round count) (by_word c.word_at-word.result loop.position sum) sum _ loop.position next c.args.list.now loop.list c.swap_where_set.new.list
           loop.invariant.from (omega arith) loop.invariant.passed c.swap_where_set.ensures
           (λ place more less.
@@ -28,7 +28,7 @@ loop-position-preserved c =
           let bit : bit_at c.word_at-word.result (later sum place - loop.position) ≡ bit_of seed c.args.round (later sum place) =
           c.word_at-word.ensures (later sum place - loop.position) (omega arith)
           ∙ ap (λ k. bit_in (slice_index_or c.turn_pages.new.pages (loop.position / 256 % 8) []) k) at
-          ∙ ap (λ source. bit_in source (later sum place)) (c.turn_pages.ensures (loop.position / 256) (omega arith) (omega arith) (omega arith) ∙ ap (source_of seed c.args.round) same) in
+          ∙ ap (λ source. bit_in source (later sum place)) (c.turn_pages.ensures (loop.position / 256) (omega arith) ∙ ap (source_of seed c.args.round) same) in
           same_choice seed c.args.round count sum loop.position c.word_at-word.result place (omega arith) flip bit);
     }
 

@@ -1,4 +1,4 @@
-use Rattle.std.proofs.Common.{◌≡◌, ℕ, ◌-◌, ◌*◌, ◌%◌, ◌/◌, ◌<◌, ◌≤◌, [], length, slice_index_or}
+use Rattle.std.proofs.Common.{◌≡◌, ℕ, ◌-◌, ◌%◌, ◌/◌, ◌<◌, ◌≤◌, [], length, slice_index_or}
 use Rattle.shuffling.specs.Shuffling.{after_round, source_of}
 use Rattle.shuffling.specs.inside.Pass.{Passed}
 use Rattle.shuffling.proofs.list.swap_mirror_images.Given as goal
@@ -7,7 +7,7 @@ abbrev pub invariant-loop-position : goal.invariant-loop-position
 invariant-loop-position l = record {
   from : l.middle ≤ l.position;
   to : l.position ≤ l.end;
-  pages : l.middle < l.position → 0 < l.position % 2048 → (k : ℕ) → l.position / 256 ≤ k → k / 8 ≡ l.position / 2048 → k * 256 < l.end → slice_index_or l.pages (k % 8) [] ≡ source_of l.seed l.round k;
+  pages : l.middle < l.position → 0 < l.position % 2048 → (k : ℕ) → k / 8 ≡ l.position / 2048 → slice_index_or l.pages (k % 8) [] ≡ source_of l.seed l.round k;
   passed : Passed (after_round l.seed l.round (length l.fn.list)) l.sum l.middle l.position l.fn.list l.list;
 }
 

@@ -1,0 +1,10 @@
+use Rattle.std.proofs.Common.{ℕ, ◌*◌, ◌∙◌, sym, ap, add-zero}
+use Rattle.sha2.specs.Sha256.{word_at}
+use Rattle.pair_lanes.specs.inside.Lanes.{source_block}
+use Rattle.pair_lanes.proofs.Lanes.{below_eight}
+use Rattle.pair_lanes.proofs.sources.round_words.Goals as goal
+
+pub returns : goal.returns
+returns c =
+    let first = c.round_word.ensures ∙ ap (λ (page : ℕ). word_at (source_block c.args.seed.now c.args.round page) (4 * 8)) (sym (add-zero c.args.first)) in
+    below_eight _ first c.round_word-2.ensures c.round_word-3.ensures c.round_word-4.ensures c.round_word-5.ensures c.round_word-6.ensures c.round_word-7.ensures c.round_word-8.ensures

@@ -1,0 +1,116 @@
+//! The hashes of a seed, a round and a page's number, as the sources of a shuffle are. With its padding each is one block,
+//! and only the two words that hold the page differ from lane to lane.
+
+ghost use Rattle.std.specs.Prelude.{◌≡◌, ◌≢◌, ℕ, ◌+◌, ◌*◌, ◌^◌, ◌<◌, ◌≤◌, [], ◌∷◌, ◌++◌, length, slice_index, slice_index_or};
+ghost use Rattle.std.specs.Int.{w32, to_le_bytes};
+ghost use Rattle.sha2.specs.Sha256.{sha256, word_at};
+ghost use Rattle.pair_lanes.specs.inside.Lanes.{lane_at, source_block};
+
+use crate::eight::{digest, turned};
+use crate::rounds::{compress, expand, initial};
+use std::simd::u32x8;
+
+/// A word of the block without the page: of the seed, or of the padding (FIPS 180-4, 5.1.1).
+#[inline(always)]
+fn common_word(seed: &[u8; 32], place: usize) -> u32
+    requires place { place < 16 }
+    requires no_round { place ≢ 8 }
+    requires no_page { place ≢ 9 }
+    ensures { (round page : ℕ) → result ≡ word_at (source_block seed.now round page) (4 * place) }
+{
+    if place < 8 {
+        let at = 4 * place;
+        u32::from_be_bytes([seed[at], seed[at + 1], seed[at + 2], seed[at + 3]])
+    } else if place == 15 {
+        8 * 37
+    } else {
+        0
+    }
+}
+
+/// The word of the block that holds the round and the page's first three bytes.
+#[inline(always)]
+fn round_word(seed: &[u8; 32], round: u8, page: u32) -> u32
+    ensures { result ≡ word_at (source_block seed.now round page) (4 * 8) }
+{
+    let [a, b, c, _] = page.to_le_bytes();
+    u32::from_be_bytes([round, a, b, c])
+}
+
+/// The word of the block that holds the page's last byte and the first one of the padding.
+#[inline(always)]
+fn page_word(seed: &[u8; 32], round: u8, page: u32) -> u32
+    ensures { result ≡ word_at (source_block seed.now round page) (4 * 9) }
+{
+    let [_, _, _, d] = page.to_le_bytes();
+    u32::from_be_bytes([d, 0x80, 0, 0])
+}
+
+/// The words of eight pages that hold the round.
+#[inline(always)]
+fn round_words(seed: &[u8; 32], round: u8, first: u32) -> u32x8
+    requires { first + 8 ≤ 2 ^ 32 }
+    ensures { (j : ℕ) → j < 8 → slice_index result j ≡ word_at (source_block seed.now round (first + j)) (4 * 8) }
+{
+    u32x8::from_array([
+        round_word(seed, round, first),
+        round_word(seed, round, first + 1),
+        round_word(seed, round, first + 2),
+        round_word(seed, round, first + 3),
+        round_word(seed, round, first + 4),
+        round_word(seed, round, first + 5),
+        round_word(seed, round, first + 6),
+        round_word(seed, round, first + 7),
+    ])
+}
+
+/// The words of eight pages that hold their last bytes.
+#[inline(always)]
+fn page_words(seed: &[u8; 32], round: u8, first: u32) -> u32x8
+    requires { first + 8 ≤ 2 ^ 32 }
+    ensures { (j : ℕ) → j < 8 → slice_index result j ≡ word_at (source_block seed.now round (first + j)) (4 * 9) }
+{
+    u32x8::from_array([
+        page_word(seed, round, first),
+        page_word(seed, round, first + 1),
+        page_word(seed, round, first + 2),
+        page_word(seed, round, first + 3),
+        page_word(seed, round, first + 4),
+        page_word(seed, round, first + 5),
+        page_word(seed, round, first + 6),
+        page_word(seed, round, first + 7),
+    ])
+}
+
+/// A word of eight pages.
+#[inline(always)]
+fn words(seed: &[u8; 32], round: u8, first: u32, place: usize) -> u32x8
+    requires place { place < 16 }
+    requires fits { first + 8 ≤ 2 ^ 32 }
+    ensures { (j : ℕ) → j < 8 → slice_index result j ≡ word_at (source_block seed.now round (first + j)) (4 * place) }
+{
+    if place == 8 {
+        round_words(seed, round, first)
+    } else if place == 9 {
+        page_words(seed, round, first)
+    } else {
+        u32x8::splat(common_word(seed, place))
+    }
+}
+
+/// Writes the hash of a seed, a round and a page's number, low byte first, for each of eight pages (beacon-chain.md,
+/// `compute_shuffled_index`: the sources of a round). The eight go through vectors. It takes no memory.
+pub fn hash_sources(seed: &[u8; 32], round: u8, first: u32, out: &mut [[u8; 32]; 8])
+    requires { first + 8 ≤ 2 ^ 32 }
+    ensures { (j : ℕ) → j < 8 → slice_index_or out.new j [] ≡ sha256 (seed.now ++ round ∷ to_le_bytes w32 (first + j)) }
+{
+    let mut w = [u32x8::splat(0); 64];
+    'load: for k in 0..16 {
+        w[k] = words(seed, round, first, k);
+    }
+    expand(&mut w);
+    let h = compress(initial(), &w);
+    'hashes: for j in 0..8 {
+        out[j] = digest(&turned(h, j));
+    }
+}
