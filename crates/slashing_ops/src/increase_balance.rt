@@ -3,7 +3,7 @@
 ghost use Rattle.bc_words.specs.Outcome.{Changes};
 ghost use Rattle.spec_blocks.specs.IncreaseBalance.{increase_balance};
 
-use crate::read::balance_at;
+use balance_totals::balance_at;
 use bc_words::{Stop, checked_add};
 use beacon_state::State;
 

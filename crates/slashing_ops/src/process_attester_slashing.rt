@@ -10,13 +10,12 @@ ghost use Rattle.slashing_ops.specs.inside.Slashed.{slashed, slash_in_both};
 use crate::is_slashable_validator::is_slashable;
 use crate::is_valid_indexed_attestation::check_indexed_attestation;
 use crate::slash_validator::slash_in_place;
-use balance_totals::current_epoch;
+use balance_totals::{current_epoch, validator_at};
 use bc_preset::Config;
 use bc_words::{Refusal, Stop};
 use beacon_body::AttesterSlashing;
 use beacon_state::State;
 use beacon_types::is_slashable_data;
-use exit_queue::validator_at;
 
 /// Whether an index is among these.
 fn is_among(indices: &[u64], index: u64) -> bool

@@ -5,12 +5,11 @@ ghost use Rattle.spec_blocks.specs.ProcessProposerSlashing.{process_proposer_sla
 
 use crate::is_slashable_validator::is_slashable;
 use crate::slash_validator::slash;
-use balance_totals::current_epoch;
+use balance_totals::{current_epoch, validator_at};
 use bc_preset::Config;
 use bc_words::{Refusal, Stop};
 use beacon_body::ProposerSlashing;
 use beacon_state::State;
-use exit_queue::validator_at;
 
 /// Slashes a validator that proposed two different blocks in one slot, for the block's proposer. The signatures aren't
 /// checked.

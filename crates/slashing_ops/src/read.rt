@@ -1,4 +1,4 @@
-//! Reading lists of a state by an index that may be past their end.
+//! Reading the vector of slashed balances at a place that may be past its end.
 
 ghost use Rattle.std.specs.Prelude.{◌<◌, length, IfOk};
 ghost use Rattle.bc_words.specs.Outcome.{GivesExactly};
@@ -6,17 +6,6 @@ ghost use Rattle.spec_blocks.specs.Checks.{item_at};
 
 use bc_words::{Refusal, Stop};
 use beacon_state::State;
-
-/// The balance of the validator with an index, in Gwei, refused exactly where there is none.
-pub(crate) fn balance_at(state: &State, index: u64) -> Result<u64, Stop>
-    ensures exact { GivesExactly result (item_at state.now.balances index) }
-    ensures in_list { IfOk result (λ balance. index < length state.now.balances) }
-{
-    match state.balances_at(index) {
-        Some(balance) => Ok(balance),
-        None => Err(Stop::Refused(Refusal::IndexRange)),
-    }
-}
 
 /// What was slashed in the latest epoch that has a place, in Gwei, refused exactly where there is no such place.
 pub(crate) fn slashings_at(state: &State, place: u64) -> Result<u64, Stop>

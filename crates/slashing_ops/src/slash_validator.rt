@@ -7,12 +7,12 @@ ghost use Rattle.spec_blocks.specs.SlashValidator.{mark_slashed, slash_validator
 use crate::decrease_balance::decrease_balance_of;
 use crate::increase_balance::increase_balance_of;
 use crate::read::slashings_at;
-use balance_totals::current_epoch;
+use balance_totals::{current_epoch, validator_at};
 use bc_preset::Config;
 use bc_words::{Stop, checked_add, checked_sub};
 use beacon_state::State;
 use beacon_types::Validator;
-use exit_queue::{initiate_exit, validator_at};
+use exit_queue::initiate_exit;
 
 /// Where the balance that was slashed in an epoch stands among the latest ones.
 #[tactic(auto, using(bc_preset::proofs::Bounds::preset_bounds))]
