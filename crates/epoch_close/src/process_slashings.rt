@@ -34,7 +34,8 @@ fn slashed_lately(state: &State) -> Result<u64, Stop>
 /// Whether a validator pays at the epoch: it is slashed, and half way to its withdrawal.
 #[tactic(auto, using(bc_preset::proofs::Bounds::preset_bounds))]
 fn pays(state: &State, validator: &Validator) -> bool
-    ensures { result ≡ (validator.now.slashed && (get_current_epoch state.now + state.now.preset.epochs_per_slashings_vector / 2 == validator.now.withdrawable_epoch)) }
+    ensures { let half = state.now.preset.epochs_per_slashings_vector / 2 in
+        result ≡ (validator.now.slashed && (get_current_epoch state.now + half == validator.now.withdrawable_epoch)) }
 {
     let half = state.preset().epochs_per_slashings_vector / 2;
     validator.slashed && current_epoch(state) + half == validator.withdrawable_epoch
