@@ -10,11 +10,11 @@ ghost use Rattle.spec_epochs.specs.WeighJustificationAndFinalization.{justificat
 ghost use Rattle.spec_epochs.specs.ProcessJustificationAndFinalization.{process_justification_and_finalization};
 
 use crate::weigh_justification_and_finalization::weigh;
-use balance_totals::{current_epoch, previous_epoch, total_active};
+use balance_totals::{block_root, current_epoch, previous_epoch, total_active};
 use bc_words::Stop;
 use beacon_state::State;
 use committees::EpochCommittees;
-use participation::{Vote, block_root_of_epoch, vote_balance};
+use participation::{Vote, vote_balance};
 use spec_epochs::Justification;
 use std::alloc::Global;
 
@@ -46,11 +46,12 @@ fn set_justification(state: &mut State, j: Justification)
 #[tactic(auto, using(participation::proofs::Sound::previous_is_earlier, crate::proofs::Sound::previous_early, crate::proofs::Sound::current_early))]
 fn weigh_of(state: &State, total: u64, previous: u64, current: u64) -> Result<Justification, Stop>
     requires { IsSound state.now }
-    ensures { Gives result (weigh (justification_of state.now) (get_current_epoch state.now) (get_block_root state.now (get_previous_epoch state.now)) (get_block_root state.now (get_current_epoch state.now)) total previous current) }
+    ensures { let epoch = get_current_epoch state.now in let previous_root = get_block_root state.now (get_previous_epoch state.now) in
+        Gives result (weigh (justification_of state.now) epoch previous_root (get_block_root state.now epoch) total previous current) }
 {
     let epoch = current_epoch(state);
-    let previous_root = block_root_of_epoch(state, previous_epoch(state));
-    let current_root = block_root_of_epoch(state, epoch);
+    let previous_root = block_root(state, previous_epoch(state));
+    let current_root = block_root(state, epoch);
     let j = justification_of(state);
     let weighed = weigh(
         j,

@@ -92,7 +92,8 @@ fn justify(
     previous_enough: bool,
     current_enough: bool,
 ) -> Justification
-    ensures { result ≡ justified_where current_enough (justified_where previous_enough (shifted j.now) 1 (record { epoch = previous_of epoch; root = previous_root })) 0 (record { epoch = epoch; root = current_root }) }
+    ensures { let before = justified_where previous_enough (shifted j.now) 1 (record { epoch = previous_of epoch; root = previous_root }) in
+        result ≡ justified_where current_enough before 0 (record { epoch = epoch; root = current_root }) }
 {
     let before = Checkpoint {
         epoch: epoch.saturating_sub(1),

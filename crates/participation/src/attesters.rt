@@ -1,15 +1,16 @@
 //! A flag a validator: whether it attests in one of an epoch's attestations that have a vote right.
 
-ghost use Rattle.std.specs.Prelude.{◌≡◌, ◌≤◌, ◌+◌, true, drop, slice_set, IfOk};
+ghost use Rattle.std.specs.Prelude.{◌≡◌, ◌≤◌, ◌+◌, true, slice_set, IfOk};
 ghost use Rattle.std.specs.List.{AllByRecursion};
 ghost use Rattle.spec_state.specs.Accessors.{get_current_epoch, epoch_committees, members_with_bits, get_block_root, get_attesting_indices};
 ghost use Rattle.spec_state.specs.Soundness.{IsSoundPending};
 ghost use Rattle.spec_epochs.specs.Helpers.{get_matching_source_attestations};
 ghost use Rattle.participation.specs.inside.Votes.{matching, chosen};
-ghost use Rattle.participation.specs.inside.Marks.{attester_flags, marked, all_marked};
+ghost use Rattle.participation.specs.inside.Marks.{attester_flags, marked, all_marked, marked_from};
 
-use crate::matching::{Vote, block_root_of_epoch, counts_for};
+use crate::matching::{Vote, counts_for};
 use crate::pending::{pending_at, pending_len};
+use balance_totals::block_root;
 use bc_words::NoMemory;
 use beacon_state::State;
 use beacon_types::{AggregationBits, PendingAttestation};
@@ -75,7 +76,7 @@ fn mark_at(
     requires root { root.now ≡ get_block_root state.now epoch }
     requires committees { committees.now ≡ epoch_committees state.now epoch }
     requires sound { AllByRecursion (IsSoundPending state.now epoch) (get_matching_source_attestations state.now epoch) }
-    ensures { all_marked state.now flags.new.items (chosen state.now vote epoch (drop (i + 1) (get_matching_source_attestations state.now epoch))) ≡ all_marked state.now flags.old.items (chosen state.now vote epoch (drop i (get_matching_source_attestations state.now epoch))) }
+    ensures { marked_from state.now flags.new.items vote epoch (i + 1) ≡ marked_from state.now flags.old.items vote epoch i }
 {
     match pending_at(state, epoch, i) {
         Some(attestation) => {
@@ -101,7 +102,7 @@ fn mark_all(
     requires sound { AllByRecursion (IsSoundPending state.now epoch) (get_matching_source_attestations state.now epoch) }
     ensures { flags.new.items ≡ all_marked state.now flags.old.items (chosen state.now vote epoch (get_matching_source_attestations state.now epoch)) }
 {
-    let root = block_root_of_epoch(state, epoch);
+    let root = block_root(state, epoch);
     for i in 0..pending_len(state, epoch) {
         mark_at(flags, state, committees, epoch, vote, &root, i);
     }

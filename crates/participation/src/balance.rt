@@ -1,6 +1,6 @@
 //! The balance of those who attested (beacon-chain.md, "get_attesting_balance").
 
-ghost use Rattle.std.specs.Prelude.{◌≡◌, ◌≤◌, ◌+◌, ◌∷◌, max, false, slice_index_or, MatchOption};
+ghost use Rattle.std.specs.Prelude.{◌≡◌, ◌≤◌, max, false, slice_index_or, MatchOption};
 ghost use Rattle.std.specs.List.{AllByRecursion};
 ghost use Rattle.bc_words.specs.Outcome.{Gives, GivesExactly, checked_sum_by};
 ghost use Rattle.spec_state.specs.Misc.{effective_balance};
@@ -8,7 +8,7 @@ ghost use Rattle.spec_state.specs.Accessors.{get_current_epoch, get_total_balanc
 ghost use Rattle.spec_state.specs.Soundness.{IsSoundPending};
 ghost use Rattle.spec_epochs.specs.Helpers.{get_matching_source_attestations, get_attesting_balance};
 ghost use Rattle.participation.specs.inside.Votes.{matching};
-ghost use Rattle.participation.specs.inside.Marks.{flagged, flagged_from};
+ghost use Rattle.participation.specs.inside.Marks.{flagged, IsPassedOver, IsTaken};
 
 use crate::attesters::attested;
 use crate::matching::Vote;
@@ -31,7 +31,7 @@ pub fn flag_at(flags: &[bool], index: u64) -> bool
 /// The effective balance of a validator, where its flag is set and it isn't slashed.
 #[tactic(auto, using(crate::proofs::Weighed::choosing))]
 pub fn counted(state: &State, flags: &[bool], index: u64) -> Option<u64>
-    ensures { MatchOption result (flagged_from state.now flags.now index ≡ flagged_from state.now flags.now (index + 1)) (λ balance. (balance ≡ effective_balance state.now.validators index) × (flagged_from state.now flags.now index ≡ index ∷ flagged_from state.now flags.now (index + 1))) }
+    ensures { MatchOption result (IsPassedOver state.now flags.now index) (IsTaken state.now flags.now index) }
 {
     match state.validators_at(index) {
         Some(validator) => {

@@ -1,12 +1,12 @@
 //! The first attestation of the least inclusion delay, a validator at a time, made in one pass over the attestations
 //! (beacon-chain.md, "get_inclusion_delay_deltas").
 
-ghost use Rattle.std.specs.Prelude.{◌≡◌, ◌≤◌, ◌+◌, None, drop, map, slice_index_or, slice_set, Option, Some, IfOk};
+ghost use Rattle.std.specs.Prelude.{◌≡◌, ◌≤◌, ◌+◌, None, map, slice_index_or, slice_set, Option, Some, IfOk};
 ghost use Rattle.std.specs.List.{AllByRecursion};
-ghost use Rattle.spec_state.specs.Accessors.{get_current_epoch, epoch_committees, members_with_bits, get_attesting_indices};
+ghost use Rattle.spec_state.specs.Accessors.{get_current_epoch, epoch_committees, members_with_bits};
 ghost use Rattle.spec_state.specs.Soundness.{IsSoundPending};
 ghost use Rattle.spec_epochs.specs.Helpers.{get_matching_source_attestations};
-ghost use Rattle.participation.specs.inside.Inclusions.{entry_of, better, put, all_put, inclusion_entries};
+ghost use Rattle.participation.specs.inside.Inclusions.{entry_of, better, put, all_put, put_from, attesters_of, inclusion_entries};
 
 use crate::pending::{pending_at, pending_len};
 use bc_words::NoMemory;
@@ -86,7 +86,7 @@ fn put_attesters(
 )
     requires committees { committees.now ≡ epoch_committees state.now epoch }
     requires sound { IsSoundPending state.now epoch attestation.now }
-    ensures { entries.new.items ≡ put entries.old.items (get_attesting_indices state.now attestation.now.content attestation.now.aggregation_bits) (entry_of attestation.now) }
+    ensures { entries.new.items ≡ put entries.old.items (attesters_of state.now attestation.now) (entry_of attestation.now) }
 {
     let _preset = state.preset();
     let content = &attestation.content;
@@ -111,7 +111,7 @@ fn put_at(
 )
     requires committees { committees.now ≡ epoch_committees state.now epoch }
     requires sound { AllByRecursion (IsSoundPending state.now epoch) (get_matching_source_attestations state.now epoch) }
-    ensures { all_put state.now entries.new.items (drop (i + 1) (get_matching_source_attestations state.now epoch)) ≡ all_put state.now entries.old.items (drop i (get_matching_source_attestations state.now epoch)) }
+    ensures { put_from state.now entries.new.items epoch (i + 1) ≡ put_from state.now entries.old.items epoch i }
 {
     match pending_at(state, epoch, i) {
         Some(attestation) => put_attesters(entries, state, committees, epoch, attestation),

@@ -13,4 +13,4 @@ mod pending;
 pub use attesters::attested;
 pub use balance::{attesting_balance, counted, flag_at, vote_balance};
 pub use inclusions::{Inclusion, earliest_inclusions, inclusion_at};
-pub use matching::{Vote, block_root_of_epoch};
+pub use matching::Vote;

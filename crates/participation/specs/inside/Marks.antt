@@ -1,11 +1,14 @@
 -- A flag a validator: whether it attests in one of some attestations.
-use Rattle.std.specs.Prelude.{ℕ, Bool, true, false, not, List, [], ◌∷◌, map, filter, drop, slice_set, slice_index_or}
+use Rattle.std.specs.Prelude.{◌≡◌, ℕ, ◌+◌, Bool, true, false, not, List, [], ◌∷◌, map, filter, drop, slice_set, slice_index_or}
 use Rattle.std.specs.List.{list_any}
 use Rattle.beacon_types.specs.declared.pending_attestation.PendingAttestation.{PendingAttestation}
 use Rattle.spec_state.specs.declared.plain.PlainState.{PlainState}
+use Rattle.spec_state.specs.Misc.{effective_balance}
 use Rattle.spec_state.specs.Accessors.{get_attesting_indices, indices_from}
 use Rattle.spec_epochs.specs.Each.{validator_indices}
-use Rattle.spec_epochs.specs.Helpers.{attests}
+use Rattle.spec_epochs.specs.Helpers.{attests, get_matching_source_attestations}
+use Rattle.participation.specs.declared.matching.Vote.{Vote}
+use Rattle.participation.specs.inside.Votes.{chosen}
 
 -- whether each validator attests in one of the attestations, in order of index
 unfoldable pub attester_flags : PlainState → List PendingAttestation → List Bool
@@ -21,6 +24,10 @@ unfoldable pub all_marked : PlainState → List Bool → List PendingAttestation
 all_marked state flags [] = flags
 all_marked state flags (a ∷ attestations) = all_marked state (marked flags (get_attesting_indices state a.content a.aggregation_bits)) attestations
 
+-- the same of those of an epoch from a place on that have a vote right
+abbrev pub marked_from : PlainState → List Bool → Vote → ℕ → ℕ → List Bool
+marked_from state flags vote epoch i = all_marked state flags (chosen state vote epoch (drop i (get_matching_source_attestations state epoch)))
+
 -- those from an index on who are not slashed and whose flag is set
 unfoldable pub flagged_from : PlainState → List Bool → ℕ → List ℕ
 flagged_from state flags index = filter (λ i. slice_index_or flags i false) (indices_from (λ v. not v.slashed) index (drop index state.validators))
@@ -28,3 +35,10 @@ flagged_from state flags index = filter (λ i. slice_index_or flags i false) (in
 -- those who are not slashed and whose flag is set
 unfoldable pub flagged : PlainState → List Bool → List ℕ
 flagged state flags = flagged_from state flags 0
+
+-- the validator with an index is none of them, or the first of those from it on, and has this effective balance
+abbrev pub IsPassedOver : PlainState → List Bool → ℕ → Type 0
+IsPassedOver state flags index = flagged_from state flags index ≡ flagged_from state flags (index + 1)
+
+abbrev pub IsTaken : PlainState → List Bool → ℕ → ℕ → Type 0
+IsTaken state flags index balance = (balance ≡ effective_balance state.validators index) × (flagged_from state flags index ≡ index ∷ flagged_from state flags (index + 1))
