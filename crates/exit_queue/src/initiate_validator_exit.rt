@@ -37,7 +37,7 @@ fn queue_end_with(state: &State, index: u64, epoch: u64) -> u64
 
 /// The greatest of all exit epochs that are set, and this one.
 #[tactic(auto, using(crate::proofs::Queue::end_begins, crate::proofs::Queue::end_of_none))]
-fn queue_end(state: &State, earliest: u64) -> u64
+pub fn queue_end(state: &State, earliest: u64) -> u64
     ensures { result ≡ queue_end state.now.validators earliest }
 {
     let mut epoch = earliest;
@@ -68,7 +68,7 @@ fn churn_with(state: &State, index: u64, epoch: u64, count: u64) -> u64
 
 /// How many validators leave at an epoch.
 #[tactic(auto, using(crate::proofs::Queue::churn_begins, crate::proofs::Queue::churn_of_none))]
-fn exit_queue_churn(state: &State, epoch: u64) -> u64
+pub fn exit_queue_churn(state: &State, epoch: u64) -> u64
     ensures { result ≡ exit_queue_churn state.now.validators epoch }
 {
     state.preset().bounds();

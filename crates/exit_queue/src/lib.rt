@@ -12,4 +12,4 @@ pub mod process_voluntary_exit;
 pub use balance_totals::validator_at;
 pub use compute_activation_exit_epoch::activation_exit_epoch;
 pub use get_validator_churn_limit::churn_limit;
-pub use initiate_validator_exit::initiate_exit;
+pub use initiate_validator_exit::{exit_queue_churn, initiate_exit, queue_end};

@@ -1,0 +1,13 @@
+use Rattle.std.proofs.Common.{sym, subst}
+use Rattle.spec_blocks.proofs.Done.{item_is}
+use Rattle.registry_queue.specs.inside.Exits.{IsExitQueue}
+use Rattle.registry_queue.proofs.Exits.{exited, behind}
+use Rattle.registry_queue.proofs.ejections.initiate_exit.Goals as goal
+
+pub returns-clause-queue : goal.returns-clause-queue
+returns-clause-queue c =
+    let here = item_is c.args.state.now.validators c.args.index c.in_ok-validator.validator c.in_ok-validator.ensures.exact in
+    let next = exited c.args.state.now c.args.config.now c.args.queue.now c.args.index c.in_ok-validator.validator c.in_ok-exit_epoch.exit_epoch c.in_ok-withdrawable_epoch.withdrawable_epoch
+    here c.if-validator.false c.in_ok-exit_epoch.ensures c.requires in
+    subst (λ s. IsExitQueue s c.args.config.now c.joined.result) (sym c.in_ok-set_validators_at.ensures)
+    (subst (λ q. IsExitQueue (behind c.args.state.now c.args.config.now c.args.queue.now c.args.index c.in_ok-validator.validator c.in_ok-exit_epoch.exit_epoch c.in_ok-withdrawable_epoch.withdrawable_epoch) c.args.config.now q) (sym c.joined.ensures) next)

@@ -1,0 +1,145 @@
+//! Those who are let in.
+//!
+//! A rank is the epoch since which a validator waits, and its index. The ranks of all who wait are collected in one pass and
+//! sorted; the first behind as many as the churn limit is the bar, and a second pass lets in all who rank before it.
+
+ghost use Rattle.std.specs.Prelude.{◌≡◌, ◌++◌, ◌+◌, ◌<◌, ℕ, IfOk, OnOk, Some, drop, length, slice_get};
+ghost use Rattle.spec_state.specs.Predicates.{is_eligible_for_activation};
+ghost use Rattle.spec_epochs.specs.ProcessRegistryUpdates.{with_activations};
+ghost use Rattle.registry_queue.specs.inside.Exits.{earliest_exit};
+ghost use Rattle.registry_queue.specs.inside.Ranks.{ranks_from, before, before_bar, activated, let_in_from, IsQueue, IsBar};
+
+use crate::ejections::earliest_exit;
+use bc_preset::Config;
+use bc_preset::constants::FAR_FUTURE_EPOCH;
+use bc_words::NoMemory;
+use beacon_state::State;
+use beacon_types::Validator;
+use exit_queue::churn_limit;
+use std::alloc::Global;
+
+/// Whether what made a validator eligible is final, and it isn't activated (beacon-chain.md, `is_eligible_for_activation`).
+#[tactic(auto, unfolding(spec_state::specs::Predicates::is_eligible_for_activation))]
+fn is_waiting(state: &State, validator: &Validator) -> bool
+    ensures { result ≡ is_eligible_for_activation state.now validator.now }
+{
+    validator.activation_eligibility_epoch <= state.finalized_checkpoint().epoch
+        && validator.activation_epoch == FAR_FUTURE_EPOCH
+}
+
+/// Adds the rank of a validator where it waits.
+#[tactic(auto, using(crate::proofs::Ranks::rank_here, crate::proofs::Ranks::no_rank_here, crate::proofs::Ranks::no_rank_past))]
+fn note_rank(ranks: &mut Vec<(u64, u64)>, state: &State, index: u64) -> Result<(), NoMemory>
+    ensures { OnOk result (ranks.new.items ++ ranks_from state.now (index + 1) (drop (index + 1) state.now.validators) ≡ ranks.old.items ++ ranks_from state.now index (drop index state.now.validators)) }
+{
+    if let Some(validator) = state.validators_at(index) {
+        if is_waiting(state, validator) {
+            ranks.push((validator.activation_eligibility_epoch, index))?;
+        }
+    }
+    Ok(())
+}
+
+/// The ranks of all who wait, in order of index.
+#[tactic(auto, using(crate::proofs::Ranks::ranks_begin, crate::proofs::Ranks::ranks_done))]
+fn ranks(alloc: Global, state: &State) -> Result<Vec<(u64, u64)>, NoMemory>
+    ensures { IfOk result (λ ranks. ranks.items ≡ ranks_from state.now 0 state.now.validators) }
+{
+    let mut ranks = Vec::new(alloc);
+    for index in 0..state.validators_len() {
+        note_rank(&mut ranks, state, index)?;
+    }
+    Ok(ranks)
+}
+
+/// The ranks of all who wait, the first to be let in first.
+fn activation_queue(alloc: Global, state: &State) -> Result<Vec<(u64, u64)>, NoMemory>
+    ensures { IfOk result (λ ranks. IsQueue state.now ranks.items) }
+{
+    let mut ranks = ranks(alloc, state)?;
+    ranks.sort()?;
+    Ok(ranks)
+}
+
+/// The rank at a place, where there is one.
+fn rank_at(ranks: &[(u64, u64)], place: u64) -> Option<(u64, u64)>
+    ensures { result ≡ slice_get ranks.now place }
+{
+    ranks.get(place as usize).copied()
+}
+
+/// The rank before which all are let in, or None where all are.
+#[tactic(auto, using(crate::proofs::Ranks::bar_of))]
+fn bar(alloc: Global, state: &State, config: &Config) -> Result<Option<(u64, u64)>, NoMemory>
+    ensures { IfOk result (λ bar. IsBar state.now config.now bar) }
+{
+    let queue = activation_queue(alloc, state)?;
+    Ok(rank_at(&queue, churn_limit(state, config)))
+}
+
+/// Whether a rank comes before another.
+#[tactic(auto, unfolding(crate::specs::inside::Ranks::before))]
+fn is_before(rank: (u64, u64), other: (u64, u64)) -> bool
+    ensures { result ≡ before rank other }
+{
+    rank.0 < other.0 || rank.0 == other.0 && rank.1 < other.1
+}
+
+/// Whether a rank comes before the bar, where there is one.
+#[tactic(auto, unfolding(crate::specs::inside::Ranks::before_bar))]
+fn is_before_bar(bar: Option<(u64, u64)>, rank: (u64, u64)) -> bool
+    ensures { result ≡ before_bar bar rank }
+{
+    match bar {
+        Some(bar) => is_before(rank, bar),
+        None => true,
+    }
+}
+
+/// The validator is active from the epoch on where it waits and its rank comes before the bar.
+#[tactic(auto, unfolding(crate::specs::inside::Ranks::activated), using(crate::proofs::Ranks::let_in_here, crate::proofs::Ranks::not_waiting, crate::proofs::Ranks::not_before_bar, crate::proofs::Ranks::let_in_past))]
+fn let_in(
+    state: &mut State,
+    index: u64,
+    bar: Option<(u64, u64)>,
+    epoch: u64,
+) -> Result<(), NoMemory>
+    ensures step { OnOk result (let_in_from state.new bar epoch (index + 1) ≡ let_in_from state.old bar epoch index) }
+    ensures len { length state.new.validators ≡ length state.old.validators }
+{
+    let validator = match state.validators_at(index) {
+        Some(validator) => *validator,
+        None => return Ok(()),
+    };
+    let rank = (validator.activation_eligibility_epoch, index);
+    if !is_waiting(state, &validator) || !is_before_bar(bar, rank) {
+        return Ok(());
+    }
+    let activated = Validator {
+        activation_epoch: epoch,
+        ..validator
+    };
+    state.set_validators_at(index, activated)
+}
+
+/// All who wait and rank before the bar are active from the epoch on.
+#[tactic(auto, using(crate::proofs::Ranks::let_in_end))]
+fn let_all_in(state: &mut State, bar: Option<(u64, u64)>, epoch: u64) -> Result<(), NoMemory>
+    ensures { OnOk result (state.new ≡ let_in_from state.old bar epoch 0) }
+{
+    for index in 0..state.validators_len() {
+        let_in(state, index, bar, epoch)?;
+    }
+    Ok(())
+}
+
+/// As many of those who wait as the churn limit are let in, by the epoch since which they wait and then by index. It leaves
+/// anything in the state where memory is refused.
+#[tactic(auto, using(crate::proofs::Ranks::all_dequeued))]
+pub(crate) fn activate(alloc: Global, state: &mut State, config: &Config) -> Result<(), NoMemory>
+    ensures { OnOk result (state.new ≡ record state.old { validators = with_activations state.old config.now (earliest_exit state.old) }) }
+{
+    let epoch = earliest_exit(state);
+    let bar = bar(alloc, state, config)?;
+    let_all_in(state, bar, epoch)
+}

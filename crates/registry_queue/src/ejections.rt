@@ -1,0 +1,180 @@
+//! Those who begin to wait for their activation, and those who are ejected.
+//!
+//! The registry is gone through once. Where the exit queue ends, and how many leave there, is counted before and kept on the
+//! way, so that an ejection reads no other validator.
+
+ghost use Rattle.std.specs.Prelude.{◌≡◌, ◌<◌, ◌^◌, OnOk, Some, slice_get};
+ghost use Rattle.bc_words.specs.Outcome.{Becomes, GivesExactly, Moves, done};
+ghost use Rattle.spec_state.specs.Misc.{compute_activation_exit_epoch};
+ghost use Rattle.spec_state.specs.Predicates.{is_eligible_for_activation_queue};
+ghost use Rattle.spec_state.specs.Accessors.{get_current_epoch};
+ghost use Rattle.spec_blocks.specs.Checks.{each_of};
+ghost use Rattle.spec_blocks.specs.InitiateValidatorExit.{initiate_validator_exit};
+ghost use Rattle.spec_epochs.specs.Each.{validator_indices};
+ghost use Rattle.spec_epochs.specs.ProcessRegistryUpdates.{with_eligibility, eligibility_and_ejection};
+ghost use Rattle.registry_queue.specs.inside.Exits.{earliest_exit, next_exit, joined, IsExitQueue};
+
+use balance_totals::{current_epoch, is_active_validator, validator_at};
+use bc_preset::constants::FAR_FUTURE_EPOCH;
+use bc_preset::{Config, Preset};
+use bc_words::{NoMemory, Stop, checked_add};
+use beacon_state::State;
+use beacon_types::Validator;
+use exit_queue::{churn_limit, exit_queue_churn, queue_end};
+
+/// The queue of those who leave.
+#[derive(Clone, Copy)]
+pub struct ExitQueue {
+    /// The epoch at which it ends.
+    pub epoch: u64,
+    /// How many leave at that epoch.
+    pub churn: u64,
+    /// How many may.
+    pub limit: u64,
+}
+
+/// The epoch at which an activation or an exit comes that begins at the state's epoch.
+#[tactic(auto, unfolding(spec_state::specs::Misc::compute_activation_exit_epoch, bc_words::specs::Outcome::checked_add, crate::specs::inside::Exits::earliest_exit), using(bc_preset::proofs::Bounds::preset_bounds))]
+pub(crate) fn earliest_exit(state: &State) -> u64
+    ensures exact { result ≡ earliest_exit state.now }
+    ensures published { compute_activation_exit_epoch state.now.preset (get_current_epoch state.now) ≡ done (earliest_exit state.now) }
+{
+    let epoch = current_epoch(state);
+    epoch + 1 + state.preset().max_seed_lookahead
+}
+
+/// The exit queue of a state.
+fn exit_queue_of(state: &State, config: &Config) -> ExitQueue
+    ensures { IsExitQueue state.now config.now result }
+{
+    let epoch = queue_end(state, earliest_exit(state));
+    ExitQueue {
+        epoch,
+        churn: exit_queue_churn(state, epoch),
+        limit: churn_limit(state, config),
+    }
+}
+
+/// The epoch that the next one leaves at. Refused as an overflow exactly where it doesn't fit.
+#[tactic(auto, unfolding(crate::specs::inside::Exits::next_exit))]
+fn next_exit(queue: ExitQueue) -> Result<u64, Stop>
+    ensures { GivesExactly result (next_exit queue) }
+{
+    if queue.churn < queue.limit {
+        return Ok(queue.epoch);
+    }
+    checked_add(queue.epoch, 1)
+}
+
+/// The queue with one more, who leaves at an epoch.
+#[tactic(auto, unfolding(crate::specs::inside::Exits::joined, crate::specs::inside::Exits::lengthened))]
+fn joined(queue: ExitQueue, exit_epoch: u64) -> ExitQueue
+    requires { queue.churn < 2 ^ 60 }
+    ensures { result ≡ joined queue exit_epoch }
+{
+    if exit_epoch == FAR_FUTURE_EPOCH {
+        return queue;
+    }
+    if exit_epoch == queue.epoch {
+        return ExitQueue {
+            churn: queue.churn + 1,
+            ..queue
+        };
+    }
+    ExitQueue {
+        epoch: exit_epoch,
+        churn: 1,
+        ..queue
+    }
+}
+
+/// The validator leaves, as `exit_queue::initiate_exit` has it, where the queue is known.
+#[tactic(auto, unfolding(spec_blocks::specs::InitiateValidatorExit::initiate_validator_exit), using(crate::proofs::Exits::next_is, crate::proofs::Exits::churn_few, crate::proofs::Exits::exited, spec_blocks::proofs::Done::item_is))]
+fn initiate_exit(
+    state: &mut State,
+    queue: &mut ExitQueue,
+    index: u64,
+    config: &Config,
+) -> Result<(), Stop>
+    requires { IsExitQueue state.old config.now queue.old }
+    ensures exact { Moves result state.new (initiate_validator_exit state.old index config.now) }
+    ensures queue { OnOk result (IsExitQueue state.new config.now queue.new) }
+{
+    state.preset().bounds();
+    let _count = state.validators_len();
+    let validator = validator_at(state, index)?;
+    if validator.exit_epoch != FAR_FUTURE_EPOCH {
+        return Ok(());
+    }
+    let exit_epoch = next_exit(*queue)?;
+    let withdrawable_epoch = checked_add(exit_epoch, config.min_validator_withdrawability_delay())?;
+    let leaving = Validator {
+        exit_epoch,
+        withdrawable_epoch,
+        ..validator
+    };
+    state.set_validators_at(index, leaving)?;
+    *queue = joined(*queue, exit_epoch);
+    Ok(())
+}
+
+/// Whether a validator doesn't wait yet, and its effective balance is the greatest (beacon-chain.md,
+/// `is_eligible_for_activation_queue`).
+#[tactic(auto, unfolding(spec_state::specs::Predicates::is_eligible_for_activation_queue))]
+fn may_wait(preset: &Preset, validator: &Validator) -> bool
+    ensures { result ≡ is_eligible_for_activation_queue preset.now validator.now }
+{
+    validator.activation_eligibility_epoch == FAR_FUTURE_EPOCH
+        && validator.effective_balance == preset.max_effective_balance
+}
+
+/// The validator waits from the next epoch on where it may.
+#[tactic(auto, unfolding(spec_epochs::specs::ProcessRegistryUpdates::with_eligibility))]
+fn wait(state: &mut State, index: u64, validator: Validator) -> Result<(), NoMemory>
+    requires { slice_get state.old.validators index ≡ Some validator }
+    ensures { Becomes result state.old state.new (with_eligibility state.old index validator) }
+{
+    if !may_wait(state.preset(), &validator) {
+        return Ok(());
+    }
+    let activation_eligibility_epoch = current_epoch(state) + 1;
+    let waiting = Validator {
+        activation_eligibility_epoch,
+        ..validator
+    };
+    state.set_validators_at(index, waiting)
+}
+
+/// The validator waits where it may, and leaves where it is active with too low an effective balance.
+#[tactic(auto, unfolding(spec_epochs::specs::ProcessRegistryUpdates::eligibility_and_ejection), using(crate::proofs::Exits::waited, spec_blocks::proofs::Done::item_is))]
+fn eligibility_and_ejection(
+    state: &mut State,
+    queue: &mut ExitQueue,
+    index: u64,
+    config: &Config,
+) -> Result<(), Stop>
+    requires { IsExitQueue state.old config.now queue.old }
+    ensures exact { Moves result state.new (eligibility_and_ejection config.now state.old index) }
+    ensures queue { OnOk result (IsExitQueue state.new config.now queue.new) }
+{
+    let validator = validator_at(state, index)?;
+    let active = is_active_validator(&validator, current_epoch(state));
+    wait(state, index, validator)?;
+    if active && validator.effective_balance <= config.ejection_balance() {
+        initiate_exit(state, queue, index, config)?;
+    }
+    Ok(())
+}
+
+/// Each validator waits where it may, and leaves where it is active with too low an effective balance, in order of index.
+/// It leaves anything in the state after a stop.
+#[tactic(auto, using(crate::proofs::Passes::steps_begin, crate::proofs::Passes::step_done, crate::proofs::Passes::step_stops, crate::proofs::Passes::steps_end))]
+pub(crate) fn eligibility_and_ejections(state: &mut State, config: &Config) -> Result<(), Stop>
+    ensures { Moves result state.new (each_of (eligibility_and_ejection config.now) state.old (validator_indices state.old)) }
+{
+    let mut queue = exit_queue_of(state, config);
+    for index in 0..state.validators_len() {
+        eligibility_and_ejection(state, &mut queue, index, config)?;
+    }
+    Ok(())
+}

@@ -1,0 +1,36 @@
+//! Eligibility, ejections and activations (beacon-chain.md, "process_registry_updates").
+
+ghost use Rattle.bc_words.specs.Outcome.{Changes, Gives};
+ghost use Rattle.spec_epochs.specs.ProcessRegistryUpdates.{process_registry_updates};
+
+use crate::activations::activate;
+use crate::ejections::{earliest_exit, eligibility_and_ejections};
+use bc_preset::Config;
+use bc_words::Stop;
+use beacon_state::State;
+use std::alloc::Global;
+
+/// The state with its registry updated.
+#[tactic(auto, unfolding(spec_epochs::specs::ProcessRegistryUpdates::process_registry_updates))]
+fn with_registry_updates(alloc: Global, state: &State, config: &Config) -> Result<State, Stop>
+    ensures { Gives result (process_registry_updates state.now config.now) }
+{
+    let mut next = state.share()?;
+    eligibility_and_ejections(&mut next, config)?;
+    let _epoch = earliest_exit(&next);
+    activate(alloc, &mut next, config)?;
+    Ok(next)
+}
+
+/// Validators begin to wait or are ejected, in order of index, and then as many as the churn limit are let in, by the epoch
+/// since which they wait and then by index (beacon-chain.md, `process_registry_updates`).
+///
+/// Refused as an overflow exactly where the epoch of an ejection does not fit; the state is then as before. Its lists are
+/// shared first, which copies them today.
+pub fn process_registry(alloc: Global, state: &mut State, config: &Config) -> Result<(), Stop>
+    ensures { Changes result state.old state.new (process_registry_updates state.old config.now) }
+{
+    let next = with_registry_updates(alloc, state, config)?;
+    *state = next;
+    Ok(())
+}
