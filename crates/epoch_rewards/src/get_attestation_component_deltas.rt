@@ -2,11 +2,11 @@
 
 ghost use Rattle.std.specs.Prelude.{◌≡◌, ◌≤◌};
 ghost use Rattle.bc_words.specs.Outcome.{Gives, GivesBy, GivesExactly};
-ghost use Rattle.spec_epochs.specs.Each.{validator_indices, checked_map};
 ghost use Rattle.spec_epochs.specs.GetAttestationComponentDeltas.{attester_reward};
 ghost use Rattle.participation.specs.inside.Marks.{flagged};
 ghost use Rattle.epoch_rewards.specs.inside.Divisor.{divisor_of};
-ghost use Rattle.epoch_rewards.specs.inside.Components.{component_reward, component_penalty, needed_balance, component_deltas};
+ghost use Rattle.epoch_rewards.specs.inside.Components.{component_reward, component_rewards, component_penalty, component_penalties};
+ghost use Rattle.epoch_rewards.specs.inside.Components.{needed_balance, component_deltas};
 
 use crate::eligible::{is_attester, is_eligible};
 use crate::get_base_reward::base_reward;
@@ -93,7 +93,7 @@ fn component_rewards(
 ) -> Result<Vec<u64>, Stop>
     requires divisor { GivesExactly weights.now.divisor (divisor_of state.now) }
     requires total { state.now.preset.effective_balance_increment ≤ weights.now.total }
-    ensures { GivesBy (λ rewards. rewards.items) result (checked_map (component_reward state.now (flagged state.now flags.now) weights.now.leak weights.now.attesting weights.now.total) (validator_indices state.now)) }
+    ensures { let w = weights.now in GivesBy (λ all. all.items) result (component_rewards state.now (flagged state.now flags.now) w.leak w.attesting w.total) }
 {
     let mut rewards = Vec::new(alloc);
     for index in 0..state.validators_len() {
@@ -111,7 +111,7 @@ fn component_penalties(
     weights: &Weights,
 ) -> Result<Vec<u64>, Stop>
     requires { GivesExactly weights.now.divisor (divisor_of state.now) }
-    ensures { GivesBy (λ penalties. penalties.items) result (checked_map (component_penalty state.now (flagged state.now flags.now)) (validator_indices state.now)) }
+    ensures { GivesBy (λ penalties. penalties.items) result (component_penalties state.now (flagged state.now flags.now)) }
 {
     let mut penalties = Vec::new(alloc);
     for index in 0..state.validators_len() {

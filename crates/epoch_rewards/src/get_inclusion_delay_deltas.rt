@@ -1,14 +1,14 @@
 //! Rewards for the inclusion of attestations (beacon-chain.md, "get_inclusion_delay_deltas").
 
-ghost use Rattle.std.specs.Prelude.{◌≡◌, length, replicate, slice_index, slice_set};
+ghost use Rattle.std.specs.Prelude.{◌≡◌, slice_index, slice_set};
 ghost use Rattle.bc_words.specs.Outcome.{Gives, GivesBy, GivesExactly, Moves, bind, done, checked_add};
 ghost use Rattle.spec_state.specs.Accessors.{get_previous_epoch, epoch_committees};
 ghost use Rattle.spec_state.specs.Soundness.{IsSoundWithinEpoch};
-ghost use Rattle.spec_epochs.specs.Each.{validator_indices, checked_map};
 ghost use Rattle.spec_epochs.specs.GetInclusionDelayDeltas.{get_inclusion_delay_deltas};
 ghost use Rattle.participation.specs.inside.Marks.{flagged};
 ghost use Rattle.epoch_rewards.specs.inside.Divisor.{divisor_of};
-ghost use Rattle.epoch_rewards.specs.inside.Inclusions.{entry_at, included, all_included, delayed_by, own_reward, joined_reward, all_joined, joined_deltas};
+ghost use Rattle.epoch_rewards.specs.inside.Inclusions.{entry_at, included, all_included, all_gains, delayed_by, own_reward};
+ghost use Rattle.epoch_rewards.specs.inside.Inclusions.{joined_reward, joined_rewards, all_joined, joined_deltas};
 
 use crate::attested::{previous_attesters, previous_inclusions};
 use crate::eligible::is_attester;
@@ -71,7 +71,7 @@ fn proposer_gains(
     entries: &[Option<Inclusion>],
 ) -> Result<Vec<u64>, Stop>
     requires { GivesExactly divisor (divisor_of state.now) }
-    ensures { GivesBy (λ gains. gains.items) result (all_included state.now entries.now (replicate (length state.now.validators) 0) (flagged state.now flags.now)) }
+    ensures { GivesBy (λ gains. gains.items) result (all_gains state.now entries.now (flagged state.now flags.now)) }
 {
     let mut gains = zeros(alloc, state)?;
     for index in 0..state.validators_len() {
@@ -151,7 +151,7 @@ fn joined_rewards(
     gains: &[u64],
 ) -> Result<Vec<u64>, Stop>
     requires { GivesExactly divisor (divisor_of state.now) }
-    ensures { GivesBy (λ rewards. rewards.items) result (checked_map (joined_reward state.now entries.now (flagged state.now flags.now) gains.now) (validator_indices state.now)) }
+    ensures { GivesBy (λ rewards. rewards.items) result (joined_rewards state.now entries.now (flagged state.now flags.now) gains.now) }
 {
     let mut rewards = Vec::new(alloc);
     for index in 0..state.validators_len() {

@@ -6,8 +6,7 @@ ghost use Rattle.spec_state.specs.Accessors.{get_previous_epoch, epoch_committee
 ghost use Rattle.spec_state.specs.Soundness.{IsSoundWithinEpoch};
 ghost use Rattle.spec_epochs.specs.GetSourceDeltas.{get_source_deltas};
 
-use crate::attested::previous_attesters;
-use crate::get_attestation_component_deltas::component_deltas;
+use crate::vote_deltas::vote_deltas;
 use bc_words::Stop;
 use beacon_state::State;
 use committees::EpochCommittees;
@@ -18,7 +17,7 @@ use std::alloc::Global;
 /// What each validator gains and loses by the source of the previous epoch's attestations (beacon-chain.md,
 /// `get_source_deltas`). The committees are those of the previous epoch. Refused as an overflow exactly where a sum or
 /// product does not fit.
-#[tactic(auto, unfolding(spec_epochs::specs::GetSourceDeltas::get_source_deltas, participation::specs::inside::Votes::matching), using(crate::proofs::Components::component_deltas_are))]
+#[tactic(auto, unfolding(spec_epochs::specs::GetSourceDeltas::get_source_deltas, participation::specs::inside::Votes::matching))]
 pub fn source_deltas(
     alloc: Global,
     state: &State,
@@ -28,6 +27,5 @@ pub fn source_deltas(
     requires committees { previous.now ≡ epoch_committees state.now (get_previous_epoch state.now) }
     ensures { Gives result (get_source_deltas state.now) }
 {
-    let flags = previous_attesters(alloc, state, previous, Vote::Source)?;
-    component_deltas(alloc, state, &flags)
+    vote_deltas(alloc, state, previous, Vote::Source)
 }

@@ -17,6 +17,7 @@ mod get_source_deltas;
 mod get_target_deltas;
 mod leak;
 mod process_rewards_and_penalties;
+mod vote_deltas;
 mod zeros;
 
 pub use get_head_deltas::head_deltas;

@@ -27,6 +27,10 @@ all_included state entries gains (attester ∷ attesters) = do
   more ← included state attester (entry_at entries attester) gains
   all_included state entries more attesters
 
+-- those of all attesters
+abbrev pub all_gains : PlainState → List (Option Inclusion) → List ℕ → Outcome (List ℕ)
+all_gains state entries attesters = all_included state entries (replicate (length state.validators) 0) attesters
+
 -- what an attester gets
 unfoldable pub delayed_by : PlainState → ℕ → Option Inclusion → Outcome ℕ
 delayed_by state index None = done 0
@@ -46,11 +50,15 @@ joined_reward state entries attesters gains index = do
   own ← own_reward state entries attesters index
   checked_add (slice_index gains index) own
 
+-- what each gets, in order of index
+abbrev pub joined_rewards : PlainState → List (Option Inclusion) → List ℕ → List ℕ → Outcome (List ℕ)
+joined_rewards state entries attesters gains = checked_map (joined_reward state entries attesters gains) (validator_indices state)
+
 -- what all get
 unfoldable pub all_joined : PlainState → List (Option Inclusion) → List ℕ → Outcome (List ℕ)
 all_joined state entries attesters = do
-  gains ← all_included state entries (replicate (length state.validators) 0) attesters
-  checked_map (joined_reward state entries attesters gains) (validator_indices state)
+  gains ← all_gains state entries attesters
+  joined_rewards state entries attesters gains
 
 -- rewards and penalties of all
 unfoldable pub joined_deltas : PlainState → List (Option Inclusion) → List ℕ → Outcome Deltas

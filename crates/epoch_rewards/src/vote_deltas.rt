@@ -1,0 +1,34 @@
+//! Rewards and penalties for one vote of the previous epoch's attestations (beacon-chain.md, "Components of attestation
+//! deltas").
+
+ghost use Rattle.std.specs.Prelude.{◌≡◌};
+ghost use Rattle.bc_words.specs.Outcome.{Gives};
+ghost use Rattle.spec_state.specs.Accessors.{get_previous_epoch, epoch_committees};
+ghost use Rattle.spec_state.specs.Soundness.{IsSoundWithinEpoch};
+ghost use Rattle.epoch_rewards.specs.inside.Components.{vote_deltas};
+
+use crate::attested::previous_attesters;
+use crate::get_attestation_component_deltas::component_deltas;
+use bc_words::Stop;
+use beacon_state::State;
+use committees::EpochCommittees;
+use participation::Vote;
+use spec_epochs::Deltas;
+use std::alloc::Global;
+
+/// What each validator gains and loses by a vote of the previous epoch's attestations. The committees are those of that
+/// epoch.
+#[tactic(auto, using(crate::proofs::Components::component_deltas_are))]
+pub(crate) fn vote_deltas(
+    alloc: Global,
+    state: &State,
+    previous: &EpochCommittees,
+    vote: Vote,
+) -> Result<Deltas, Stop>
+    requires sound { IsSoundWithinEpoch state.now }
+    requires committees { previous.now ≡ epoch_committees state.now (get_previous_epoch state.now) }
+    ensures { Gives result (vote_deltas state.now vote) }
+{
+    let flags = previous_attesters(alloc, state, previous, vote)?;
+    component_deltas(alloc, state, &flags)
+}
