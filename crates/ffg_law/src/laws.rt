@@ -6,7 +6,8 @@ ghost use Rattle.std.specs.Prelude.{◌≡◌, ◌<◌, ◌⊎◌, ◌||◌, IsT
 ghost use Rattle.beacon_types.specs.Slashable.{is_slashable_attestation_data};
 ghost use Rattle.ffg_law.specs.Weights.{IsTwoThirds, IsThird, among, both};
 ghost use Rattle.ffg_law.specs.Links.{IsChain, IsFinalized, AreApart, Conflict, HaveTwoThirds, AThirdIsConvicted, IsSlashable, link_of, voted, links_of};
-ghost use Rattle.ffg_law.specs.Histories.{IsLarge, IsHistory, last_from, nothing_justified, genesis_checkpoint, finalized_of, made_by, AreLinked, IsFinalLinked};
+ghost use Rattle.ffg_law.specs.Histories.{IsLarge, IsHistory, AreLinked, IsFinalLinked};
+ghost use Rattle.ffg_law.specs.Histories.{last_from, nothing_justified, genesis_checkpoint, finalized_of, made_by};
 
 use crate::link::{EpochEnd, Link, VotedLink};
 use beacon_types::{AttestationData, Checkpoint};
@@ -95,6 +96,7 @@ pub fn a_third_is_convicted(
     requires second_history { IsHistory increment weights.now second.now }
     requires first_final { 0 < (finalized_of first.now).epoch }
     requires second_final { 0 < (finalized_of second.now).epoch }
-    requires apart { AreApart (min (finalized_of first.now).epoch (finalized_of second.now).epoch) (links_of (made_by increment weights.now first.now)) (links_of (made_by increment weights.now second.now)) }
+    requires apart { let lower = min (finalized_of first.now).epoch (finalized_of second.now).epoch in
+        AreApart lower (links_of (made_by increment weights.now first.now)) (links_of (made_by increment weights.now second.now)) }
     ensures { AThirdIsConvicted weights.now (made_by increment weights.now first.now) (made_by increment weights.now second.now) }
 {}
