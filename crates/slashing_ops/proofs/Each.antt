@@ -54,3 +54,6 @@ module _ {S : Type 0} (step : S → ℕ → Outcome S) where
 
   pub all_begin : (first second : List ℕ) (state : S) → each_of step state (in_both (drop 0 first) second) ≡ each_of step state (in_both first second)
   all_begin first second state = refl
+
+-- what the loop over the first list needs
+pub ruleset slashing = (all_begin, all_ended, not_in_both, one_slashed, one_stops)

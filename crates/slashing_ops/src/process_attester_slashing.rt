@@ -50,7 +50,7 @@ fn slash_slashable(
 
 /// Slashes each validator whose index is in both lists where it is slashable, in the order of the first, and notes whether
 /// there is one. It leaves anything in the state after a stop.
-#[tactic(auto, using(crate::proofs::Each::all_begin, crate::proofs::Each::all_ended, crate::proofs::Each::not_in_both, crate::proofs::Each::one_slashed, crate::proofs::Each::one_stops))]
+#[tactic(auto, using(crate::proofs::Each::slashing))]
 fn slash_each(
     state: &mut State,
     slashed_any: &mut bool,
@@ -59,7 +59,8 @@ fn slash_each(
     proposer: u64,
     config: &Config,
 ) -> Result<(), Stop>
-    ensures { Moves result (slashed state.new slashed_any.new) (each_of (slash_slashable proposer config.now) (slashed state.old slashed_any.old) (in_both first.now second.now)) }
+    ensures { let step = slash_slashable proposer config.now in
+        Moves result (slashed state.new slashed_any.new) (each_of step (slashed state.old slashed_any.old) (in_both first.now second.now)) }
 {
     for index in first {
         if !is_among(second, *index) {
