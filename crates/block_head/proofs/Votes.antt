@@ -34,3 +34,6 @@ votes_begin votes voted = refl
 pub votes_few : (votes : List Eth1Data) (voted : Eth1Data) → votes_for votes voted ≤ length votes
 unfolding votes_for
 votes_few votes voted = count_by-le-length (λ v. same_eth1_data v voted) votes
+
+-- what the loop over the votes needs
+pub ruleset counting = (votes_begin, one_for, one_against, votes_end, votes_few)

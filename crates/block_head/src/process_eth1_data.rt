@@ -31,7 +31,7 @@ fn is_for(state: &State, i: u64, eth1_data: &Eth1Data) -> bool
 }
 
 /// How many of the votes are for the data.
-#[tactic(auto, using(crate::proofs::Votes::votes_begin, crate::proofs::Votes::one_for, crate::proofs::Votes::one_against, crate::proofs::Votes::votes_end, crate::proofs::Votes::votes_few))]
+#[tactic(auto, using(crate::proofs::Votes::counting))]
 fn votes_for(state: &State, eth1_data: &Eth1Data) -> u64
     ensures exact { result ≡ votes_for state.now.eth1_data_votes eth1_data.now }
     ensures few { result ≤ length state.now.eth1_data_votes }
