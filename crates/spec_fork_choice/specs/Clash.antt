@@ -2,7 +2,7 @@
 -- accepted is compared, and none of two blocks with one root is silently the other. Signatures don't count.
 use Rattle.std.specs.Prelude.{ℕ, Bool, ◌||◌, not, List, Option, Some, None, if◌then◌else◌}
 use Rattle.std.specs.List.{position_or_len}
-use Rattle.std.specs.Option.{option_map_or}
+use Rattle.std.specs.Option.{option_map, option_map_or}
 use Rattle.std.specs.Prelude.{false}
 use Rattle.bc_words.specs.declared.store_stop.ClashKind.{ClashKind}
 use Rattle.bc_words.specs.declared.store_stop.ClashKind.TheVariants.{ZeroBlock, ZeroState, Kept}
@@ -30,5 +30,5 @@ unfoldable pub clash_of : List KeptBlock → List ℕ → List ℕ → BeaconBlo
 clash_of blocks root state_root block =
     if same_root root zero_root then Some ZeroBlock
     else if same_root state_root zero_root then Some ZeroState
-    else if is_another (option_map_or (λ kept. Some kept.block) (block_of blocks root) None) block then Some (Kept (place_of blocks root))
+    else if is_another (option_map (λ kept. kept.block) (block_of blocks root)) block then Some (Kept (place_of blocks root))
     else None
