@@ -69,9 +69,12 @@ fn replay_event<S: EventSource, F: Shelf, O: Sink>(
     out: &mut O,
 ) -> Option<Status>
     requires { IsOpenedFile (S.seen source.old).file (F.told shelf.old) }
-    ensures goes_on { IfNone result (Progress store.old (S.seen source.old) (F.told shelf.old) (O.told out.old).taken store.new (S.seen source.new) (F.told shelf.new) (O.told out.new).taken × OneMore (S.seen source.old) (S.seen source.new)) }
-    ensures over { IfSome result (λ status. EventsOver status store.old (S.seen source.old) (F.told shelf.old) (F.told shelf.new) (O.told out.old).taken (O.told out.new).taken) }
-    ensures causes { IfSome result (λ status. HasCauses status (F.told shelf.old).faults (F.told shelf.new).faults (O.told out.old).faults (O.told out.new).faults) }
+    ensures goes_on { IfNone result (Progress store.old (S.seen source.old) (F.told shelf.old) (O.told out.old).taken
+        store.new (S.seen source.new) (F.told shelf.new) (O.told out.new).taken × OneMore (S.seen source.old) (S.seen source.new)) }
+    ensures over { IfSome result (λ status. EventsOver status store.old (S.seen source.old) (F.told shelf.old) (F.told shelf.new)
+        (O.told out.old).taken (O.told out.new).taken) }
+    ensures causes { IfSome result (λ status. HasCauses status (F.told shelf.old).faults (F.told shelf.new).faults
+        (O.told out.old).faults (O.told out.new).faults) }
     ensures shelf { ShelfKeeps [] (F.told shelf.old) (F.told shelf.new) }
     ensures sink { SinkKeeps (O.told out.old) (O.told out.new) }
 {

@@ -3,7 +3,8 @@
 ghost use Rattle.std.specs.Prelude.{◌≡◌, ◌++◌, OnOk, IfOk};
 ghost use Rattle.std.specs.Fmt.{decimal};
 ghost use Rattle.bc_words.specs.Refusals.{name_of};
-ghost use Rattle.spec_replay.specs.Lines.{root_text, checkpoint_text, refusal_text, head_label, justified_label, finalized_label, outcome_text, store_text, tick_line};
+ghost use Rattle.spec_replay.specs.Lines.{root_text, checkpoint_text, refusal_text, outcome_text, store_text, tick_line};
+ghost use Rattle.spec_replay.specs.Lines.{head_label, justified_label, finalized_label};
 ghost use Rattle.beacon_node.specs.inside.Stores.{told_outcome};
 
 use crate::store::Store;

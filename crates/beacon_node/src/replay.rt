@@ -70,7 +70,8 @@ pub fn replay<F: Shelf, O: Sink>(
     requires { length (F.told shelf.old).files + 2 < 2 ^ 32 }
     ensures answers { Replayed (λ contents. with_files (contents files.now.config.now) (contents files.now.genesis.now) (contents files.now.events.now))
         (λ contents opened. with_files (contents files.now.config.now) (contents files.now.genesis.now) (taken_of 2 opened))
-        (files.now.config.now ∷ files.now.genesis.now ∷ files.now.events.now ∷ []) result (F.told shelf.old) (F.told shelf.new) (O.told out.old).taken (O.told out.new).taken }
+        (files.now.config.now ∷ files.now.genesis.now ∷ files.now.events.now ∷ [])
+        result (F.told shelf.old) (F.told shelf.new) (O.told out.old).taken (O.told out.new).taken }
     ensures causes { HasCauses result (F.told shelf.old).faults (F.told shelf.new).faults (O.told out.old).faults (O.told out.new).faults }
     ensures command { result ≢ Status.Words }
     ensures shelf { ShelfKeeps (files.now.config.now ∷ files.now.genesis.now ∷ files.now.events.now ∷ []) (F.told shelf.old) (F.told shelf.new) }

@@ -27,7 +27,8 @@ pub fn beacon_main<F: Shelf, O: Sink>(
     // Whatever the names hold that agrees with all that the shelf handed out: the status is how the run of it ends, the
     // bytes written are its lines, and the files asked for are those that it needs, unless a fault of the outside or want
     // of memory broke the run off. The lines keep pace with the record, also where a file could not be read.
-    ensures answers { Replayed (λ contents. run_of contents (map (λ word. string_bytes word) words.now)) (paced_run_of (map (λ word. string_bytes word) words.now))
+    ensures answers { Replayed (λ contents. run_of contents (map (λ word. string_bytes word) words.now))
+        (paced_run_of (map (λ word. string_bytes word) words.now))
         (names_of (replay_files_of (map (λ word. string_bytes word) words.now)))
         result (F.told shelf.old) (F.told shelf.new) (O.told out.old).taken (O.told out.new).taken }
 
