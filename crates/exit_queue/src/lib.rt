@@ -9,7 +9,6 @@ mod get_validator_churn_limit;
 mod initiate_validator_exit;
 pub mod process_voluntary_exit;
 
-pub use balance_totals::validator_at;
 pub use compute_activation_exit_epoch::activation_exit_epoch;
 pub use get_validator_churn_limit::churn_limit;
 pub use initiate_validator_exit::{exit_queue_churn, initiate_exit, queue_end};
