@@ -1,0 +1,4 @@
+pub mod Finds
+pub mod Presets
+pub mod Numbers
+pub mod Walks

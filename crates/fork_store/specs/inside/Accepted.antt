@@ -1,0 +1,20 @@
+-- The parts of an accepted block's way into the store, of a block's slot and root and of its state's checkpoints alone.
+use Rattle.std.specs.Prelude.{ℕ, List, ◌&&◌, ◌==◌, nat_lt, if◌then◌else◌}
+use Rattle.beacon_types.specs.declared.checkpoint.Checkpoint.{Checkpoint}
+use Rattle.spec_fork_choice.specs.Store.{Store}
+use Rattle.spec_fork_choice.specs.Slots.{get_current_slot}
+use Rattle.spec_fork_choice.specs.OnBlock.{is_before_attesting_interval, with_better_justified}
+
+unfoldable pub boosted : Store → ℕ → List ℕ → Store
+boosted store slot root =
+    if (get_current_slot store == slot) && is_before_attesting_interval store then record store { proposer_boost_root = root } else store
+
+unfoldable pub justified_by : Store → Checkpoint → Store
+justified_by store checkpoint = if nat_lt store.justified_checkpoint.epoch checkpoint.epoch then with_better_justified store checkpoint else store
+
+unfoldable pub finalized_by : Store → Checkpoint → Checkpoint → Store
+finalized_by store finalized justified =
+    if nat_lt store.finalized_checkpoint.epoch finalized.epoch then record store { finalized_checkpoint = finalized; justified_checkpoint = justified } else store
+
+unfoldable pub settled : Store → ℕ → List ℕ → Checkpoint → Checkpoint → Store
+settled store slot root justified finalized = finalized_by (justified_by (boosted store slot root) justified) finalized justified

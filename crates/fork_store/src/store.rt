@@ -1,0 +1,206 @@
+//! The store of fork choice (fork-choice.md, "Store").
+//!
+//! It comes from genesis, and the handlers of events change it.
+
+ghost use Rattle.std.specs.Prelude.{◌≡◌, ◌∷◌, ◌++◌, ◌≤◌, ◌<◌, ◌^◌, [], IfSome, IfOk};
+ghost use Rattle.std.specs.Option.{option_map};
+ghost use Rattle.bc_words.specs.Outcome.{Becomes};
+ghost use Rattle.spec_state.specs.Soundness.{IsSound};
+ghost use Rattle.spec_fork_choice.specs.Store.{block_of};
+ghost use Rattle.spec_fork_choice.specs.Slots.{start_slot_of};
+ghost use Rattle.fork_store.specs.inside.Roots.{roots_of};
+
+use crate::kept_block::{KeptBlock, KeptBlocks};
+use crate::latest_messages::LatestMessages;
+use bc_preset::Config;
+use bc_words::NoMemory;
+use beacon_body::BeaconBlock;
+use beacon_state::State;
+use beacon_types::Checkpoint;
+use hash_tree::Root;
+use std::marker::Model;
+
+/// The store: its configuration, the time, three checkpoints, the boosted block's root, the kept blocks with their states, and
+/// the latest votes.
+#[derive(Drop)]
+pub struct Store {
+    config: Config,
+    time: u64,
+    genesis_time: u64,
+    justified: Checkpoint,
+    finalized: Checkpoint,
+    best_justified: Checkpoint,
+    boost_root: Root,
+    blocks: KeptBlocks,
+    messages: LatestMessages,
+}
+
+impl Model for Store {
+    ghost use Rattle.spec_fork_choice.specs.Store.{Store as PlainStore};
+    ghost use Rattle.fork_store.specs.inside.Plain.{plain_of};
+    ghost use Rattle.fork_store.specs.inside.Stores.{IsStore};
+
+    ghost Value = { PlainStore };
+
+    ghost view = { plain_of };
+
+    ghost invariant = { λ store. IsStore (plain_of store) };
+}
+
+impl Store {
+    /// The configuration.
+    pub(crate) fn config(&self) -> &Config
+        ensures { result.now ≡ self.now.config }
+    {
+        &self.config
+    }
+
+    /// The time, in seconds, and not before genesis.
+    pub(crate) fn time(&self) -> u64
+        ensures same { result ≡ self.now.time }
+        ensures later { self.now.genesis_time ≤ self.now.time }
+    {
+        self.time
+    }
+
+    /// The time of genesis, in seconds.
+    pub(crate) fn genesis_time(&self) -> u64
+        ensures { result ≡ self.now.genesis_time }
+    {
+        self.genesis_time
+    }
+
+    /// The justified checkpoint, whose epoch begins at a slot of 64 bits.
+    pub fn justified(&self) -> Checkpoint
+        ensures same { result ≡ self.now.justified_checkpoint }
+        ensures low { start_slot_of self.now self.now.justified_checkpoint < 2 ^ 64 }
+    {
+        self.justified
+    }
+
+    /// The finalized checkpoint.
+    pub fn finalized(&self) -> Checkpoint
+        ensures { result ≡ self.now.finalized_checkpoint }
+    {
+        self.finalized
+    }
+
+    /// The best justified checkpoint, whose epoch begins at a slot of 64 bits.
+    pub(crate) fn best_justified(&self) -> Checkpoint
+        ensures same { result ≡ self.now.best_justified_checkpoint }
+        ensures low { start_slot_of self.now self.now.best_justified_checkpoint < 2 ^ 64 }
+    {
+        self.best_justified
+    }
+
+    /// The root of the boosted block, and zero where none is boosted.
+    pub(crate) fn boost_root(&self) -> Root
+        ensures { result ≡ self.now.proposer_boost_root }
+    {
+        self.boost_root
+    }
+
+    /// The kept blocks.
+    pub(crate) fn blocks(&self) -> &KeptBlocks
+        ensures { result.now ≡ self.now.blocks }
+    {
+        &self.blocks
+    }
+
+    /// The kept block of a root. None exactly where the root isn't kept.
+    #[tactic(auto, using(crate::proofs::Presets::found_preset))]
+    pub(crate) fn kept(&self, root: Root) -> Option<&KeptBlock>
+        ensures found { option_map (λ kept. kept.now) result ≡ block_of self.now.blocks root }
+        ensures preset { IfSome result (λ kept. kept.now.state.preset ≡ self.now.config.preset) }
+    {
+        self.blocks.find(root)
+    }
+
+    /// The latest votes.
+    pub(crate) fn messages(&self) -> &LatestMessages
+        ensures { result.now ≡ self.now.latest_messages }
+    {
+        &self.messages
+    }
+
+    /// Takes other votes.
+    pub(crate) fn set_messages(&mut self, messages: LatestMessages)
+        ensures { self.new ≡ record self.old { latest_messages = messages } }
+    {
+        self.messages = messages;
+    }
+
+    /// Takes another time, which isn't before genesis.
+    pub(crate) fn set_time(&mut self, time: u64)
+        requires { self.old.genesis_time ≤ time }
+        ensures { self.new ≡ record self.old { time = time } }
+    {
+        self.time = time;
+    }
+
+    /// Takes another justified checkpoint.
+    pub(crate) fn set_justified(&mut self, checkpoint: Checkpoint)
+        requires low { start_slot_of self.old checkpoint < 2 ^ 64 }
+        ensures { self.new ≡ record self.old { justified_checkpoint = checkpoint } }
+    {
+        self.justified = checkpoint;
+    }
+
+    /// Takes another finalized checkpoint.
+    pub(crate) fn set_finalized(&mut self, checkpoint: Checkpoint)
+        ensures { self.new ≡ record self.old { finalized_checkpoint = checkpoint } }
+    {
+        self.finalized = checkpoint;
+    }
+
+    /// Takes another best justified checkpoint.
+    pub(crate) fn set_best_justified(&mut self, checkpoint: Checkpoint)
+        requires low { start_slot_of self.old checkpoint < 2 ^ 64 }
+        ensures { self.new ≡ record self.old { best_justified_checkpoint = checkpoint } }
+    {
+        self.best_justified = checkpoint;
+    }
+
+    /// Boosts the block of another root, or none where it is zero.
+    pub(crate) fn set_boost_root(&mut self, root: Root)
+        ensures { self.new ≡ record self.old { proposer_boost_root = root } }
+    {
+        self.boost_root = root;
+    }
+
+    /// Keeps a block behind the others. Where memory is refused, the store is as before.
+    #[tactic(auto, using(beacon_state::proofs::Within::all_push))]
+    pub(crate) fn keep(&mut self, kept: KeptBlock) -> Result<(), NoMemory>
+        requires preset { kept.state.preset ≡ self.old.config.preset }
+        ensures { Becomes result self.old self.new (record self.old { blocks = self.old.blocks ++ kept ∷ [] }) }
+    {
+        self.blocks.push(kept)
+    }
+
+    /// The roots of the kept blocks in the order of their acceptance, that of genesis first.
+    pub fn accepted(&self) -> &[Root]
+        ensures { result.now ≡ roots_of self.now.blocks }
+    {
+        self.blocks.roots()
+    }
+
+    /// The block of a root. None exactly where the root isn't kept.
+    pub fn block(&self, root: Root) -> Option<&BeaconBlock>
+        ensures { option_map (λ block. block.now) result ≡ option_map (λ kept. kept.block) (block_of self.now.blocks root) }
+    {
+        match self.blocks.find(root) {
+            Some(kept) => Some(kept.block()),
+            None => None,
+        }
+    }
+
+    /// The state behind the block of a root. None exactly where the root isn't kept.
+    pub fn state(&self, root: Root) -> Result<Option<State>, NoMemory>
+        ensures { IfOk result (λ state. state ≡ option_map (λ kept. kept.state) (block_of self.now.blocks root)) }
+    {
+        match self.blocks.find(root) {
+            Some(kept) => Ok(Some(kept.state().share()?)),
+            None => Ok(None),
+        }
+    }
+}
