@@ -7,7 +7,7 @@ ghost use Rattle.spec_state.specs.Soundness.{IsSoundWithinEpoch};
 ghost use Rattle.spec_epochs.specs.GetInclusionDelayDeltas.{get_inclusion_delay_deltas};
 ghost use Rattle.participation.specs.inside.Marks.{flagged};
 ghost use Rattle.epoch_rewards.specs.inside.Divisor.{divisor_of};
-ghost use Rattle.epoch_rewards.specs.inside.Inclusions.{entry_at, included, all_included, all_gains, delayed_by, own_reward};
+ghost use Rattle.epoch_rewards.specs.inside.Inclusions.{entry_at, included, all_gains, delayed_by, own_reward};
 ghost use Rattle.epoch_rewards.specs.inside.Inclusions.{joined_reward, joined_rewards, all_joined, joined_deltas};
 
 use crate::attested::{previous_attesters, previous_inclusions};
