@@ -95,17 +95,3 @@ sound_exactly justified s is = (
       (and_from _ _ (le-leb _ _ sound.current_justified) (and_from _ _ (le-leb _ _ sound.finalized) (from_none _ _ sound.none_before))))))
       (and_from _ _ (test_from_all s _ _ is sound.previous_attestations) (test_from_all s _ _ is sound.current_attestations)),
 )
-
--- a sound state is one within epoch processing
-pub also_within : (s : PlainState) → IsSound s → IsSoundTo (get_current_epoch s) s
-unfolding get_previous_epoch
-also_within s sound = record {
-  balances = sound.balances;
-  header = sound.header;
-  previous_justified = omega (arith, sound.previous_justified);
-  current_justified = omega (arith, sound.current_justified);
-  finalized = sound.finalized;
-  previous_attestations = sound.previous_attestations;
-  current_attestations = sound.current_attestations;
-  none_before = sound.none_before;
-}

@@ -23,10 +23,16 @@ ghost use Rattle.spec_blocks.specs.ProcessDeposit.{process_deposit};
 /// attestation's proposer is in the registry. That of a whole block is a clause of `process_block`. It does nothing when it
 /// runs.
 pub fn operations_keep_sound()
-    ensures exit { (s t : PlainState) (index : ℕ) (config : ConfigValues) → initiate_validator_exit s index config ≡ done t → get_current_epoch s < far_future_epoch → IsSound s → IsSound t }
-    ensures slash { (s t : PlainState) (index proposer : ℕ) (config : ConfigValues) → slash_validator s index proposer config ≡ done t → get_current_epoch s < far_future_epoch → IsSound s → IsSound t }
-    ensures voluntary_exit { (s t : PlainState) (exit : SignedVoluntaryExit) (config : ConfigValues) → process_voluntary_exit s exit config ≡ done t → get_current_epoch s < far_future_epoch → IsSound s → IsSound t }
-    ensures proposer_slashing { (s t : PlainState) (slashing : ProposerSlashing) (proposer : ℕ) (config : ConfigValues) → process_proposer_slashing s slashing proposer config ≡ done t → get_current_epoch s < far_future_epoch → IsSound s → IsSound t }
-    ensures attestation { (s t : PlainState) (attestation : Attestation) (proposer : ℕ) → process_attestation s attestation proposer ≡ done t → HasPresetBounds s.preset → proposer < length s.validators → IsSound s → IsSound t }
-    ensures deposit { (s t : PlainState) (deposit : Deposit) → process_deposit s deposit ≡ done t → get_current_epoch s < far_future_epoch → IsSound s → IsSound t }
+    ensures exit { (s t : PlainState) (index : ℕ) (config : ConfigValues) → initiate_validator_exit s index config ≡ done t
+        → get_current_epoch s < far_future_epoch → IsSound s → IsSound t }
+    ensures slash { (s t : PlainState) (index proposer : ℕ) (config : ConfigValues) → slash_validator s index proposer config ≡ done t
+        → get_current_epoch s < far_future_epoch → IsSound s → IsSound t }
+    ensures voluntary_exit { (s t : PlainState) (exit : SignedVoluntaryExit) (config : ConfigValues) → process_voluntary_exit s exit config ≡ done t
+        → get_current_epoch s < far_future_epoch → IsSound s → IsSound t }
+    ensures proposer_slashing { (s t : PlainState) (slashing : ProposerSlashing) (proposer : ℕ) (config : ConfigValues)
+        → process_proposer_slashing s slashing proposer config ≡ done t → get_current_epoch s < far_future_epoch → IsSound s → IsSound t }
+    ensures attestation { (s t : PlainState) (attestation : Attestation) (proposer : ℕ) → process_attestation s attestation proposer ≡ done t
+        → HasPresetBounds s.preset → proposer < length s.validators → IsSound s → IsSound t }
+    ensures deposit { (s t : PlainState) (deposit : Deposit) → process_deposit s deposit ≡ done t
+        → get_current_epoch s < far_future_epoch → IsSound s → IsSound t }
 {}

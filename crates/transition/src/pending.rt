@@ -134,7 +134,8 @@ pub(crate) fn attestations_are_sound(
     state: &State,
     pending: Pending,
 ) -> Result<bool, NoMemory>
-    ensures { IfOk result (λ sound. sound ≡ list_all (pending_test (epoch_committees state.now (epoch_of pending state.now)) state.now (epoch_of pending state.now)) (attestations_of pending state.now)) }
+    ensures { let epoch = epoch_of pending state.now in
+        IfOk result (λ sound. sound ≡ list_all (pending_test (epoch_committees state.now epoch) state.now epoch) (attestations_of pending state.now)) }
 {
     let epoch = epoch_of(state, pending);
     match committees_of_epoch(alloc, state, epoch) {

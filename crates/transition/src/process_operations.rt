@@ -38,7 +38,7 @@ fn proposer_slashing(
 }
 
 /// Each proposer slashing, in order.
-#[tactic(auto, using(spec_blocks::proofs::Each::items_begin, spec_blocks::proofs::Each::items_end, spec_blocks::proofs::Each::item_done, spec_blocks::proofs::Each::item_stops, spec_blocks::proofs::Each::item_below_done, spec_blocks::proofs::Each::item_below_stops))]
+#[tactic(auto, using(spec_blocks::proofs::Each::each_item))]
 fn proposer_slashings(
     state: &mut State,
     slashings: &[ProposerSlashing],
@@ -67,7 +67,7 @@ fn attester_slashing(
 }
 
 /// Each attester slashing, in order.
-#[tactic(auto, using(spec_blocks::proofs::Each::items_begin, spec_blocks::proofs::Each::items_end, spec_blocks::proofs::Each::item_done, spec_blocks::proofs::Each::item_stops, spec_blocks::proofs::Each::item_below_done, spec_blocks::proofs::Each::item_below_stops))]
+#[tactic(auto, using(spec_blocks::proofs::Each::each_item))]
 fn attester_slashings(
     state: &mut State,
     slashings: &[AttesterSlashing],
@@ -95,7 +95,7 @@ fn voluntary_exit(
 }
 
 /// Each voluntary exit, in order.
-#[tactic(auto, using(spec_blocks::proofs::Each::items_begin, spec_blocks::proofs::Each::items_end, spec_blocks::proofs::Each::item_done, spec_blocks::proofs::Each::item_stops, spec_blocks::proofs::Each::item_below_done, spec_blocks::proofs::Each::item_below_stops))]
+#[tactic(auto, using(spec_blocks::proofs::Each::each_item))]
 fn voluntary_exits(
     state: &mut State,
     exits: &[SignedVoluntaryExit],
@@ -128,7 +128,7 @@ fn attestation(
 }
 
 /// Each attestation, in order.
-#[tactic(auto, using(spec_blocks::proofs::Each::items_begin, spec_blocks::proofs::Each::items_end, spec_blocks::proofs::Each::item_done, spec_blocks::proofs::Each::item_stops, spec_blocks::proofs::Each::item_below_done, spec_blocks::proofs::Each::item_below_stops))]
+#[tactic(auto, using(spec_blocks::proofs::Each::each_item))]
 fn each_attestation(
     state: &mut State,
     attestations: &[Attestation],
@@ -175,7 +175,7 @@ fn deposit(state: &mut State, deposit: &Deposit, keys: &mut PubkeyIndex) -> Resu
 }
 
 /// Each deposit, in order.
-#[tactic(auto, using(spec_blocks::proofs::Each::items_begin, spec_blocks::proofs::Each::items_end, spec_blocks::proofs::Each::item_done, spec_blocks::proofs::Each::item_stops, spec_blocks::proofs::Each::item_below_done, spec_blocks::proofs::Each::item_below_stops))]
+#[tactic(auto, using(spec_blocks::proofs::Each::each_item))]
 fn each_deposit(state: &mut State, deposits: &[Deposit], keys: &mut PubkeyIndex) -> Result<(), Stop>
     requires { Indexes keys.old state.old.validators }
     ensures { Moves result state.new (each_of process_deposit state.old deposits.now) }

@@ -69,7 +69,7 @@ pub fn genesis_is_sound()
 
 /// The law that a sound state has what the parts of epoch processing behind justification need. It does nothing when it
 /// runs.
-#[tactic(auto, using(crate::proofs::Tests::also_within))]
+#[tactic(auto, using(spec_epochs::proofs::SoundJustification::sound_within))]
 pub fn sound_within_epoch()
     ensures { (state : PlainState) → IsSound state → IsSoundWithinEpoch state }
 {}
