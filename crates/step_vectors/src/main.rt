@@ -1,4 +1,4 @@
-//! Single calls of the state transition on recorded states of the minimal preset, compared with what an independent
+//! Single calls of slots and blocks on recorded states of the minimal preset, compared with what an independent
 //! implementation gives.
 //!
 //! `data/cases` lists the cases. Each is a folder of `data/`: `call` names the call, with a number behind some, `pre.ssz` is
@@ -10,13 +10,10 @@
 #![tactic(auto)]
 
 mod answers;
-mod closing;
 mod deposits;
 mod exits;
 mod given;
 mod heads;
-mod justifying;
-mod rewarding;
 mod slashings;
 mod slots;
 mod votes;
@@ -27,7 +24,6 @@ use bc_preset::{Config, Preset};
 use bc_words::Stop;
 use beacon_state::State;
 use given::Given;
-use rewarding::{deltas_answer, is_part};
 use std::alloc::Global;
 use std::fs;
 use std::rt::Files;
@@ -45,19 +41,7 @@ fn call_on(alloc: Global, state: &mut State, given: &Given) -> Result<Result<(),
         "process_attestation" => votes::process_attestation(alloc, state, given),
         "process_deposit" => deposits::process_deposit(alloc, state, given),
         "process_voluntary_exit" => exits::process_voluntary_exit(alloc, state, given),
-        call => epoch_call_on(alloc, state, call),
-    }
-}
-
-/// Makes a call of epoch processing on the state.
-fn epoch_call_on(alloc: Global, state: &mut State, call: &str) -> Result<Result<(), Stop>> {
-    match call {
-        "process_justification" => justifying::process_justification(alloc, state),
-        "process_rewards" => rewarding::process_rewards(alloc, state),
-        _ => match closing::closing_part(alloc, state, call) {
-            Some(outcome) => Ok(outcome),
-            None => bail!("no such call"),
-        },
+        _ => bail!("no such call"),
     }
 }
 
@@ -65,9 +49,6 @@ fn epoch_call_on(alloc: Global, state: &mut State, call: &str) -> Result<Result<
 fn answer_of(alloc: Global, bytes: &[u8], given: &Given) -> Result<String> {
     let preset = Preset::minimal();
     match State::read(alloc, &preset, bytes) {
-        Ok(state) if is_part(given.name.as_str()) => {
-            deltas_answer(alloc, &state, given.name.as_str())
-        }
         Ok(mut state) => {
             let outcome = call_on(alloc, &mut state, given)?;
             answer_line(alloc, &state, outcome)
