@@ -2,3 +2,9 @@ pub mod Finds
 pub mod Presets
 pub mod Numbers
 pub mod Walks
+pub mod Items
+pub mod Viable
+pub mod Weights
+pub mod Head
+pub mod Messages
+pub mod Votes

@@ -3,3 +3,8 @@ pub mod Stores
 pub mod Plain
 pub mod Accepted
 pub mod Accepts
+pub mod Viable
+pub mod Weights
+pub mod Head
+pub mod Messages
+pub mod Votes

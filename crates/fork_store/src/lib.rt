@@ -5,13 +5,18 @@
 //! checkpoint each time.
 #![tactic(auto)]
 
+mod filter_block_tree;
 mod get_ancestor;
+mod get_head;
+mod get_latest_attesting_balance;
 mod kept_block;
 mod latest_messages;
 mod on_tick;
 mod should_update_justified_checkpoint;
 mod slots;
 mod store;
+mod update_latest_messages;
+mod validate_on_attestation;
 
 pub use kept_block::{KeptBlock, KeptBlocks};
 pub use latest_messages::{LatestMessage, LatestMessages};

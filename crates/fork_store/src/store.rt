@@ -8,10 +8,11 @@ ghost use Rattle.bc_words.specs.Outcome.{Becomes};
 ghost use Rattle.spec_state.specs.Soundness.{IsSound};
 ghost use Rattle.spec_fork_choice.specs.Store.{block_of};
 ghost use Rattle.spec_fork_choice.specs.Slots.{start_slot_of};
+ghost use Rattle.fork_store.specs.inside.Messages.{updated};
 ghost use Rattle.fork_store.specs.inside.Roots.{roots_of};
 
 use crate::kept_block::{KeptBlock, KeptBlocks};
-use crate::latest_messages::LatestMessages;
+use crate::latest_messages::{LatestMessage, LatestMessages};
 use bc_preset::Config;
 use bc_words::NoMemory;
 use beacon_body::BeaconBlock;
@@ -123,11 +124,15 @@ impl Store {
         &self.messages
     }
 
-    /// Takes other votes.
-    pub(crate) fn set_messages(&mut self, messages: LatestMessages)
-        ensures { self.new ≡ record self.old { latest_messages = messages } }
+    /// Takes a vote for each of some validators to whom it is news. Where memory is refused, the store is as before.
+    pub(crate) fn update_messages(
+        &mut self,
+        indices: &[u64],
+        message: LatestMessage,
+    ) -> Result<(), NoMemory>
+        ensures { Becomes result self.old self.new (record self.old { latest_messages = updated self.old.latest_messages indices.now message }) }
     {
-        self.messages = messages;
+        self.messages.update(indices, message)
     }
 
     /// Takes another time, which isn't before genesis.

@@ -1,0 +1,119 @@
+//! Whether an attestation may count now (fork-choice.md, "validate_on_attestation").
+
+ghost use Rattle.std.specs.Prelude.{◌≡◌, OnOk};
+ghost use Rattle.bc_words.specs.Outcome.{GivesExactly};
+ghost use Rattle.spec_state.specs.Misc.{compute_epoch_at_slot};
+ghost use Rattle.spec_fork_choice.specs.Store.{is_kept};
+ghost use Rattle.spec_fork_choice.specs.ValidateOnAttestation.{validate_target_epoch_against_current_time, check_time, validate_on_attestation};
+ghost use Rattle.fork_store.specs.inside.Votes.{check_voted, check_known, check_vote};
+
+use crate::get_ancestor::{is_behind, slot_of};
+use crate::slots::current_slot;
+use crate::store::Store;
+use bc_words::{Refusal, Stop};
+use beacon_body::Attestation;
+use beacon_types::AttestationData;
+use hash_tree::Root;
+
+/// Whether a root is kept.
+#[tactic(auto, unfolding(spec_fork_choice::specs::Store::is_kept))]
+fn is_kept(store: &Store, root: Root) -> bool
+    ensures { result ≡ is_kept store.now.blocks root }
+{
+    store.kept(root).is_some()
+}
+
+/// The epoch of a slot.
+fn epoch_at_slot(store: &Store, slot: u64) -> u64
+    ensures { result ≡ compute_epoch_at_slot store.now.config.preset slot }
+{
+    let preset = store.config().preset();
+    preset.bounds();
+    slot / preset.slots_per_epoch
+}
+
+/// Refused where the target is neither of the current epoch nor of the one before.
+#[tactic(auto, unfolding(spec_fork_choice::specs::ValidateOnAttestation::validate_target_epoch_against_current_time))]
+fn validate_target_epoch_against_current_time(
+    store: &Store,
+    attestation: &Attestation,
+) -> Result<(), Stop>
+    ensures { GivesExactly result (validate_target_epoch_against_current_time store.now attestation.now) }
+{
+    let current_epoch = epoch_at_slot(store, current_slot(store));
+    let epoch = attestation.content.target.epoch;
+    if epoch != current_epoch && epoch != current_epoch.saturating_sub(1) {
+        return Err(Stop::Refused(Refusal::FcTargetTime));
+    }
+    Ok(())
+}
+
+/// The check that an attestation from the wire has besides.
+#[tactic(auto, unfolding(spec_fork_choice::specs::ValidateOnAttestation::check_time))]
+fn check_time(store: &Store, attestation: &Attestation, is_from_block: bool) -> Result<(), Stop>
+    ensures { GivesExactly result (check_time store.now attestation.now is_from_block) }
+{
+    if is_from_block {
+        return Ok(());
+    }
+    validate_target_epoch_against_current_time(store, attestation)
+}
+
+/// Refused where the block that is voted for is later than the vote, where the target isn't on its chain, and where the vote's
+/// slot isn't over.
+#[tactic(auto, unfolding(crate::specs::inside::Votes::check_voted))]
+fn check_voted(store: &Store, voted: &AttestationData) -> Result<(), Stop>
+    ensures { GivesExactly result (check_voted store.now voted.now) }
+{
+    if voted.slot < slot_of(store, voted.beacon_block_root) {
+        return Err(Stop::Refused(Refusal::FcBlockAfter));
+    }
+    if !is_behind(store, voted.beacon_block_root, voted.target) {
+        return Err(Stop::Refused(Refusal::FcTargetChain));
+    }
+    if voted.slot >= current_slot(store) {
+        return Err(Stop::Refused(Refusal::FcTooEarly));
+    }
+    Ok(())
+}
+
+/// Refused where the target or the block isn't known, and as above.
+#[tactic(auto, unfolding(crate::specs::inside::Votes::check_known))]
+fn check_known(store: &Store, voted: &AttestationData) -> Result<(), Stop>
+    ensures { GivesExactly result (check_known store.now voted.now) }
+{
+    if !is_kept(store, voted.target.root) {
+        return Err(Stop::Refused(Refusal::FcTargetUnknown));
+    }
+    if !is_kept(store, voted.beacon_block_root) {
+        return Err(Stop::Refused(Refusal::FcBlockUnknown));
+    }
+    check_voted(store, voted)
+}
+
+/// Refused where the target's epoch isn't that of the slot, and as above.
+#[tactic(auto, unfolding(crate::specs::inside::Votes::check_vote))]
+fn check_vote(store: &Store, voted: &AttestationData) -> Result<(), Stop>
+    ensures epoch { OnOk result (compute_epoch_at_slot store.now.config.preset voted.now.slot ≡ voted.now.target.epoch) }
+    ensures exact { GivesExactly result (check_vote store.now voted.now) }
+{
+    if voted.target.epoch != epoch_at_slot(store, voted.slot) {
+        return Err(Stop::Refused(Refusal::FcSlotEpoch));
+    }
+    check_known(store, voted)
+}
+
+/// Refused where an attestation may not count now, in this order: `FcTargetTime`, from the wire alone; `FcSlotEpoch`,
+/// `FcTargetUnknown`, `FcBlockUnknown`, `FcBlockAfter`, `FcTargetChain`, `FcTooEarly`.
+#[tactic(auto, unfolding(spec_fork_choice::specs::ValidateOnAttestation::validate_on_attestation, crate::specs::inside::Votes::check_vote, crate::specs::inside::Votes::check_known, crate::specs::inside::Votes::check_voted))]
+pub(crate) fn validate_on_attestation(
+    store: &Store,
+    attestation: &Attestation,
+    is_from_block: bool,
+) -> Result<(), Stop>
+    ensures epoch { OnOk result (compute_epoch_at_slot store.now.config.preset attestation.now.content.slot ≡ attestation.now.content.target.epoch) }
+    ensures exact { GivesExactly result (validate_on_attestation store.now attestation.now is_from_block) }
+{
+    check_time(store, attestation, is_from_block)?;
+    check_vote(store, &attestation.content)
+}
