@@ -4,6 +4,7 @@
 ghost use Rattle.std.specs.Prelude.{◌<◌};
 
 use crate::ratio::Ratio;
+use crate::states::{put, put_vote};
 use anyhow::Result;
 use beacon_body::SignedBeaconBlock;
 use hash_tree::Leaf;
@@ -31,22 +32,19 @@ const PAIRS: u32 = 18 * 128 + 128 + 19 + 24;
 const TIMES: u32 = 50;
 
 /// Puts a number of four bytes at a place, where there is room for it.
-fn put(bytes: &mut [u8], at: u32, number: u32) {
-    let at = at as usize;
-    if at < bytes.len() && bytes.len() - at >= 4 {
-        bytes[at..at + 4].copy_from_slice(&number.to_le_bytes());
-    }
+fn put_number(bytes: &mut [u8], at: u32, number: u32) {
+    put(bytes, at as usize, &number.to_le_bytes());
 }
 
 /// Puts the offsets that lead to the attestations.
 fn put_offsets(bytes: &mut [u8]) {
-    put(bytes, 0, 100);
-    put(bytes, 180, 84);
-    put(bytes, 384, 220);
-    put(bytes, 388, 220);
-    put(bytes, 392, 220);
-    put(bytes, 396, END - 184);
-    put(bytes, 400, END - 184);
+    put_number(bytes, 0, 100);
+    put_number(bytes, 180, 84);
+    put_number(bytes, 384, 220);
+    put_number(bytes, 388, 220);
+    put_number(bytes, 392, 220);
+    put_number(bytes, 396, END - 184);
+    put_number(bytes, 400, END - 184);
 }
 
 /// Puts the attestation of this number, and the offset that leads to it.
@@ -54,14 +52,21 @@ fn put_attestation(bytes: &mut [u8], number: u32)
     requires { number < 128 }
 {
     let start = ATTESTATIONS * 4 + number * ATTESTATION;
-    put(bytes, BEGIN + 4 * number, start);
-    put(bytes, BEGIN + start, 228);
-    put(bytes, BEGIN + start + 4, number);
-    put(bytes, BEGIN + start + 241, 1 << 24);
+    put_number(bytes, BEGIN + 4 * number, start);
+    put_number(bytes, BEGIN + start, 228);
+    let at = (BEGIN + start) as usize;
+    put_vote(
+        bytes,
+        at + 4,
+        at + 228,
+        u64::from(number / 4),
+        u64::from(number % 4),
+    );
 }
 
-/// The bytes of the block: zero but for offsets, slots and delimiters.
-fn block_bytes(alloc: Global) -> Result<Vec<u8>, AllocError> {
+/// The bytes of the block: zero but for offsets, slots and bits. The attestations are the votes of four committees in each slot of
+/// the first epoch.
+pub fn block_bytes(alloc: Global) -> Result<Vec<u8>, AllocError> {
     let mut bytes = vec![in alloc; 0u8; END as usize]?;
     put_offsets(&mut bytes);
     for number in 0..ATTESTATIONS {
@@ -117,7 +122,7 @@ pub fn measure(rt: &(impl AllocGlobal + Print + CpuClock)) -> Result<()> {
     let end = rt.process_cpu_time()?;
     let ratio = Ratio {
         whole: middle.saturating_sub(begin),
-        hashes: end.saturating_sub(middle),
+        measure: end.saturating_sub(middle),
     };
     println!(rt;
         "block of {ATTESTATIONS} attestations, {TIMES} times, with one pass over the bytes: {ratio} (root {first:02x}.., joined {roots} {joined})"

@@ -1,32 +1,55 @@
-//! Measures what has to be fast, each against the hashes that it can't do without, in one run.
+//! Measures what has to be fast, each against the hashes that it can't do without or another part of the run, in one run.
 //!
-//! The word behind the program's name says what to measure: `pairs`, `shuffle`, `state`, `registry`, `slot` or
-//! `block`. Without a word nothing is measured.
+//! The word behind the program's name says what to measure: `pairs`, `shuffle`, `state`, `registry`, `slot`, `block`,
+//! `attestation`, `operations` or `epoch`. Without a word nothing is measured.
 #![tactic(auto)]
 
+mod attestation;
 mod block;
+mod epoch;
+mod operations;
 mod pairs;
 mod ratio;
 mod shuffle;
 mod state;
+mod states;
 
 use anyhow::Result;
 use std::env;
+use std::time::CpuClock;
 
 /// What is printed where no word names a measurement.
-const USAGE: &str = "name what to measure: pairs, shuffle, state, registry, slot or block";
+const USAGE: &str =
+    "name what to measure: pairs, shuffle, state, registry, slot, block, attestation, operations or epoch";
+
+/// Measures what a word names.
+fn measure(rt: &(impl AllocGlobal + Print + CpuClock), word: &str) -> Result<()> {
+    match word {
+        "pairs" => pairs::measure(rt),
+        "shuffle" => shuffle::measure(rt),
+        "state" => state::measure(rt, 16_384),
+        "registry" => state::measure(rt, 262_144),
+        "slot" => state::measure_slot(rt),
+        _ => measure_steps(rt, word),
+    }
+}
+
+/// Measures what a word names among blocks and what they bring, and an epoch's end.
+fn measure_steps(rt: &(impl AllocGlobal + Print + CpuClock), word: &str) -> Result<()> {
+    match word {
+        "block" => block::measure(rt),
+        "attestation" => attestation::measure(rt),
+        "operations" => operations::measure(rt),
+        "epoch" => epoch::measure(rt),
+        _ => Ok(println!(rt; "{USAGE}")?),
+    }
+}
 
 fn main(rt: HostRuntime) -> Result<()> {
     let mut words = env::args(&rt)?;
     let _program = words.next();
     match words.next() {
-        Some(word) if word.as_str() == "pairs" => pairs::measure(&rt)?,
-        Some(word) if word.as_str() == "shuffle" => shuffle::measure(&rt)?,
-        Some(word) if word.as_str() == "state" => state::measure(&rt, 16_384)?,
-        Some(word) if word.as_str() == "registry" => state::measure(&rt, 262_144)?,
-        Some(word) if word.as_str() == "slot" => state::measure_slot(&rt)?,
-        Some(word) if word.as_str() == "block" => block::measure(&rt)?,
-        _ => println!(rt; "{USAGE}")?,
+        Some(word) => measure(&rt, word.as_str()),
+        None => Ok(println!(rt; "{USAGE}")?),
     }
-    Ok(())
 }

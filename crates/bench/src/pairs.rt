@@ -73,7 +73,7 @@ pub fn measure(rt: &(impl AllocGlobal + Print + CpuClock)) -> Result<()> {
     let end = rt.process_cpu_time()?;
     let ratio = Ratio {
         whole: middle.saturating_sub(begin),
-        hashes: end.saturating_sub(middle),
+        measure: end.saturating_sub(middle),
     };
     println!(rt; "{PAIRS} pairs, {TIMES} times, in lanes: {ratio} (joined {joined})")?;
     Ok(())

@@ -3,29 +3,26 @@
 use std::fmt;
 use std::time::Duration;
 
-/// What was measured, and the hashes alone.
+/// What was measured, and what it is measured by: the hashes that it can't do without, or another part of the run.
 #[derive(Drop)]
 pub struct Ratio {
     /// The time of the whole.
     pub whole: Duration,
-    /// The time of the hashes alone.
-    pub hashes: Duration,
+    /// The time of what it is measured by.
+    pub measure: Duration,
 }
 
 impl fmt::Display for Ratio {
     fn fmt<W: fmt::Write>(&self, f: &mut fmt::Formatter<W>) -> fmt::Result {
         let whole = self.whole.as_micros();
-        let hashes = self.hashes.as_micros().max(1);
+        let measure = self.measure.as_micros().max(1);
         let hundredths = if whole < 1 << 64 {
-            whole * 100 / hashes
+            whole * 100 / measure
         } else {
             0
         };
         let ones = hundredths / 100;
         let rest = hundredths % 100;
-        write!(
-            f,
-            "{whole} us, hashes alone {hashes} us, ratio {ones}.{rest:02}"
-        )
+        write!(f, "{whole} us against {measure} us, ratio {ones}.{rest:02}")
     }
 }

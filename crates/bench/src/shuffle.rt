@@ -61,7 +61,7 @@ pub fn measure(rt: &(impl AllocGlobal + Print + CpuClock)) -> Result<()> {
     let end = rt.process_cpu_time()?;
     let ratio = Ratio {
         whole: middle.saturating_sub(begin),
-        hashes: end.saturating_sub(middle),
+        measure: end.saturating_sub(middle),
     };
     let first = shuffled.get(0).copied().unwrap_or(0);
     println!(rt;
