@@ -1,7 +1,7 @@
 -- The published checks of a block's slot and of its parent root hold of every block that the state transition takes.
-use Rattle.std.proofs.Common.{◌≡◌, ◌∙◌, ℕ, zero, suc, ◌+◌, ◌-◌, ◌*◌, ◌/◌, ◌<◌, ◌≤◌, ◌^◌, Bool, true, false, not, nat_lt, List, [], if◌then◌else◌, refl, sym, ap, subst, arith, inl, inr}
+use Rattle.std.proofs.Common.{◌≡◌, ◌∙◌, ℕ, zero, suc, ◌+◌, ◌-◌, ◌/◌, ◌<◌, ◌≤◌, ◌^◌, Bool, true, false, not, nat_lt, [], if◌then◌else◌, refl, sym, ap, subst, arith, inl, inr}
 use Rattle.std.proofs.Math.Nat.{mul-div-le, mul-le-mul_left, mul_comm}
-use Rattle.std.proofs.lemmas.Bool.{ltb-true, ltb-false, not-false, false≢true}
+use Rattle.std.proofs.lemmas.Bool.{ltb-true, not-false, false≢true}
 use Rattle.bc_words.specs.Outcome.{Outcome, done, refused, limited, each_from}
 use Rattle.bc_preset.specs.declared.presets.Preset.{Preset}
 use Rattle.bc_preset.specs.declared.configuration.ConfigValues.{ConfigValues}
@@ -16,7 +16,7 @@ use Rattle.spec_state.specs.Constants.{far_future_epoch, max_slots}
 use Rattle.spec_state.specs.States.{state_codec}
 use Rattle.spec_state.specs.Genesis.{block_header_of, header_root_of, zero_root}
 use Rattle.spec_state.specs.Soundness.{IsSound}
-use Rattle.spec_blocks.proofs.Done.{OnTheWay, on_the_way, chosen, same_value}
+use Rattle.spec_blocks.proofs.Done.{on_the_way, chosen, same_value}
 use Rattle.spec_epochs.specs.ProcessEpoch.{process_epoch}
 use Rattle.spec_epochs.proofs.Fixed.{epoch_preset, epoch_slot}
 use Rattle.spec_epochs.proofs.SoundEpoch.{epoch_header}
@@ -49,11 +49,11 @@ record Passed (s t : PlainState) : Type 0 where
   preset : t.preset ≡ s.preset
   header : t.latest_block_header ≡ block_header_of s
 
-ended : (s : PlainState) → (process_slot s).slot ≡ s.slot
+pub ended : (s : PlainState) → (process_slot s).slot ≡ s.slot
 unfolding process_slot
 ended s = refl
 
-ended_preset : (s : PlainState) → (process_slot s).preset ≡ s.preset
+pub ended_preset : (s : PlainState) → (process_slot s).preset ≡ s.preset
 unfolding process_slot
 ended_preset s = refl
 
@@ -79,7 +79,7 @@ epoch_ends config s t is bounds before = elim (chosen (not (is_last_of_epoch s.s
       })
 ]
 
-below : (p : Preset) (slot : ℕ) → HasPresetBounds p → slot < 2 ^ 64 → slot / p.slots_per_epoch < far_future_epoch
+pub below : (p : Preset) (slot : ℕ) → HasPresetBounds p → slot < 2 ^ 64 → slot / p.slots_per_epoch < far_future_epoch
 below p slot bounds low =
     let n : ℕ = p.slots_per_epoch in
     let q : ℕ = slot / n in

@@ -1,2 +1,5 @@
 pub mod Sound
 pub mod HeaderChecks
+pub mod SoundSlots
+pub mod BlockStays
+pub mod HeaderRoot

@@ -1,5 +1,5 @@
 pub mod Loop
 pub mod Tests
 pub mod Genesis
-pub mod Slots
 pub mod Blocks
+pub mod Epochs

@@ -7,6 +7,7 @@ mod get_beacon_proposer_index;
 pub mod operations_keep_sound;
 mod pending;
 pub mod process_block;
+pub mod process_epoch;
 pub mod process_operations;
 pub mod process_slots;
 mod soundness;

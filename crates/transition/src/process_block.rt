@@ -38,7 +38,7 @@ fn take_steps(
 /// state of the block's slot. It leaves a sound state sound, and anything in the state after a stop.
 ///
 /// Refused, in this order: as the proposer of the slot, the header, the vote and the operations are.
-#[tactic(auto, using(crate::proofs::Blocks::block_sound))]
+#[tactic(auto, using(crate::proofs::Blocks::block_sound, crate::proofs::Blocks::block_slot, crate::proofs::Blocks::block_preset))]
 pub fn process_block(
     alloc: Global,
     state: &mut State,
@@ -47,6 +47,8 @@ pub fn process_block(
 ) -> Result<(), Stop>
     requires slot { block.now.slot ≡ state.old.slot }
     ensures sound { IfOk result (λ _. IsSound state.old → IsSound state.new) }
+    ensures slot { IfOk result (λ _. state.new.slot ≡ state.old.slot) }
+    ensures preset { IfOk result (λ _. state.new.preset ≡ state.old.preset) }
     ensures step { Moves result state.new (process_block state.old block.now config.now) }
 {
     state.preset().bounds();

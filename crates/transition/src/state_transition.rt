@@ -1,13 +1,14 @@
 //! The step of a state by a block (beacon-chain.md, "Beacon chain state transition function").
 
-ghost use Rattle.std.specs.Prelude.{◌≡◌, ℕ, ◌/◌, ◌<◌, ◌^◌, false, IfOk};
+ghost use Rattle.std.specs.Prelude.{◌≡◌, ℕ, ◌<◌, ◌^◌, false, IfOk};
 ghost use Rattle.bc_words.specs.Outcome.{Gives, done};
 ghost use Rattle.bc_preset.specs.Presets.{IsPreset};
 ghost use Rattle.bc_preset.specs.declared.configuration.ConfigValues.{ConfigValues};
 ghost use Rattle.beacon_types.specs.Equality.{same_root};
 ghost use Rattle.spec_state.specs.declared.plain.PlainState.{PlainState};
 ghost use Rattle.spec_state.specs.States.{state_codec};
-ghost use Rattle.spec_state.specs.Genesis.{zero_root};
+ghost use Rattle.beacon_body.specs.Containers.{block_codec};
+ghost use Rattle.spec_state.specs.Genesis.{zero_root, header_root_of};
 ghost use Rattle.spec_state.specs.Soundness.{IsSound};
 ghost use Rattle.spec_transition.specs.StateTransition.{IsNext, state_transition};
 ghost use Rattle.spec_transition.specs.ProcessSlots.{Stepped, process_slots};
@@ -22,11 +23,12 @@ use beacon_state::State;
 use std::alloc::Global;
 
 /// Takes the sound state through the slots up to the block's, and then through the block (beacon-chain.md,
-/// `state_transition`). The given state is untouched, and the new one is sound. The signature isn't checked.
+/// `state_transition`). The given state is untouched, and the new one is sound, of the block's slot, and has the block as its
+/// latest one. The signature isn't checked.
 ///
 /// Refused, in this order: as the slots and the block are, and as `StateRoot` where the block's state root isn't that of the
 /// state behind it.
-#[tactic(auto, unfolding(spec_transition::specs::StateTransition::state_transition))]
+#[tactic(auto, using(spec_transition::proofs::HeaderRoot::block_is_latest), unfolding(spec_transition::specs::StateTransition::state_transition))]
 pub fn state_transition(
     alloc: Global,
     state: &State,
@@ -34,8 +36,10 @@ pub fn state_transition(
     config: &Config,
 ) -> Result<Step, Stop>
     requires sound { IsSound state.now }
-    requires same_epoch { state.now.slot / state.now.preset.slots_per_epoch ≡ block.now.message.slot / state.now.preset.slots_per_epoch }
     ensures sound { IfOk result (λ step. IsSound step.state) }
+    ensures slot { IfOk result (λ step. step.state.slot ≡ block.now.message.slot) }
+    ensures preset { IfOk result (λ step. step.state.preset ≡ state.now.preset) }
+    ensures latest { IfOk result (λ step. header_root_of step.state ≡ block_codec.hash_tree_root block.now.message) }
     ensures step { Gives result (state_transition state.now block.now config.now) }
 {
     let mut step = process_slots(alloc, state, block.message.slot, config)?;

@@ -1,6 +1,4 @@
-//! The two calls, and the line that an answer is recorded as.
-
-ghost use Rattle.std.specs.Prelude.{◌≡◌, ◌/◌, IsTrue};
+//! The two calls, and the lines that an answer is recorded as.
 
 use anyhow::{Result, bail};
 use bc_preset::Config;
@@ -29,13 +27,30 @@ fn refused_line(alloc: Global, why: Refusal) -> Result<String> {
     Ok(format!(in alloc; "refused {number} {name}")?)
 }
 
-/// The line of a step or of its stop.
-fn line_of(alloc: Global, outcome: &Result<Step, Stop>) -> Result<String> {
-    match outcome {
-        Ok(step) => {
-            let root = hex::encode(alloc, &step.state.root())?;
-            Ok(format!(in alloc; "ok 0x{root}")?)
+/// The line of a state on which epoch processing was entered.
+fn entered_line(alloc: Global, state: &State) -> Result<String> {
+    let slot = state.slot();
+    let root = hex::encode(alloc, &state.root())?;
+    Ok(format!(in alloc; "entered {slot} 0x{root}")?)
+}
+
+/// The lines of a step: the state's root, and then each state that was entered.
+fn step_lines(alloc: Global, step: &Step) -> Result<String> {
+    let root = hex::encode(alloc, &step.state.root())?;
+    let mut lines = format!(in alloc; "ok 0x{root}")?;
+    for index in 0..step.entered.len() {
+        if let Some(state) = step.entered.get(index) {
+            let line = entered_line(alloc, state)?;
+            lines = format!(in alloc; "{lines}\n{line}")?;
         }
+    }
+    Ok(lines)
+}
+
+/// The lines of a step or of its stop.
+fn lines_of(alloc: Global, outcome: &Result<Step, Stop>) -> Result<String> {
+    match outcome {
+        Ok(step) => step_lines(alloc, step),
         Err(Stop::Refused(why)) => refused_line(alloc, *why),
         Err(Stop::Limit(Limit::Slots(slots))) => Ok(format!(in alloc; "limit Slots({slots})")?),
         Err(Stop::Limit(Limit::Proposer)) => bail!("no proposer"),
@@ -43,52 +58,33 @@ fn line_of(alloc: Global, outcome: &Result<Step, Stop>) -> Result<String> {
     }
 }
 
-/// Whether a slot is in the epoch of the state.
-fn is_in_epoch(state: &State, slot: u64) -> bool
-    ensures { IsTrue result → state.now.slot / state.now.preset.slots_per_epoch ≡ slot / state.now.preset.slots_per_epoch }
-{
-    let preset = state.preset();
-    preset.bounds();
-    state.slot() / preset.slots_per_epoch == slot / preset.slots_per_epoch
-}
-
 /// The step through slots.
-fn slots_line(alloc: Global, state: &State, slot: u64, config: &Config) -> Result<String> {
+fn slots_lines(alloc: Global, state: &State, slot: u64, config: &Config) -> Result<String> {
     match is_sound(alloc, state) {
-        Ok(true) => {
-            if !is_in_epoch(state, slot) {
-                bail!("the slot is in another epoch");
-            }
-            line_of(alloc, &process_slots(alloc, state, slot, config))
-        }
+        Ok(true) => lines_of(alloc, &process_slots(alloc, state, slot, config)),
         _ => bail!("the state isn't sound"),
     }
 }
 
 /// The step by a block.
-fn block_line(
+fn block_lines(
     alloc: Global,
     state: &State,
     block: &SignedBeaconBlock,
     config: &Config,
 ) -> Result<String> {
     match is_sound(alloc, state) {
-        Ok(true) => {
-            if !is_in_epoch(state, block.message.slot) {
-                bail!("the block is in another epoch");
-            }
-            line_of(alloc, &state_transition(alloc, state, block, config))
-        }
+        Ok(true) => lines_of(alloc, &state_transition(alloc, state, block, config)),
         _ => bail!("the state isn't sound"),
     }
 }
 
-/// The line of the call's answer.
-pub fn answer_line(alloc: Global, state: &State, call: &Call, config: &Config) -> Result<String> {
+/// The lines of the call's answer.
+pub fn answer_lines(alloc: Global, state: &State, call: &Call, config: &Config) -> Result<String> {
     match call {
-        Call::Slots(slot) => slots_line(alloc, state, *slot, config),
+        Call::Slots(slot) => slots_lines(alloc, state, *slot, config),
         Call::Block(bytes) => match SignedBeaconBlock::read(alloc, bytes) {
-            Ok(block) => block_line(alloc, state, &block, config),
+            Ok(block) => block_lines(alloc, state, &block, config),
             Err(_) => bail!("the block doesn't read"),
         },
     }

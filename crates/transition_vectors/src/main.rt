@@ -1,9 +1,10 @@
 //! Slots and whole blocks on recorded states of the minimal preset, compared with what an independent implementation gives.
-//! They cross no epoch's end.
+//! Many go over ends of epochs.
 //!
 //! `data/cases` lists the cases. Each is a folder of `data/`: `call` names the call, with the slot behind `process_slots`,
 //! `pre.ssz` is the state before it, `input.ssz` the signed block of `state_transition`, `config.yaml` the configuration, and
-//! `answer` the root of the state behind it, or the refusal.
+//! `answer` the root of the state behind it, or the stop. Behind a root follows a line for each state on which epoch processing
+//! was entered: its slot and its root.
 #![tactic(auto)]
 
 mod calls;
@@ -11,7 +12,7 @@ mod calls;
 use anyhow::{Result, bail};
 use bc_preset::{Config, Preset};
 use beacon_state::State;
-use calls::{Call, answer_line};
+use calls::{Call, answer_lines};
 use std::alloc::Global;
 use std::fs;
 use std::rt::Files;
@@ -34,7 +35,7 @@ fn read_call<R: Files + AllocGlobal>(rt: &R, case: &str) -> Result<Call> {
 /// The answer of the call on the state of these bytes.
 fn answer_of(alloc: Global, bytes: &[u8], call: &Call, config: &Config) -> Result<String> {
     match State::read(alloc, &Preset::minimal(), bytes) {
-        Ok(state) => answer_line(alloc, &state, call, config),
+        Ok(state) => answer_lines(alloc, &state, call, config),
         Err(_) => bail!("the state doesn't read"),
     }
 }

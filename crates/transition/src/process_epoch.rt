@@ -1,0 +1,64 @@
+//! The end of an epoch (beacon-chain.md, "Epoch processing").
+//!
+//! States come from the way through slots, at the last one of an epoch, and go back to it.
+
+ghost use Rattle.bc_words.specs.Outcome.{Moves};
+ghost use Rattle.spec_state.specs.Soundness.{IsSound};
+ghost use Rattle.spec_epochs.specs.ProcessEpoch.{process_epoch};
+ghost use Rattle.transition.specs.inside.Epochs.{resets, closing_parts};
+
+use balance_totals::{committees_of_epoch, current_epoch, previous_epoch};
+use bc_preset::Config;
+use bc_words::Stop;
+use beacon_state::State;
+use epoch_close::process_effective_balance_updates::process_effective_balances;
+use epoch_close::process_eth1_data_reset::process_eth1_reset;
+use epoch_close::process_historical_roots_update::process_historical_roots;
+use epoch_close::process_participation_record_updates::process_rotation;
+use epoch_close::process_randao_mixes_reset::process_randao_reset;
+use epoch_close::process_slashings::process_slashings;
+use epoch_close::process_slashings_reset::process_slashings_reset;
+use epoch_rewards::process_rewards;
+use justification::process_justification;
+use registry_queue::process_registry_updates::process_registry;
+use std::alloc::Global;
+
+/// The resets of what the next epoch begins with, the root of the latest roots, and the rotation of the pending
+/// attestations.
+#[tactic(auto, unfolding(crate::specs::inside::Epochs::resets))]
+fn reset(state: &mut State) -> Result<(), Stop>
+    ensures { Moves result state.new (resets state.old) }
+{
+    process_slashings_reset(state)?;
+    process_randao_reset(state)?;
+    process_historical_roots(state)?;
+    process_rotation(state)
+}
+
+/// The closing parts, behind the registry.
+#[tactic(auto, unfolding(crate::specs::inside::Epochs::closing_parts))]
+fn close(alloc: Global, state: &mut State) -> Result<(), Stop>
+    ensures { Moves result state.new (closing_parts state.old) }
+{
+    process_slashings(alloc, state)?;
+    process_eth1_reset(state)?;
+    process_effective_balances(alloc, state)?;
+    reset(state)
+}
+
+/// The parts of an epoch's end, one after another (beacon-chain.md, `process_epoch`), on a sound state. The committees of
+/// the previous and of the current epoch are made once. It leaves anything in the state after a stop.
+///
+/// Refused where a part is: as an overflow where a sum or product does not fit, and as a full list of historical roots.
+#[tactic(auto, using(crate::proofs::Epochs::justified_committees, spec_epochs::proofs::SoundJustification::justification_sound), unfolding(spec_epochs::specs::ProcessEpoch::process_epoch, crate::specs::inside::Epochs::closing_parts, crate::specs::inside::Epochs::resets))]
+pub fn process_epoch(alloc: Global, state: &mut State, config: &Config) -> Result<(), Stop>
+    requires sound { IsSound state.old }
+    ensures { Moves result state.new (process_epoch state.old config.now) }
+{
+    let previous = committees_of_epoch(alloc, state, previous_epoch(state))?;
+    let current = committees_of_epoch(alloc, state, current_epoch(state))?;
+    process_justification(alloc, state, &previous, &current)?;
+    process_rewards(alloc, state, &previous)?;
+    process_registry(alloc, state, config)?;
+    close(alloc, state)
+}
