@@ -19,7 +19,7 @@ use Rattle.spec_blocks.specs.ProcessBlockHeader.{header_of}
 use Rattle.spec_blocks.specs.ProcessBlock.{process_block}
 use Rattle.spec_blocks.proofs.Done.{on_the_way, check_holds, same_value}
 use Rattle.spec_transition.specs.ProcessSlots.{Stepped, process_slots}
-use Rattle.spec_transition.specs.StateTransition.{state_transition}
+use Rattle.spec_transition.specs.StateTransition.{IsLatest, state_transition}
 use Rattle.spec_transition.proofs.BlockStays.{block_stays}
 
 -- the header of a block with a state root
@@ -41,8 +41,8 @@ of_block t block header root =
     ap block_header_codec.hash_tree_root (filled t block header ∙ ap (closed block) (sym root)) ∙ same_roots block
 
 -- state_transition
-pub block_is_latest : (s : PlainState) (block : SignedBeaconBlock) (config : ConfigValues) (t : Stepped) → state_transition s block config ≡ done t → header_root_of t.state ≡ block_codec.hash_tree_root block.message
-unfolding state_transition
+pub block_is_latest : (s : PlainState) (block : SignedBeaconBlock) (config : ConfigValues) (t : Stepped) → state_transition s block config ≡ done t → IsLatest t.state block.message
+unfolding state_transition IsLatest
 block_is_latest s block config t is =
     let at_slot = on_the_way (process_slots s block.message.slot config) _ t is in
     let processed = on_the_way (process_block at_slot.value.state block.message config) _ t at_slot.then_done in
@@ -50,5 +50,5 @@ block_is_latest s block config t is =
     let root : List ℕ = (state_codec x.preset).hash_tree_root x in
     let checked = on_the_way (check (same_root block.message.state_root root) StateRoot) _ t processed.then_done in
     let same = (pointwise_decides unsigned_Decides block.message.state_root root).0 (check_holds _ StateRoot _ checked.first) in
-    subst (λ (y : Stepped). header_root_of y.state ≡ block_codec.hash_tree_root block.message) (same_value _ t checked.then_done)
+    subst (λ (y : Stepped). IsLatest y.state block.message) (same_value _ t checked.then_done)
     (of_block x block.message (block_stays at_slot.value.state x block.message config processed.first).header same)

@@ -53,9 +53,6 @@ same_place config s t is = elim (chosen (not (is_last_of_epoch s.state)) _ _ _ i
       subst (λ (x : Stepped). SamePlace s.state x.state) (same_value _ t processed.then_done) (epoch_fixed s.state processed.value config processed.first)
 ]
 
-pub epoch_end_slot : (config : ConfigValues) (s t : Stepped) → end_epoch config s ≡ done t → t.state.slot ≡ s.state.slot
-epoch_end_slot config s t is = (same_place config s t is).slot
-
 -- the next slot is one more, of the same preset
 pub next_slot_is : (config : ConfigValues) (s t : Stepped) → next_slot config s ≡ done t → t.state.slot ≡ s.state.slot + 1
 unfolding next_slot with_next_slot

@@ -5,7 +5,9 @@ use Rattle.bc_words.specs.declared.refusal.Refusal.TheVariants.{StateRoot}
 use Rattle.bc_preset.specs.declared.configuration.ConfigValues.{ConfigValues}
 use Rattle.beacon_types.specs.Equality.{same_root}
 use Rattle.beacon_types.specs.Containers.{block_header_codec}
+use Rattle.beacon_body.specs.declared.block.BeaconBlock.{BeaconBlock}
 use Rattle.beacon_body.specs.declared.signed_block.SignedBeaconBlock.{SignedBeaconBlock}
+use Rattle.beacon_body.specs.Containers.{block_codec}
 use Rattle.spec_state.specs.declared.plain.PlainState.{PlainState}
 use Rattle.spec_state.specs.States.{state_codec}
 use Rattle.spec_state.specs.Genesis.{header_root_of}
@@ -32,3 +34,7 @@ pub record IsNext (s t : PlainState) (slot : ℕ) : Type 0 where
   pub at : t.slot ≡ slot
   pub later : t.latest_block_header.slot < slot
   pub parent : block_header_codec.hash_tree_root t.latest_block_header ≡ header_root_of s
+
+-- The block is the latest one of a state: the header root, by which a next block names its parent, is the block's root
+unfoldable pub IsLatest : PlainState → BeaconBlock → Type 0
+IsLatest state block = header_root_of state ≡ block_codec.hash_tree_root block

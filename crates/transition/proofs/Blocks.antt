@@ -1,5 +1,5 @@
 -- A block keeps a state sound, with what the code knows of it, and leaves its slot and preset.
-use Rattle.std.proofs.Common.{◌≡◌, ℕ, ◌<◌, ◌≤◌, ◌^◌, ◌/◌, arith}
+use Rattle.std.proofs.Common.{◌≡◌, ◌<◌, ◌≤◌, ◌^◌, ◌/◌, arith}
 use Rattle.bc_words.specs.Outcome.{done}
 use Rattle.bc_preset.specs.laws.Bounds.{HasPresetBounds}
 use Rattle.bc_preset.specs.declared.configuration.ConfigValues.{ConfigValues}

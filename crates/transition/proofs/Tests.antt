@@ -8,7 +8,7 @@ use Rattle.spec_state.specs.declared.plain.PlainState.{PlainState}
 use Rattle.spec_state.specs.Misc.{compute_epoch_at_slot}
 use Rattle.spec_state.specs.Accessors.{get_current_epoch, get_previous_epoch, epoch_committees, get_committee_count_per_slot, get_beacon_committee}
 use Rattle.spec_state.proofs.BeaconCommittees.{count_is_published, committee_is_published}
-use Rattle.spec_state.specs.Soundness.{IsSoundPending, IsSoundTo, IsSound}
+use Rattle.spec_state.specs.Soundness.{IsSoundPending, IsSoundTo}
 use Rattle.transition.specs.inside.Tests.{bits_test, pending_test, figures_test}
 
 bits_are : (s : PlainState) (epoch slot index : ℕ) (bits : List Bool) → IsPreset s.preset → compute_epoch_at_slot s.preset slot ≡ epoch → index < get_committee_count_per_slot s epoch

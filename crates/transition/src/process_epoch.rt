@@ -50,7 +50,7 @@ fn close(alloc: Global, state: &mut State) -> Result<(), Stop>
 /// the previous and of the current epoch are made once. It leaves anything in the state after a stop.
 ///
 /// Refused where a part is: as an overflow where a sum or product does not fit, and as a full list of historical roots.
-#[tactic(auto, using(crate::proofs::Epochs::justified_committees, spec_epochs::proofs::SoundJustification::justification_sound), unfolding(spec_epochs::specs::ProcessEpoch::process_epoch, crate::specs::inside::Epochs::closing_parts, crate::specs::inside::Epochs::resets))]
+#[tactic(auto, using(crate::proofs::Epochs::justified_committees), unfolding(spec_epochs::specs::ProcessEpoch::process_epoch, crate::specs::inside::Epochs::closing_parts, crate::specs::inside::Epochs::resets))]
 pub fn process_epoch(alloc: Global, state: &mut State, config: &Config) -> Result<(), Stop>
     requires sound { IsSound state.old }
     ensures { Moves result state.new (process_epoch state.old config.now) }

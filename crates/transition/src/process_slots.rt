@@ -1,8 +1,9 @@
 //! The way of a state through slots without a block (beacon-chain.md, "process_slots").
 
 ghost use Rattle.std.specs.Prelude.{◌≡◌, ◌+◌, ◌-◌, ◌<◌, ◌^◌, [], IfOk};
-ghost use Rattle.bc_words.specs.Outcome.{Gives, Moves, each_from};
+ghost use Rattle.bc_words.specs.Outcome.{Becomes, Gives, Moves, each_from};
 ghost use Rattle.spec_state.specs.Soundness.{IsSound};
+ghost use Rattle.spec_transition.specs.ProcessSlot.{process_slot};
 ghost use Rattle.spec_transition.specs.ProcessSlots.{Stepped, is_last_of_epoch, end_epoch, next_slot, process_slots};
 
 use crate::process_epoch::process_epoch;
@@ -36,7 +37,7 @@ fn is_last_of_epoch(state: &State) -> bool
 }
 
 /// The epoch's processing where the state's slot is its last one. The state is kept among those entered as it is before it.
-#[tactic(auto, using(spec_transition::proofs::SoundSlots::epoch_end_slot), unfolding(spec_transition::specs::ProcessSlots::end_epoch))]
+#[tactic(auto, unfolding(spec_transition::specs::ProcessSlots::end_epoch))]
 fn end_epoch(alloc: Global, step: &mut Step, config: &Config) -> Result<(), Stop>
     requires later { step.old.state.slot + 1 < 2 ^ 64 }
     requires sound { IsSound step.old.state }
@@ -48,17 +49,28 @@ fn end_epoch(alloc: Global, step: &mut Step, config: &Config) -> Result<(), Stop
     }
     let before = step.state.share()?;
     step.entered.push(before)?;
-    process_epoch(alloc, &mut step.state, config)
+    process_epoch(alloc, &mut step.state, config)?;
+    Ok(())
+}
+
+/// Ends the slot of a sound state, which stays sound. The slot itself doesn't grow.
+#[tactic(auto, using(spec_transition::proofs::Sound::slot_end_sound, spec_transition::proofs::HeaderChecks::ended))]
+fn end_slot(state: &mut State) -> Result<(), NoMemory>
+    ensures step { Becomes result state.old state.new (process_slot state.old) }
+    ensures slot { IfOk result (λ _. state.new.slot ≡ state.old.slot) }
+    ensures sound { IfOk result (λ _. IsSound state.old → IsSound state.new) }
+{
+    process_slot(state)
 }
 
 /// One slot: it ends, and its epoch where it is the last one, and the next one begins.
-#[tactic(auto, using(spec_transition::proofs::Sound::slot_end_sound, spec_transition::proofs::HeaderChecks::ended), unfolding(spec_transition::specs::ProcessSlots::next_slot, spec_transition::specs::ProcessSlots::with_next_slot))]
+#[tactic(auto, unfolding(spec_transition::specs::ProcessSlots::next_slot, spec_transition::specs::ProcessSlots::with_next_slot))]
 fn next_slot(alloc: Global, step: &mut Step, config: &Config) -> Result<(), Stop>
     requires later { step.old.state.slot + 1 < 2 ^ 64 }
     requires sound { IsSound step.old.state }
     ensures { Moves result step.new (next_slot config.now step.old) }
 {
-    process_slot(&mut step.state)?;
+    end_slot(&mut step.state)?;
     end_epoch(alloc, step, config)?;
     let slot = step.state.slot();
     step.state.set_slot(slot + 1);

@@ -7,10 +7,9 @@ ghost use Rattle.bc_preset.specs.declared.configuration.ConfigValues.{ConfigValu
 ghost use Rattle.beacon_types.specs.Equality.{same_root};
 ghost use Rattle.spec_state.specs.declared.plain.PlainState.{PlainState};
 ghost use Rattle.spec_state.specs.States.{state_codec};
-ghost use Rattle.beacon_body.specs.Containers.{block_codec};
-ghost use Rattle.spec_state.specs.Genesis.{zero_root, header_root_of};
+ghost use Rattle.spec_state.specs.Genesis.{zero_root};
 ghost use Rattle.spec_state.specs.Soundness.{IsSound};
-ghost use Rattle.spec_transition.specs.StateTransition.{IsNext, state_transition};
+ghost use Rattle.spec_transition.specs.StateTransition.{IsLatest, IsNext, state_transition};
 ghost use Rattle.spec_transition.specs.ProcessSlots.{Stepped, process_slots};
 
 use crate::process_block::process_block;
@@ -22,13 +21,35 @@ use beacon_body::SignedBeaconBlock;
 use beacon_state::State;
 use std::alloc::Global;
 
+/// The slots up to the block's, the block, and its state root.
+#[tactic(auto, unfolding(spec_transition::specs::StateTransition::state_transition))]
+fn take_block(
+    alloc: Global,
+    state: &State,
+    block: &SignedBeaconBlock,
+    config: &Config,
+) -> Result<Step, Stop>
+    requires sound { IsSound state.now }
+    ensures sound { IfOk result (λ step. IsSound step.state) }
+    ensures slot { IfOk result (λ step. step.state.slot ≡ block.now.message.slot) }
+    ensures preset { IfOk result (λ step. step.state.preset ≡ state.now.preset) }
+    ensures step { Gives result (state_transition state.now block.now config.now) }
+{
+    let mut step = process_slots(alloc, state, block.message.slot, config)?;
+    process_block(alloc, &mut step.state, &block.message, config)?;
+    if block.message.state_root != step.state.root() {
+        return Err(Stop::Refused(Refusal::StateRoot));
+    }
+    Ok(step)
+}
+
 /// Takes the sound state through the slots up to the block's, and then through the block (beacon-chain.md,
 /// `state_transition`). The given state is untouched, and the new one is sound, of the block's slot, and has the block as its
 /// latest one. The signature isn't checked.
 ///
 /// Refused, in this order: as the slots and the block are, and as `StateRoot` where the block's state root isn't that of the
 /// state behind it.
-#[tactic(auto, using(spec_transition::proofs::HeaderRoot::block_is_latest), unfolding(spec_transition::specs::StateTransition::state_transition))]
+#[tactic(auto, using(spec_transition::proofs::HeaderRoot::block_is_latest))]
 pub fn state_transition(
     alloc: Global,
     state: &State,
@@ -39,15 +60,10 @@ pub fn state_transition(
     ensures sound { IfOk result (λ step. IsSound step.state) }
     ensures slot { IfOk result (λ step. step.state.slot ≡ block.now.message.slot) }
     ensures preset { IfOk result (λ step. step.state.preset ≡ state.now.preset) }
-    ensures latest { IfOk result (λ step. header_root_of step.state ≡ block_codec.hash_tree_root block.now.message) }
+    ensures latest { IfOk result (λ step. IsLatest step.state block.now.message) }
     ensures step { Gives result (state_transition state.now block.now config.now) }
 {
-    let mut step = process_slots(alloc, state, block.message.slot, config)?;
-    process_block(alloc, &mut step.state, &block.message, config)?;
-    if block.message.state_root != step.state.root() {
-        return Err(Stop::Refused(Refusal::StateRoot));
-    }
-    Ok(step)
+    take_block(alloc, state, block, config)
 }
 
 /// The law that the published checks of a block's slot and parent root hold of every block that the state transition takes:

@@ -1,5 +1,5 @@
 -- Each slot leaves a sound state of the preset, one slot later.
-use Rattle.std.proofs.Common.{◌≡◌, ◌∙◌, ◌-◌, ◌<◌, ◌^◌, ℕ, sym, subst, arith}
+use Rattle.std.proofs.Common.{◌∙◌, ℕ, sym, subst, arith}
 use Rattle.bc_preset.specs.laws.Bounds.{HasPresetBounds}
 use Rattle.bc_words.proofs.Folds.{each_steps}
 use Rattle.spec_transition.specs.ProcessSlots.{next_slot}
