@@ -1,1 +1,2 @@
 pub mod SameBlock
+pub mod Grows
