@@ -143,6 +143,16 @@ impl KeptBlocks {
     {
         find_block(self.items.as_slice(), &root)
     }
+
+    /// The same without its state.
+    pub fn block(&self, root: Root) -> Option<&BeaconBlock>
+        ensures { option_map (λ block. block.now) result ≡ option_map (λ kept. kept.block) (block_of self.now root) }
+    {
+        match self.find(root) {
+            Some(kept) => Some(kept.block()),
+            None => None,
+        }
+    }
 }
 
 /// The first block of a root.

@@ -5,19 +5,29 @@
 //! checkpoint each time.
 #![tactic(auto)]
 
+mod accept_block;
+mod block_in;
+mod clash_of;
+mod copies;
 mod filter_block_tree;
 mod get_ancestor;
 mod get_head;
 mod get_latest_attesting_balance;
 mod kept_block;
 mod latest_messages;
+mod on_block;
 mod on_tick;
+mod root_clash;
 mod should_update_justified_checkpoint;
 mod slots;
 mod store;
+mod store_new;
+mod store_target_checkpoint_state;
 mod update_latest_messages;
 mod validate_on_attestation;
 
+pub use block_in::BlockIn;
 pub use kept_block::{KeptBlock, KeptBlocks};
 pub use latest_messages::{LatestMessage, LatestMessages};
+pub use root_clash::{clash, same_block_is_equality};
 pub use store::Store;

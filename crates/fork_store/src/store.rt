@@ -5,7 +5,9 @@
 ghost use Rattle.std.specs.Prelude.{◌≡◌, ◌∷◌, ◌++◌, ◌≤◌, ◌<◌, ◌^◌, [], IfSome, IfOk};
 ghost use Rattle.std.specs.Option.{option_map};
 ghost use Rattle.bc_words.specs.Outcome.{Becomes};
-ghost use Rattle.spec_state.specs.Soundness.{IsSound};
+ghost use Rattle.std.specs.List.{AllByRecursion};
+ghost use Rattle.spec_state.specs.Genesis.{zero_root};
+ghost use Rattle.fork_store.specs.inside.Stores.{HasPreset};
 ghost use Rattle.spec_fork_choice.specs.Store.{block_of};
 ghost use Rattle.spec_fork_choice.specs.Slots.{start_slot_of};
 ghost use Rattle.fork_store.specs.inside.Messages.{updated};
@@ -49,6 +51,31 @@ impl Model for Store {
 }
 
 impl Store {
+    /// The store at genesis: its time and its three checkpoints are these, and there is no boost.
+    pub(crate) fn at_genesis(
+        config: Config,
+        time: u64,
+        checkpoint: Checkpoint,
+        blocks: KeptBlocks,
+        messages: LatestMessages,
+    ) -> Store
+        requires presets { AllByRecursion (HasPreset config.preset) blocks }
+        requires first { checkpoint.epoch ≡ 0 }
+        ensures { result ≡ record { config = config; time = time; genesis_time = time; justified_checkpoint = checkpoint; finalized_checkpoint = checkpoint; best_justified_checkpoint = checkpoint; proposer_boost_root = zero_root; blocks = blocks; latest_messages = messages } }
+    {
+        Store {
+            config,
+            time,
+            genesis_time: time,
+            justified: checkpoint,
+            finalized: checkpoint,
+            best_justified: checkpoint,
+            boost_root: [0; 32],
+            blocks,
+            messages,
+        }
+    }
+
     /// The configuration.
     pub(crate) fn config(&self) -> &Config
         ensures { result.now ≡ self.now.config }
@@ -193,10 +220,7 @@ impl Store {
     pub fn block(&self, root: Root) -> Option<&BeaconBlock>
         ensures { option_map (λ block. block.now) result ≡ option_map (λ kept. kept.block) (block_of self.now.blocks root) }
     {
-        match self.blocks.find(root) {
-            Some(kept) => Some(kept.block()),
-            None => None,
-        }
+        self.blocks.block(root)
     }
 
     /// The state behind the block of a root. None exactly where the root isn't kept.

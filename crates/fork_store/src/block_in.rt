@@ -1,0 +1,28 @@
+//! What an accepted block leaves beside the store.
+//!
+//! It comes from the store's handler of blocks, and goes to lines and to whoever follows justification.
+
+use hash_tree::Root;
+use std::marker::Model;
+use transition::States;
+
+/// The roots of an accepted block and of the state behind it, and the states on which epoch processing was entered on the way.
+#[derive(Drop)]
+pub struct BlockIn {
+    /// The block's root.
+    pub root: Root,
+    /// The root of the state behind it.
+    pub state_root: Root,
+    /// The states on which epoch processing was entered, in order.
+    pub entered: States,
+}
+
+impl Model for BlockIn {
+    ghost use Rattle.spec_fork_choice.specs.OnBlock.{BlockIn as PlainBlockIn};
+
+    ghost Value = { PlainBlockIn };
+
+    ghost view = { λ b. record { root = b.root; state_root = b.state_root; entered = b.entered } };
+
+    ghost invariant = { λ b. Unit {0} };
+}

@@ -1,0 +1,86 @@
+//! Blocks (fork-choice.md, "on_block").
+
+ghost use Rattle.std.specs.Prelude.{◌≡◌, ◌<◌, ◌-◌, ◌^◌, length, IfOk};
+ghost use Rattle.bc_words.specs.Outcome.{Gives};
+ghost use Rattle.spec_state.specs.Soundness.{IsSound};
+ghost use Rattle.spec_fork_choice.specs.Clash.{clash_of};
+ghost use Rattle.spec_fork_choice.specs.OnBlock.{block_step, accept_block, on_block};
+ghost use Rattle.fork_store.specs.inside.Accepts.{Accepts};
+
+use crate::accept_block::accept;
+use crate::block_in::BlockIn;
+use crate::clash_of::clash_of;
+use crate::get_ancestor::get_ancestor;
+use crate::slots::{current_slot, start_slot};
+use crate::store::Store;
+use bc_words::{Refusal, Stop, StoreStop};
+use beacon_body::{BeaconBlock, SignedBeaconBlock};
+use hash_tree::{Leaf, Root};
+use std::alloc::Global;
+use transition::Step;
+use transition::state_transition::state_transition;
+
+/// The checks of a block, and the step of its parent's state by it.
+#[tactic(auto, unfolding(spec_fork_choice::specs::OnBlock::block_step, spec_fork_choice::specs::StoreTargetCheckpointState::kept_or))]
+fn block_step(alloc: Global, store: &Store, block: &SignedBeaconBlock) -> Result<Step, Stop>
+    ensures step { Gives result (block_step store.now block.now) }
+    ensures sound { IfOk result (λ step. IsSound step.state) }
+    ensures preset { IfOk result (λ step. step.state.preset ≡ store.now.config.preset) }
+{
+    let message = &block.message;
+    let Some(parent) = store.kept(message.parent_root) else {
+        return Err(Stop::Refused(Refusal::ParentUnknown));
+    };
+    if message.slot > current_slot(store) {
+        return Err(Stop::Refused(Refusal::FutureBlock));
+    }
+    let finalized_slot = start_slot(store, store.finalized());
+    if u128::from(message.slot) <= finalized_slot {
+        return Err(Stop::Refused(Refusal::BeforeFinalized));
+    }
+    if get_ancestor(store, message.parent_root, finalized_slot) != store.finalized().root {
+        return Err(Stop::Refused(Refusal::NotOnFinalized));
+    }
+    state_transition(alloc, parent.state(), block, store.config())
+}
+
+/// Takes a valid block into the store, unless its root is no name for it alone.
+#[tactic(auto, unfolding(spec_fork_choice::specs::OnBlock::accept_block))]
+fn accept_unless(
+    alloc: Global,
+    store: &mut Store,
+    block: &BeaconBlock,
+    root: Root,
+    step: Step,
+) -> Result<BlockIn, StoreStop>
+    requires few { length store.old.blocks < 2 ^ 32 }
+    requires sound { IsSound step.state }
+    requires preset { step.state.preset ≡ store.old.config.preset }
+    ensures { Accepts result store.old store.new (accept_block store.old block.now root step (clash_of store.old.blocks root block.now.state_root block.now)) }
+{
+    match clash_of(store.blocks(), root, block) {
+        Some(kind) => Err(StoreStop::Clash(kind)),
+        None => Ok(accept(alloc, store, block, root, step)?),
+    }
+}
+
+impl Store {
+    /// Takes a block (fork-choice.md, `on_block`): it is checked, its parent's state is taken through it, and it is kept. The
+    /// signature isn't checked. The store is as before wherever the block isn't accepted.
+    ///
+    /// Refused, in this order: as `ParentUnknown`, `FutureBlock`, `BeforeFinalized`, `NotOnFinalized`, and as the state
+    /// transition is. Limited as that is too. A clash comes last, where the block's root or state root is zero or another block
+    /// of its root is kept.
+    #[tactic(auto, unfolding(spec_fork_choice::specs::OnBlock::on_block))]
+    pub fn on_block(
+        &mut self,
+        alloc: Global,
+        block: &SignedBeaconBlock,
+    ) -> Result<BlockIn, StoreStop>
+        requires few { length self.old.blocks < 2 ^ 32 - 1 }
+        ensures { Accepts result self.old self.new (on_block self.old block.now) }
+    {
+        let step = block_step(alloc, self, block)?;
+        accept_unless(alloc, self, &block.message, block.message.root(), step)
+    }
+}

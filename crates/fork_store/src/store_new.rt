@@ -1,0 +1,114 @@
+//! The store at genesis (fork-choice.md, "get_forkchoice_store").
+
+ghost use Rattle.std.specs.Prelude.{◌≡◌, None, IfOk};
+ghost use Rattle.bc_words.specs.Events.{StoreGivesBy};
+ghost use Rattle.beacon_body.specs.Containers.{block_codec, default_block_body};
+ghost use Rattle.spec_state.specs.Genesis.{genesis_fault};
+ghost use Rattle.spec_fork_choice.specs.GetForkchoiceStore.{genesis_block, get_forkchoice_store};
+ghost use Rattle.spec_fork_choice.specs.OnEvent.{genesis_clash, open_store};
+
+use crate::clash_of::clash_of;
+use crate::kept_block::{KeptBlock, KeptBlocks};
+use crate::latest_messages::LatestMessages;
+use crate::store::Store;
+use bc_preset::Config;
+use bc_words::{ClashKind, NoMemory, StoreStop};
+use beacon_body::{BeaconBlock, BeaconBlockBody};
+use beacon_state::State;
+use beacon_types::{Checkpoint, Eth1Data};
+use hash_tree::{Leaf, Root};
+use ssz_codec::{Items, LimitedList, VariableList};
+use std::alloc::Global;
+use transition::genesis_is_sound;
+
+/// The body whose fields are all zero or empty.
+fn default_block_body(alloc: Global) -> BeaconBlockBody
+    ensures { result ≡ default_block_body }
+{
+    BeaconBlockBody {
+        randao_reveal: [0; 96],
+        eth1_data: Eth1Data {
+            deposit_root: [0; 32],
+            deposit_count: 0,
+            block_hash: [0; 32],
+        },
+        graffiti: [0; 32],
+        proposer_slashings: LimitedList::from_items(Items::new(alloc)),
+        attester_slashings: VariableList::from_items(Items::new(alloc)),
+        attestations: VariableList::from_items(Items::new(alloc)),
+        deposits: LimitedList::from_items(Items::new(alloc)),
+        voluntary_exits: LimitedList::from_items(Items::new(alloc)),
+    }
+}
+
+/// The block of a genesis state (beacon-chain.md, "Genesis block").
+#[tactic(auto, unfolding(spec_fork_choice::specs::GetForkchoiceStore::genesis_block))]
+fn genesis_block(alloc: Global, genesis: &State) -> BeaconBlock
+    ensures { result ≡ genesis_block genesis.now }
+{
+    BeaconBlock {
+        slot: 0,
+        proposer_index: 0,
+        parent_root: [0; 32],
+        state_root: genesis.root(),
+        body: default_block_body(alloc),
+    }
+}
+
+/// How the genesis block clashes, if it does.
+#[tactic(auto, unfolding(spec_fork_choice::specs::OnEvent::genesis_clash, spec_fork_choice::specs::GetForkchoiceStore::genesis_block))]
+fn genesis_clash(
+    alloc: Global,
+    genesis: &State,
+    block: &BeaconBlock,
+    root: Root,
+) -> Option<ClashKind>
+    requires block { block.now ≡ genesis_block genesis.now }
+    requires root { root ≡ block_codec.hash_tree_root (genesis_block genesis.now) }
+    ensures { result ≡ genesis_clash genesis.now }
+{
+    let _state = genesis;
+    clash_of(&KeptBlocks::new(alloc), root, block)
+}
+
+/// The store whose one block is that of genesis.
+#[tactic(auto, unfolding(spec_fork_choice::specs::GetForkchoiceStore::get_forkchoice_store))]
+fn forkchoice_store(
+    alloc: Global,
+    config: &Config,
+    genesis: State,
+    block: BeaconBlock,
+    root: Root,
+) -> Result<Store, NoMemory>
+    requires genesis { genesis_fault genesis ≡ None }
+    requires preset { genesis.preset ≡ config.now.preset }
+    requires block { block ≡ genesis_block genesis }
+    requires root { root ≡ block_codec.hash_tree_root (genesis_block genesis) }
+    ensures { IfOk result (λ store. store ≡ get_forkchoice_store config.now genesis) }
+{
+    genesis_is_sound();
+    let time = genesis.genesis_time();
+    let mut blocks = KeptBlocks::new(alloc);
+    blocks.push(KeptBlock::new(root, block, genesis))?;
+    let checkpoint = Checkpoint { epoch: 0, root };
+    let messages = LatestMessages::new(alloc);
+    Ok(Store::at_genesis(*config, time, checkpoint, blocks, messages))
+}
+
+impl Store {
+    /// The store at genesis (fork-choice.md, `get_forkchoice_store`), of a genesis state that the genesis check accepts and
+    /// whose preset is the configuration's. It clashes where the genesis block's root or the state's is zero.
+    #[tactic(auto, unfolding(spec_fork_choice::specs::OnEvent::open_store, spec_fork_choice::specs::OnEvent::open_unless))]
+    pub fn new(alloc: Global, config: &Config, genesis: State) -> Result<Store, StoreStop>
+        requires genesis { genesis_fault genesis ≡ None }
+        requires preset { genesis.preset ≡ config.now.preset }
+        ensures { StoreGivesBy (λ store. store) result (open_store config.now genesis) }
+    {
+        let block = genesis_block(alloc, &genesis);
+        let root = block.root();
+        match genesis_clash(alloc, &genesis, &block, root) {
+            Some(kind) => Err(StoreStop::Clash(kind)),
+            None => Ok(forkchoice_store(alloc, config, genesis, block, root)?),
+        }
+    }
+}

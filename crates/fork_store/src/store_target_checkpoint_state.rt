@@ -1,0 +1,53 @@
+//! The state of a checkpoint (fork-choice.md, "store_target_checkpoint_state"), computed each time.
+
+ghost use Rattle.std.specs.Prelude.{◌≡◌, ◌<◌, ◌^◌, IfOk};
+ghost use Rattle.bc_words.specs.Outcome.{Gives};
+ghost use Rattle.spec_state.specs.Soundness.{IsSound};
+ghost use Rattle.spec_fork_choice.specs.Slots.{start_slot_of};
+ghost use Rattle.spec_fork_choice.specs.StoreTargetCheckpointState.{state_at, store_target_checkpoint_state};
+
+use crate::slots::start_slot;
+use crate::store::Store;
+use bc_words::{Refusal, Stop};
+use beacon_state::State;
+use beacon_types::Checkpoint;
+use std::alloc::Global;
+use transition::process_slots::process_slots;
+
+/// The state taken on to a slot, where it is earlier.
+#[tactic(auto, unfolding(spec_fork_choice::specs::StoreTargetCheckpointState::state_at))]
+fn state_at(alloc: Global, store: &Store, state: &State, slot: u64) -> Result<State, Stop>
+    requires sound { IsSound state.now }
+    requires preset { state.now.preset ≡ store.now.config.preset }
+    ensures exact { Gives result (state_at store.now state.now slot) }
+    ensures sound { IfOk result (λ taken. IsSound taken) }
+    ensures preset { IfOk result (λ taken. taken.preset ≡ store.now.config.preset) }
+{
+    if slot <= state.slot() {
+        return Ok(state.share()?);
+    }
+    let step = process_slots(alloc, state, slot, store.config())?;
+    Ok(step.state)
+}
+
+/// The state of a checkpoint whose epoch begins at a slot of 64 bits (fork-choice.md, `store_target_checkpoint_state`): that
+/// of its root, taken on to the first slot of its epoch.
+///
+/// Refused as `FcTargetUnknown` where the root isn't kept, and refused and limited as the slots are.
+#[tactic(auto, unfolding(spec_fork_choice::specs::StoreTargetCheckpointState::store_target_checkpoint_state, spec_fork_choice::specs::StoreTargetCheckpointState::kept_or))]
+pub(crate) fn store_target_checkpoint_state(
+    alloc: Global,
+    store: &Store,
+    target: Checkpoint,
+) -> Result<State, Stop>
+    requires low { start_slot_of store.now target < 2 ^ 64 }
+    ensures exact { Gives result (store_target_checkpoint_state store.now target) }
+    ensures sound { IfOk result (λ state. IsSound state) }
+    ensures preset { IfOk result (λ state. state.preset ≡ store.now.config.preset) }
+{
+    let Some(kept) = store.kept(target.root) else {
+        return Err(Stop::Refused(Refusal::FcTargetUnknown));
+    };
+    let slot = start_slot(store, target) as u64;
+    state_at(alloc, store, kept.state(), slot)
+}
