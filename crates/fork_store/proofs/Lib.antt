@@ -9,3 +9,5 @@ pub mod Head
 pub mod Messages
 pub mod Votes
 pub mod Accepted
+pub mod Steps
+pub mod Trees

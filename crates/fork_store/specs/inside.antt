@@ -8,3 +8,4 @@ pub mod Weights
 pub mod Head
 pub mod Messages
 pub mod Votes
+pub mod Trees

@@ -3,7 +3,8 @@
 
 ghost use Rattle.std.specs.Prelude.{◌≡◌, ◌<◌, ◌^◌};
 ghost use Rattle.bc_words.specs.Outcome.{Becomes};
-ghost use Rattle.spec_state.specs.Soundness.{IsSound};
+ghost use Rattle.fork_store.specs.inside.Stores.{IsKept};
+ghost use Rattle.fork_store.specs.inside.Trees.{HasParent};
 ghost use Rattle.spec_fork_choice.specs.Slots.{start_slot_of};
 ghost use Rattle.spec_fork_choice.specs.OnBlock.{is_before_attesting_interval, with_block, with_best_justified, with_better_justified, with_accepted};
 ghost use Rattle.fork_store.specs.inside.Accepted.{boosted, justified_by, finalized_by, settled};
@@ -107,7 +108,7 @@ fn settle(store: &mut Store, slot: u64, root: Root, justified: Checkpoint, final
 }
 
 /// Keeps the block with its state, unless it is kept already. Where memory is refused, the store is as before.
-#[tactic(auto, unfolding(spec_fork_choice::specs::OnBlock::with_block, spec_fork_choice::specs::Store::is_kept))]
+#[tactic(auto, using(crate::proofs::Trees::follows), unfolding(spec_fork_choice::specs::OnBlock::with_block, spec_fork_choice::specs::Store::is_kept))]
 fn keep_block(
     alloc: Global,
     store: &mut Store,
@@ -115,8 +116,9 @@ fn keep_block(
     root: Root,
     state: State,
 ) -> Result<(), NoMemory>
-    requires sound { IsSound state }
+    requires kept { IsKept (record { root = root; block = block.now; state = state }) }
     requires preset { state.preset ≡ store.old.config.preset }
+    requires parent { HasParent store.old.blocks block.now }
     ensures exact { Becomes result store.old store.new (with_block store.old (record { root = root; block = block.now; state = state })) }
     ensures config { store.new.config ≡ store.old.config }
 {
@@ -136,8 +138,9 @@ pub(crate) fn accept(
     root: Root,
     step: Step,
 ) -> Result<BlockIn, NoMemory>
-    requires sound { IsSound step.state }
+    requires kept { IsKept (record { root = root; block = block.now; state = step.state }) }
     requires preset { step.state.preset ≡ store.old.config.preset }
+    requires parent { HasParent store.old.blocks block.now }
     ensures { BecomesWith result store.old store.new (with_accepted store.old (record { root = root; block = block.now; state = step.state })) (record { root = root; state_root = block.now.state_root; entered = step.entered }) }
 {
     let Step { state, entered } = step;

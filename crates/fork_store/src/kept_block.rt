@@ -6,6 +6,7 @@ ghost use Rattle.std.specs.Prelude.{◌≡◌, ◌∷◌, ◌++◌, [], length, 
 ghost use Rattle.std.specs.Option.{option_map};
 ghost use Rattle.bc_words.specs.Outcome.{Becomes};
 ghost use Rattle.spec_state.specs.Soundness.{IsSound};
+ghost use Rattle.fork_store.specs.inside.Stores.{IsKept};
 ghost use Rattle.spec_fork_choice.specs.Store.{block_of};
 
 use bc_words::NoMemory;
@@ -25,19 +26,19 @@ pub struct KeptBlock {
 
 impl Model for KeptBlock {
     ghost use Rattle.spec_fork_choice.specs.Store.{KeptBlock as PlainBlock};
-    ghost use Rattle.spec_state.specs.Soundness.{IsSound};
+    ghost use Rattle.fork_store.specs.inside.Stores.{IsKept};
 
     ghost Value = { PlainBlock };
 
     ghost view = { λ kept. record { root = kept.root; block = kept.block; state = kept.state } };
 
-    ghost invariant = { λ kept. IsSound kept.state };
+    ghost invariant = { λ kept. IsKept (record { root = kept.root; block = kept.block; state = kept.state }) };
 }
 
 impl KeptBlock {
-    /// The block of this root with the sound state behind it.
+    /// The block of this root with the sound state behind it, whose latest block it is.
     pub(crate) fn new(root: Root, block: BeaconBlock, state: State) -> KeptBlock
-        requires sound { IsSound state }
+        requires { IsKept (record { root = root; block = block; state = state }) }
         ensures { result ≡ record { root = root; block = block; state = state } }
     {
         KeptBlock { root, block, state }
@@ -60,6 +61,7 @@ impl KeptBlock {
     /// The state behind it.
     pub fn state(&self) -> &State
         ensures same { result.now ≡ self.now.state }
+        ensures kept { IsKept self.now }
         ensures sound { IsSound self.now.state }
     {
         &self.state

@@ -2,7 +2,8 @@
 
 ghost use Rattle.std.specs.Prelude.{◌≡◌, ◌<◌, ◌-◌, ◌^◌, length, IfOk};
 ghost use Rattle.bc_words.specs.Outcome.{Gives};
-ghost use Rattle.spec_state.specs.Soundness.{IsSound};
+ghost use Rattle.fork_store.specs.inside.Stores.{IsRootOf, IsBehind};
+ghost use Rattle.fork_store.specs.inside.Trees.{HasParent};
 ghost use Rattle.spec_fork_choice.specs.Clash.{clash_of};
 ghost use Rattle.spec_fork_choice.specs.OnBlock.{block_step, accept_block, on_block};
 ghost use Rattle.fork_store.specs.inside.Accepts.{Accepts};
@@ -21,11 +22,12 @@ use transition::Step;
 use transition::state_transition::state_transition;
 
 /// The checks of a block, and the step of its parent's state by it.
-#[tactic(auto, unfolding(spec_fork_choice::specs::OnBlock::block_step, spec_fork_choice::specs::StoreTargetCheckpointState::kept_or))]
+#[tactic(auto, using(crate::proofs::Steps::state_root_is), unfolding(spec_fork_choice::specs::OnBlock::block_step, spec_fork_choice::specs::StoreTargetCheckpointState::kept_or))]
 fn block_step(alloc: Global, store: &Store, block: &SignedBeaconBlock) -> Result<Step, Stop>
     ensures step { Gives result (block_step store.now block.now) }
-    ensures sound { IfOk result (λ step. IsSound step.state) }
+    ensures behind { IfOk result (λ step. IsBehind block.now.message step.state) }
     ensures preset { IfOk result (λ step. step.state.preset ≡ store.now.config.preset) }
+    ensures parent { IfOk result (λ _. HasParent store.now.blocks block.now.message) }
 {
     let message = &block.message;
     let Some(parent) = store.kept(message.parent_root) else {
@@ -41,11 +43,12 @@ fn block_step(alloc: Global, store: &Store, block: &SignedBeaconBlock) -> Result
     if get_ancestor(store, message.parent_root, finalized_slot) != store.finalized().root {
         return Err(Stop::Refused(Refusal::NotOnFinalized));
     }
-    state_transition(alloc, parent.state(), block, store.config())
+    let step = state_transition(alloc, parent.state(), block, store.config())?;
+    Ok(step)
 }
 
 /// Takes a valid block into the store, unless its root is no name for it alone.
-#[tactic(auto, unfolding(spec_fork_choice::specs::OnBlock::accept_block))]
+#[tactic(auto, using(crate::proofs::Steps::is_kept), unfolding(spec_fork_choice::specs::OnBlock::accept_block))]
 fn accept_unless(
     alloc: Global,
     store: &mut Store,
@@ -54,7 +57,9 @@ fn accept_unless(
     step: Step,
 ) -> Result<BlockIn, StoreStop>
     requires few { length store.old.blocks < 2 ^ 32 }
-    requires sound { IsSound step.state }
+    requires root { IsRootOf root block.now }
+    requires behind { IsBehind block.now step.state }
+    requires parent { HasParent store.old.blocks block.now }
     requires preset { step.state.preset ≡ store.old.config.preset }
     ensures { Accepts result store.old store.new (accept_block store.old block.now root step (clash_of store.old.blocks root block.now.state_root block.now)) }
 {
@@ -71,7 +76,7 @@ impl Store {
     /// Refused, in this order: as `ParentUnknown`, `FutureBlock`, `BeforeFinalized`, `NotOnFinalized`, and as the state
     /// transition is. Limited as that is too. A clash comes last, where the block's root or state root is zero or another block
     /// of its root is kept.
-    #[tactic(auto, unfolding(spec_fork_choice::specs::OnBlock::on_block))]
+    #[tactic(auto, unfolding(spec_fork_choice::specs::OnBlock::on_block, crate::specs::inside::Stores::IsRootOf))]
     pub fn on_block(
         &mut self,
         alloc: Global,

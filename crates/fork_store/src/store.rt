@@ -8,6 +8,7 @@ ghost use Rattle.bc_words.specs.Outcome.{Becomes};
 ghost use Rattle.std.specs.List.{AllByRecursion};
 ghost use Rattle.spec_state.specs.Genesis.{zero_root};
 ghost use Rattle.fork_store.specs.inside.Stores.{HasPreset};
+ghost use Rattle.fork_store.specs.inside.Trees.{Follows, IsTree};
 ghost use Rattle.spec_fork_choice.specs.Store.{block_of};
 ghost use Rattle.spec_fork_choice.specs.Slots.{start_slot_of};
 ghost use Rattle.fork_store.specs.inside.Messages.{updated};
@@ -60,6 +61,7 @@ impl Store {
         messages: LatestMessages,
     ) -> Store
         requires presets { AllByRecursion (HasPreset config.preset) blocks }
+        requires tree { IsTree blocks }
         requires first { checkpoint.epoch ≡ 0 }
         ensures { result ≡ record { config = config; time = time; genesis_time = time; justified_checkpoint = checkpoint; finalized_checkpoint = checkpoint; best_justified_checkpoint = checkpoint; proposer_boost_root = zero_root; blocks = blocks; latest_messages = messages } }
     {
@@ -201,9 +203,9 @@ impl Store {
     }
 
     /// Keeps a block behind the others. Where memory is refused, the store is as before.
-    #[tactic(auto, using(beacon_state::proofs::Within::all_push))]
     pub(crate) fn keep(&mut self, kept: KeptBlock) -> Result<(), NoMemory>
         requires preset { kept.state.preset ≡ self.old.config.preset }
+        requires follows { Follows self.old.blocks kept }
         ensures { Becomes result self.old self.new (record self.old { blocks = self.old.blocks ++ kept ∷ [] }) }
     {
         self.blocks.push(kept)

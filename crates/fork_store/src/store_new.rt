@@ -2,9 +2,10 @@
 
 ghost use Rattle.std.specs.Prelude.{◌≡◌, None, IfOk};
 ghost use Rattle.bc_words.specs.Events.{StoreGivesBy};
-ghost use Rattle.beacon_body.specs.Containers.{block_codec, default_block_body};
+ghost use Rattle.beacon_body.specs.Containers.{default_block_body};
 ghost use Rattle.spec_state.specs.Genesis.{genesis_fault};
 ghost use Rattle.spec_fork_choice.specs.GetForkchoiceStore.{genesis_block, get_forkchoice_store};
+ghost use Rattle.fork_store.specs.inside.Stores.{IsRootOf};
 ghost use Rattle.spec_fork_choice.specs.OnEvent.{genesis_clash, open_store};
 
 use crate::clash_of::clash_of;
@@ -56,7 +57,7 @@ fn genesis_block(alloc: Global, genesis: &State) -> BeaconBlock
 }
 
 /// How the genesis block clashes, if it does.
-#[tactic(auto, unfolding(spec_fork_choice::specs::OnEvent::genesis_clash, spec_fork_choice::specs::GetForkchoiceStore::genesis_block))]
+#[tactic(auto, unfolding(spec_fork_choice::specs::OnEvent::genesis_clash, spec_fork_choice::specs::GetForkchoiceStore::genesis_block, crate::specs::inside::Stores::IsRootOf))]
 fn genesis_clash(
     alloc: Global,
     genesis: &State,
@@ -64,7 +65,7 @@ fn genesis_clash(
     root: Root,
 ) -> Option<ClashKind>
     requires block { block.now ≡ genesis_block genesis.now }
-    requires root { root ≡ block_codec.hash_tree_root (genesis_block genesis.now) }
+    requires root { IsRootOf root (genesis_block genesis.now) }
     ensures { result ≡ genesis_clash genesis.now }
 {
     let _state = genesis;
@@ -72,7 +73,7 @@ fn genesis_clash(
 }
 
 /// The store whose one block is that of genesis.
-#[tactic(auto, unfolding(spec_fork_choice::specs::GetForkchoiceStore::get_forkchoice_store))]
+#[tactic(auto, using(crate::proofs::Steps::genesis_is_kept, crate::proofs::Trees::tree_of_one), unfolding(spec_fork_choice::specs::GetForkchoiceStore::get_forkchoice_store, crate::specs::inside::Stores::IsRootOf))]
 fn forkchoice_store(
     alloc: Global,
     config: &Config,
@@ -83,7 +84,8 @@ fn forkchoice_store(
     requires genesis { genesis_fault genesis ≡ None }
     requires preset { genesis.preset ≡ config.now.preset }
     requires block { block ≡ genesis_block genesis }
-    requires root { root ≡ block_codec.hash_tree_root (genesis_block genesis) }
+    requires root { IsRootOf root (genesis_block genesis) }
+    requires none { genesis_clash genesis ≡ None }
     ensures { IfOk result (λ store. store ≡ get_forkchoice_store config.now genesis) }
 {
     genesis_is_sound();
@@ -98,7 +100,7 @@ fn forkchoice_store(
 impl Store {
     /// The store at genesis (fork-choice.md, `get_forkchoice_store`), of a genesis state that the genesis check accepts and
     /// whose preset is the configuration's. It clashes where the genesis block's root or the state's is zero.
-    #[tactic(auto, unfolding(spec_fork_choice::specs::OnEvent::open_store, spec_fork_choice::specs::OnEvent::open_unless))]
+    #[tactic(auto, unfolding(spec_fork_choice::specs::OnEvent::open_store, spec_fork_choice::specs::OnEvent::open_unless, crate::specs::inside::Stores::IsRootOf))]
     pub fn new(alloc: Global, config: &Config, genesis: State) -> Result<Store, StoreStop>
         requires genesis { genesis_fault genesis ≡ None }
         requires preset { genesis.preset ≡ config.now.preset }
