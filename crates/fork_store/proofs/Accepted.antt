@@ -1,7 +1,5 @@
 -- The way of an accepted block into the store, by its parts.
-use Rattle.std.proofs.Common.{◌≡◌, ℕ, List, refl}
-use Rattle.beacon_types.specs.declared.checkpoint.Checkpoint.{Checkpoint}
-use Rattle.spec_state.specs.declared.plain.PlainState.{PlainState}
+use Rattle.std.proofs.Common.{◌≡◌, refl}
 use Rattle.spec_fork_choice.specs.Store.{KeptBlock, Store}
 use Rattle.spec_fork_choice.specs.OnBlock.{with_block, with_boost, with_justified, with_finalized, with_accepted}
 use Rattle.fork_store.specs.inside.Accepted.{boosted, justified_by, finalized_by, settled}

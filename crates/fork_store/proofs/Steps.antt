@@ -1,15 +1,14 @@
 -- What the states of kept blocks have.
-use Rattle.std.proofs.Common.{◌≡◌, ◌∙◌, ◌==◌, ℕ, Bool, true, false, not, cond, List, [], Option, Some, None, if◌then◌else◌, refl, sym, ap, subst}
+use Rattle.std.proofs.Common.{◌≡◌, ◌==◌, ℕ, Bool, true, false, not, cond, List, [], Option, Some, None, if◌then◌else◌, refl, ap, subst}
 use Rattle.std.specs.Cmp.Lexicographic.{bytes_decides}
 use Rattle.std.proofs.lemmas.Bool.{and_parts, eqb-true}
 use Rattle.bc_words.specs.Outcome.{done}
 use Rattle.bc_words.specs.declared.refusal.Refusal.TheVariants.{StateRoot}
-use Rattle.bc_words.specs.declared.store_stop.ClashKind.{ClashKind}
 use Rattle.bc_preset.specs.declared.configuration.ConfigValues.{ConfigValues}
 use Rattle.beacon_types.specs.Equality.{same_root}
 use Rattle.beacon_types.specs.Containers.{block_header_codec}
 use Rattle.beacon_types.specs.declared.block_header.BeaconBlockHeader.{BeaconBlockHeader}
-use Rattle.beacon_body.specs.Containers.{block_codec, block_body_codec, default_block_body, empty_body_root}
+use Rattle.beacon_body.specs.Containers.{block_body_codec, default_block_body, empty_body_root}
 use Rattle.beacon_body.specs.declared.block.BeaconBlock.{BeaconBlock}
 use Rattle.beacon_body.specs.declared.signed_block.SignedBeaconBlock.{SignedBeaconBlock}
 use Rattle.spec_state.specs.declared.plain.PlainState.{PlainState}

@@ -9,3 +9,4 @@ pub mod Head
 pub mod Messages
 pub mod Votes
 pub mod Trees
+pub mod Genesis

@@ -7,7 +7,7 @@ ghost use Rattle.fork_store.specs.inside.Stores.{IsKept};
 ghost use Rattle.fork_store.specs.inside.Trees.{HasParent};
 ghost use Rattle.spec_fork_choice.specs.Slots.{start_slot_of};
 ghost use Rattle.spec_fork_choice.specs.OnBlock.{is_before_attesting_interval, with_block, with_best_justified, with_better_justified, with_accepted};
-ghost use Rattle.fork_store.specs.inside.Accepted.{boosted, justified_by, finalized_by, settled};
+ghost use Rattle.fork_store.specs.inside.Accepted.{boosted, justified_by, finalized_by, settled, kept_of, block_in_of};
 ghost use Rattle.fork_store.specs.inside.Accepts.{BecomesWith};
 
 use crate::block_in::BlockIn;
@@ -116,10 +116,10 @@ fn keep_block(
     root: Root,
     state: State,
 ) -> Result<(), NoMemory>
-    requires kept { IsKept (record { root = root; block = block.now; state = state }) }
+    requires kept { IsKept (kept_of root block.now state) }
     requires preset { state.preset ≡ store.old.config.preset }
     requires parent { HasParent store.old.blocks block.now }
-    ensures exact { Becomes result store.old store.new (with_block store.old (record { root = root; block = block.now; state = state })) }
+    ensures exact { Becomes result store.old store.new (with_block store.old (kept_of root block.now state)) }
     ensures config { store.new.config ≡ store.old.config }
 {
     if store.kept(root).is_some() {
@@ -138,10 +138,10 @@ pub(crate) fn accept(
     root: Root,
     step: Step,
 ) -> Result<BlockIn, NoMemory>
-    requires kept { IsKept (record { root = root; block = block.now; state = step.state }) }
+    requires kept { IsKept (kept_of root block.now step.state) }
     requires preset { step.state.preset ≡ store.old.config.preset }
     requires parent { HasParent store.old.blocks block.now }
-    ensures { BecomesWith result store.old store.new (with_accepted store.old (record { root = root; block = block.now; state = step.state })) (record { root = root; state_root = block.now.state_root; entered = step.entered }) }
+    ensures { BecomesWith result store.old store.new (with_accepted store.old (kept_of root block.now step.state)) (block_in_of root block.now step) }
 {
     let Step { state, entered } = step;
     let justified = state.current_justified_checkpoint();

@@ -6,12 +6,12 @@ ghost use Rattle.std.specs.Prelude.{◌≡◌, ◌∷◌, ◌++◌, ◌≤◌, �
 ghost use Rattle.std.specs.Option.{option_map};
 ghost use Rattle.bc_words.specs.Outcome.{Becomes};
 ghost use Rattle.std.specs.List.{AllByRecursion};
-ghost use Rattle.spec_state.specs.Genesis.{zero_root};
 ghost use Rattle.fork_store.specs.inside.Stores.{HasPreset};
 ghost use Rattle.fork_store.specs.inside.Trees.{Follows, IsTree};
 ghost use Rattle.spec_fork_choice.specs.Store.{block_of};
 ghost use Rattle.spec_fork_choice.specs.Slots.{start_slot_of};
 ghost use Rattle.fork_store.specs.inside.Messages.{updated};
+ghost use Rattle.fork_store.specs.inside.Genesis.{at_genesis};
 ghost use Rattle.fork_store.specs.inside.Roots.{roots_of};
 
 use crate::kept_block::{KeptBlock, KeptBlocks};
@@ -63,7 +63,7 @@ impl Store {
         requires presets { AllByRecursion (HasPreset config.preset) blocks }
         requires tree { IsTree blocks }
         requires first { checkpoint.epoch ≡ 0 }
-        ensures { result ≡ record { config = config; time = time; genesis_time = time; justified_checkpoint = checkpoint; finalized_checkpoint = checkpoint; best_justified_checkpoint = checkpoint; proposer_boost_root = zero_root; blocks = blocks; latest_messages = messages } }
+        ensures { result ≡ at_genesis config time checkpoint blocks messages }
     {
         Store {
             config,

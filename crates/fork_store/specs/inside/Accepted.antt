@@ -1,9 +1,12 @@
 -- The parts of an accepted block's way into the store, of a block's slot and root and of its state's checkpoints alone.
 use Rattle.std.specs.Prelude.{ℕ, List, ◌&&◌, ◌==◌, nat_lt, if◌then◌else◌}
 use Rattle.beacon_types.specs.declared.checkpoint.Checkpoint.{Checkpoint}
-use Rattle.spec_fork_choice.specs.Store.{Store}
+use Rattle.beacon_body.specs.declared.block.BeaconBlock.{BeaconBlock}
+use Rattle.spec_state.specs.declared.plain.PlainState.{PlainState}
+use Rattle.spec_transition.specs.ProcessSlots.{Stepped}
+use Rattle.spec_fork_choice.specs.Store.{KeptBlock, Store}
 use Rattle.spec_fork_choice.specs.Slots.{get_current_slot}
-use Rattle.spec_fork_choice.specs.OnBlock.{is_before_attesting_interval, with_better_justified}
+use Rattle.spec_fork_choice.specs.OnBlock.{BlockIn, is_before_attesting_interval, with_better_justified}
 
 unfoldable pub boosted : Store → ℕ → List ℕ → Store
 boosted store slot root =
@@ -18,3 +21,10 @@ finalized_by store finalized justified =
 
 unfoldable pub settled : Store → ℕ → List ℕ → Checkpoint → Checkpoint → Store
 settled store slot root justified finalized = finalized_by (justified_by (boosted store slot root) justified) finalized justified
+
+-- a block as it is kept, and what it leaves beside the store
+abbrev pub kept_of : List ℕ → BeaconBlock → PlainState → KeptBlock
+kept_of root block state = record { root = root; block = block; state = state }
+
+abbrev pub block_in_of : List ℕ → BeaconBlock → Stepped → BlockIn
+block_in_of root block step = record { root = root; state_root = block.state_root; entered = step.entered }

@@ -1,5 +1,5 @@
 -- The latest votes, changed one validator after another.
-use Rattle.std.specs.Prelude.{◌≡◌, ℕ, ◌<◌, Bool, true, List, [], ◌∷◌, length, Option, None, nat_lt, slice_index, slice_index_or, if◌then◌else◌}
+use Rattle.std.specs.Prelude.{ℕ, ◌<◌, Bool, true, List, [], ◌∷◌, length, Option, None, nat_lt, slice_index, slice_index_or, if◌then◌else◌}
 use Rattle.std.specs.Option.{option_map_or}
 use Rattle.spec_fork_choice.specs.Store.{LatestMessage}
 use Rattle.spec_fork_choice.specs.UpdateLatestMessages.{with_message}
