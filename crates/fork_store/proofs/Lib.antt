@@ -8,6 +8,7 @@ pub mod Weights
 pub mod Head
 pub mod Messages
 pub mod Votes
-pub mod Accepted
+pub mod AcceptedBlocks
 pub mod Steps
 pub mod Trees
+pub mod Events

@@ -10,3 +10,4 @@ pub mod Messages
 pub mod Votes
 pub mod Trees
 pub mod Genesis
+pub mod Events

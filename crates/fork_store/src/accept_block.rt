@@ -130,7 +130,7 @@ fn keep_block(
 }
 
 /// Takes a valid block into the store. Where memory is refused, the store is as before.
-#[tactic(auto, using(crate::proofs::Accepted::settled_is_accepted, crate::proofs::Numbers::justified_is_low))]
+#[tactic(auto, using(crate::proofs::AcceptedBlocks::settled_is_accepted, crate::proofs::Numbers::justified_is_low))]
 pub(crate) fn accept(
     alloc: Global,
     store: &mut Store,

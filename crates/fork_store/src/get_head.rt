@@ -11,11 +11,14 @@ ghost use Rattle.fork_store.specs.inside.Head.{root_goes_before, better_root, be
 ghost use Rattle.fork_store.specs.inside.Viable.{flagged};
 ghost use Rattle.fork_store.specs.inside.Weights.{justified_state};
 
-use crate::filter_block_tree::flag_at;
+use crate::filter_block_tree::{flag_at, get_filtered_block_tree};
 use crate::get_latest_attesting_balance::get_latest_attesting_balance;
 use crate::store::Store;
+use crate::store_target_checkpoint_state::store_target_checkpoint_state;
+use bc_words::{NoMemory, Stop};
 use beacon_state::State;
 use hash_tree::Root;
+use std::alloc::Global;
 
 /// Whether a root is greater than another one, byte by byte from the first.
 #[tactic(auto, unfolding(spec_fork_choice::specs::GetHead::is_greater_root))]
@@ -104,4 +107,29 @@ fn walk(store: &Store, justified: Option<&State>, flags: &[bool]) -> Root
         }
     }
     root
+}
+
+/// The state of the justified checkpoint, where it is there.
+#[tactic(auto, unfolding(crate::specs::inside::Weights::justified_state))]
+fn justified_state(alloc: Global, store: &Store) -> Result<Option<State>, NoMemory>
+    ensures { IfOk result (λ state. state ≡ justified_state store.now) }
+{
+    match store_target_checkpoint_state(alloc, store, store.justified()) {
+        Ok(state) => Ok(Some(state)),
+        Err(Stop::NoMemory) => Err(NoMemory),
+        Err(_) => Ok(None),
+    }
+}
+
+impl Store {
+    /// The root of the head: from the justified block go to the viable child of the greatest weight, of the greatest root among
+    /// those of one weight, as long as there is one (fork-choice.md, `get_head`).
+    #[tactic(auto, unfolding(spec_fork_choice::specs::GetHead::get_head))]
+    pub fn head(&self, alloc: Global) -> Result<Root, NoMemory>
+        ensures { IfOk result (λ root. root ≡ get_head self.now) }
+    {
+        let flags = get_filtered_block_tree(alloc, self)?;
+        let justified = justified_state(alloc, self)?;
+        Ok(walk(self, justified.as_ref(), &flags))
+    }
 }

@@ -1,6 +1,6 @@
 use Rattle.std.proofs.Common.{◌∙◌, refl}
 use Rattle.spec_fork_choice.specs.Store.{KeptBlock}
-use Rattle.fork_store.proofs.Accepted.{settled_is_accepted}
+use Rattle.fork_store.proofs.AcceptedBlocks.{settled_is_accepted}
 use Rattle.fork_store.proofs.accept_block.accept.Goals as goal
 
 pub returns : goal.returns

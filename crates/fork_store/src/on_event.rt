@@ -1,0 +1,124 @@
+//! One event of a record (fork-choice.md, "Handlers").
+//!
+//! The payload's bytes come from a record; the store changes, and what an accepted block leaves goes to the event's line.
+
+ghost use Rattle.std.specs.Prelude.{◌≡◌, ◌≤◌, ◌<◌, ◌-◌, ◌^◌, length};
+ghost use Rattle.beacon_body.specs.Containers.{signed_block_codec, attestation_codec};
+ghost use Rattle.spec_fork_choice.specs.OnTick.{on_tick};
+ghost use Rattle.spec_fork_choice.specs.OnAttestation.{on_attestation};
+ghost use Rattle.spec_fork_choice.specs.OnEvent.{without_block, handle_tick, handle_block, handle_attestation, on_event};
+ghost use Rattle.fork_store.specs.inside.Events.{AcceptsBy, accepted_of};
+
+use crate::block_in::BlockIn;
+use crate::store::Store;
+use bc_words::{Refusal, StoreStop};
+use beacon_body::{Attestation, SignedBeaconBlock};
+use ssz_codec::{Ssz, SszFault};
+use std::alloc::Global;
+
+/// What an accepted event gives beside the new store.
+#[derive(Drop)]
+pub enum Accepted {
+    /// What a block leaves.
+    Block(BlockIn),
+    /// The event is no block.
+    Other,
+}
+
+/// Takes the time of a tick.
+#[tactic(auto, using(crate::proofs::Events::ticking))]
+fn take_tick(store: &mut Store, time: u64) -> Result<Accepted, StoreStop>
+    ensures { AcceptsBy accepted_of result store.old store.new (without_block (on_tick store.old time)) }
+{
+    match store.on_tick(time) {
+        Ok(()) => Ok(Accepted::Other),
+        Err(why) => Err(StoreStop::Refused(why)),
+    }
+}
+
+/// Takes a tick, whose payload is its time in 8 bytes, low byte first.
+#[tactic(auto, unfolding(spec_fork_choice::specs::OnEvent::handle_tick))]
+fn handle_tick(store: &mut Store, payload: &[u8]) -> Result<Accepted, StoreStop>
+    ensures { AcceptsBy accepted_of result store.old store.new (handle_tick store.old payload.now) }
+{
+    match payload {
+        [a, b, c, d, e, f, g, h] => {
+            take_tick(store, u64::from_le_bytes([*a, *b, *c, *d, *e, *f, *g, *h]))
+        }
+        _ => Err(StoreStop::Refused(Refusal::Malformed)),
+    }
+}
+
+/// Takes a signed block, whose payload is its writing.
+#[tactic(auto, unfolding(spec_fork_choice::specs::OnEvent::handle_block), using(crate::proofs::Events::blocks))]
+fn handle_block(alloc: Global, store: &mut Store, payload: &[u8]) -> Result<Accepted, StoreStop>
+    requires few { length store.old.blocks < 2 ^ 32 - 1 }
+    ensures { AcceptsBy accepted_of result store.old store.new (handle_block store.old (signed_block_codec.deserialize payload.now)) }
+{
+    match SignedBeaconBlock::read(alloc, payload) {
+        Ok(block) => Ok(Accepted::Block(store.on_block(alloc, &block)?)),
+        Err(SszFault::NotAWriting) => Err(StoreStop::Refused(Refusal::Malformed)),
+        Err(SszFault::NoMemory) => Err(StoreStop::NoMemory),
+    }
+}
+
+/// Takes an attestation from the wire or from a block.
+#[tactic(auto, using(crate::proofs::Events::voting))]
+fn take_attestation(
+    alloc: Global,
+    store: &mut Store,
+    attestation: &Attestation,
+    from_block: bool,
+) -> Result<Accepted, StoreStop>
+    ensures { AcceptsBy accepted_of result store.old store.new (without_block (on_attestation store.old attestation.now from_block)) }
+{
+    match store.on_attestation(alloc, attestation, from_block) {
+        Ok(()) => Ok(Accepted::Other),
+        Err(stop) => Err(stop),
+    }
+}
+
+/// Takes an attestation from the wire or from a block, whose payload is its writing.
+#[tactic(auto, unfolding(spec_fork_choice::specs::OnEvent::handle_attestation))]
+fn handle_attestation(
+    alloc: Global,
+    store: &mut Store,
+    payload: &[u8],
+    from_block: bool,
+) -> Result<Accepted, StoreStop>
+    ensures { AcceptsBy accepted_of result store.old store.new (handle_attestation store.old from_block (attestation_codec.deserialize payload.now)) }
+{
+    match Attestation::read(alloc, payload) {
+        Ok(attestation) => take_attestation(alloc, store, &attestation, from_block),
+        Err(SszFault::NotAWriting) => Err(StoreStop::Refused(Refusal::Malformed)),
+        Err(SszFault::NoMemory) => Err(StoreStop::NoMemory),
+    }
+}
+
+impl Store {
+    /// Takes an event by its kind: 1 a tick, 2 a block, 3 an attestation from the wire, 4 an attestation from a block. The
+    /// block of an accepted block event is answered, and nothing for another kind.
+    ///
+    /// Refused as `Malformed` where the payload isn't the writing of such an event, and refused, limited and clashing as its
+    /// handler is. After a stop the store is as before.
+    #[tactic(auto, unfolding(spec_fork_choice::specs::OnEvent::on_event))]
+    pub fn on_event(
+        &mut self,
+        alloc: Global,
+        kind: u8,
+        payload: &[u8],
+    ) -> Result<Accepted, StoreStop>
+        requires first { 1 ≤ kind }
+        requires last { kind ≤ 4 }
+        requires few { length self.old.blocks < 2 ^ 32 - 1 }
+        ensures { AcceptsBy accepted_of result self.old self.new (on_event self.old kind payload.now) }
+    {
+        if kind == 1 {
+            handle_tick(self, payload)
+        } else if kind == 2 {
+            handle_block(alloc, self, payload)
+        } else {
+            handle_attestation(alloc, self, payload, kind == 4)
+        }
+    }
+}
