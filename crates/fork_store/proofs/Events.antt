@@ -1,7 +1,7 @@
 -- What a handler answers is what the event's handler answers.
 use Rattle.std.proofs.Common.{◌≡◌, ap}
 use Rattle.bc_words.specs.Outcome.{Outcome, done, refused, limited}
-use Rattle.bc_words.specs.Events.{EventOutcome, accepted, event_refused, event_limited, event_clashes, then_event, StoreStops}
+use Rattle.bc_words.specs.Events.{EventOutcome, accepted, event_refused, event_limited, then_event, StoreStops}
 use Rattle.bc_words.specs.declared.refusal.Refusal.{Refusal}
 use Rattle.bc_words.specs.declared.store_stop.StoreStop.{StoreStop}
 use Rattle.bc_words.specs.declared.store_stop.StoreStop.TheVariants as stores
