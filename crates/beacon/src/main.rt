@@ -1,8 +1,10 @@
 //! The program `beacon`: it runs its words over the disk and standard output, and ends with the status's number.
 #![tactic(auto)]
 
+use beacon_node::{Progress, run};
 use std::process::ExitCode;
 
 fn main(rt: HostRuntime) -> ExitCode {
-    ExitCode::from(beacon_node::run(&rt))
+    let progress = Progress::beside(&rt.stdout(), &rt.stderr());
+    ExitCode::from(run(&rt, progress))
 }

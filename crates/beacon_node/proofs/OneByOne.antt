@@ -5,8 +5,7 @@ use Rattle.bc_outside.specs.Calls.{WritesAll}
 use Rattle.bc_outside.specs.declared.trouble.Trouble.{Trouble}
 use Rattle.bc_outside.specs.declared.trouble.Trouble.TheVariants as troubles
 use Rattle.record_file.proofs.Supplying.{from_none, from_then}
-use Rattle.bc_words.specs.Outcome.{Outcome}
-use Rattle.bc_words.specs.declared.refusal.Refusal.{Refusal}
+use Rattle.bc_words.specs.Events.{EventOutcome, accepted, event_refused, event_limited, event_clashes}
 use Rattle.record_file.specs.Record as record_file
 use Rattle.record_file.specs.Record.{Events, with_event, fault_event}
 use Rattle.record_file.specs.Frames.{CanFollow}
@@ -14,15 +13,16 @@ use Rattle.record_file.specs.Sources.{Source, NextOf}
 use Rattle.record_file.specs.declared.event.Event.{Event}
 use Rattle.record_file.specs.declared.fault.FrameStop.{FrameStop}
 use Rattle.record_file.specs.declared.fault.FrameStop.TheVariants as stops
-use Rattle.spec_replay.specs.Lines.{tick_line}
-use Rattle.spec_replay.specs.Ticks.{Store, store_after, handle_tick}
-use Rattle.spec_replay.specs.Run.{End, done, no_command, over, after_lines, replay_events, record_end, with_events}
+use Rattle.spec_fork_choice.specs.Store.{Store}
+use Rattle.spec_fork_choice.specs.OnEvent.{Accepted, on_event}
+use Rattle.bc_words.specs.declared.stop.Limit.{Limit}
+use Rattle.bc_words.specs.declared.store_stop.ClashKind.{ClashKind}
+use Rattle.spec_replay.specs.Run.{Run, End, done, no_command, limited, clash, over, after_lines, event_then, replay_events, record_end, with_events}
 use Rattle.beacon_node.specs.declared.status.Status.{Status}
 use Rattle.beacon_node.specs.declared.status.Status.TheVariants as statuses
-use Rattle.beacon_node.specs.Answers.{breaks_off, lags}
+use Rattle.beacon_node.specs.Answers.{breaks_off, lags, end_of}
 use Rattle.beacon_node.specs.inside.Statuses.{no_frame, unwritten}
-use Rattle.beacon_node.specs.inside.Progress.{rest_of, Progress, EventsOver}
-use Rattle.beacon_node.specs.inside.Stores.{Handles, told_outcome}
+use Rattle.beacon_node.specs.inside.Progress.{rest_of, Progress, EventsOver, HasLine, EndsAt, outcome_of}
 use Rattle.beacon_node.proofs.Reaching.{reaches_none, reaches_front, no_lines, lines_behind, lines_front}
 
 -- at the beginning nothing was done
@@ -87,55 +87,91 @@ over_stop stops.NoMemory store place place_then told told_then written h = recor
   pace = no_lines true _ written (reaches_front 0 _ (omega arith));
 }
 
--- what an answer of the store tells is the outcome of the handler
-handled : {U : Type 0} (answer : Result U Refusal) (old new : Store) (outcome : Outcome Store) → Handles answer old new outcome → (told_outcome answer new ≡ outcome) × (store_after old outcome ≡ new)
-handled (Ok u) old new outcome h = (sym h, ap (store_after old) h)
-handled (Err refusal) old new outcome h = (sym h.1, ap (store_after old) h.1 ∙ sym h.0)
-
 -- the run of an event and of those behind it
-event_run : {U : Type 0} (number : ℕ) (old new : Store) (event : Event) (rest : Events) (answer : Result U Refusal) → Handles answer old new (handle_tick old event.payload)
-    → with_events number old (with_event event rest) ≡ after_lines (tick_line number (told_outcome answer new) new) (with_events (number + 1) new rest)
+event_run : (number : ℕ) (old : Store) (event : Event) (rest : Events)
+    → with_events number old (with_event event rest) ≡ event_then number event.kind old (outcome_of old event) (λ after. with_events (number + 1) after rest)
 unfolding replay_events
-event_run number old new event rest answer h =
-    let k = handled answer old new (handle_tick old event.payload) h in
-    rw (k.0, ← k.1) refl
+event_run number old event rest = refl
 
-module _ {U : Type 0} (event : Event) (place place_then : Source) (old new : Store) (answer : Result U Refusal) (told told_then : ShelfTold)
-    (next : NextOf (Ok (Some event)) place place_then told told_then) (counted : place_then.events ≡ place.events + 1) (handles : Handles answer old new (handle_tick old event.payload)) where
-  comes_behind : (behind : List ℕ) → rest_of old place (next.bytes ++ behind) ≡ after_lines (tick_line place_then.events (told_outcome answer new) new) (rest_of new place_then behind)
-  comes_behind behind = ap (with_events (place.events + 1) old) (next.supplies.1 behind) ∙ rw (← counted) (event_run place_then.events old new event (place_then.coming behind) answer handles)
+module _ (event : Event) (place place_then : Source) (old : Store) (told told_then : ShelfTold)
+    (next : NextOf (Ok (Some event)) place place_then told told_then) (counted : place_then.events ≡ place.events + 1) where
+  comes : (behind : List ℕ) → rest_of old place (next.bytes ++ behind) ≡ event_then place_then.events event.kind old (outcome_of old event) (λ after. rest_of after place_then behind)
+  comes behind = ap (with_events (place.events + 1) old) (next.supplies.1 behind) ∙ rw (← counted) (event_run place_then.events old event (place_then.coming behind))
 
-  -- the line was written
-  pub line_progress : (written written_then : List ℕ) → place_then.file ≡ place.file → WritesAll {V = Unit {0}} (tick_line place_then.events (told_outcome answer new) new) (Ok tt) (record { taken = written; faults = 0; reliable = true }) (record { taken = written_then; faults = 0; reliable = true })
-      → Progress old place told written new place_then told_then written_then
-  line_progress written written_then file wrote = record {
-    bytes = next.bytes;
-    taken = rw next.supplies.0 at next.taken;
-    file = file;
-    lines = tick_line place_then.events (told_outcome answer new) new;
-    wrote = wrote;
-    comes = comes_behind;
-  }
+  module _ (new : Store) (line : List ℕ) (has : HasLine place_then.events event old new line) where
+    comes_behind : (behind : List ℕ) → rest_of old place (next.bytes ++ behind) ≡ after_lines line (rest_of new place_then behind)
+    comes_behind behind = comes behind ∙ has (λ after. rest_of after place_then behind)
 
-  -- a front of the line was written
-  front_over : (status : Status) (n : ℕ) (written written_then : List ℕ) → breaks_off status ≡ true → lags status ≡ true → n ≤ length (tick_line place_then.events (told_outcome answer new) new) → written_then ≡ written ++ take n (tick_line place_then.events (told_outcome answer new) new)
-      → EventsOver status old place told told_then written written_then
-  front_over status n written written_then off late within wrote = record {
+    -- the line was written
+    pub line_progress : (written written_then : List ℕ) → place_then.file ≡ place.file → WritesAll {V = Unit {0}} line (Ok tt) (record { taken = written; faults = 0; reliable = true }) (record { taken = written_then; faults = 0; reliable = true })
+        → Progress old place told written new place_then told_then written_then
+    line_progress written written_then file wrote = record {
+      bytes = next.bytes;
+      taken = rw next.supplies.0 at next.taken;
+      file = file;
+      lines = line;
+      wrote = wrote;
+      comes = comes_behind;
+    }
+
+    -- a front of the line was written
+    front_over : (status : Status) (n : ℕ) (written written_then : List ℕ) → breaks_off status ≡ true → lags status ≡ true → n ≤ length line → written_then ≡ written ++ take n line
+        → EventsOver status old place told told_then written written_then
+    front_over status n written written_then off late within wrote = record {
+      bytes = next.bytes;
+      met = false;
+      taken = rw next.supplies.0 at next.taken;
+      ended = λ behind can. record {
+        ends = λ never. absurd (let no : true ≡ false = sym off ∙ never in cc);
+        lines = rw (off, comes_behind behind) (lines_front line _ n within wrote);
+      };
+      pace = rw (late, sym (append-nil next.bytes), comes_behind []) (lines_front line _ n within wrote);
+    }
+
+    -- the line could not be written
+    pub line_over : (trouble : Trouble) (written written_then : List ℕ) → WritesAll {V = Unit {0}} line (Err trouble) (record { taken = written; faults = 0; reliable = true }) (record { taken = written_then; faults = 0; reliable = true })
+        → EventsOver (unwritten trouble) old place told told_then written written_then
+    line_over troubles.Failed written written_then wrote = front_over statuses.WriteFault wrote.0 written written_then refl refl wrote.1 wrote.2
+    line_over troubles.NoMemory written written_then wrote = front_over statuses.NoMemory wrote.0 written written_then refl refl wrote.1 wrote.2
+
+  -- the run is over at the event, before its line
+  at_event : (status : Status) (end : End) (written : List ℕ) → ((rest : Store → Run) → event_then place_then.events event.kind old (outcome_of old event) rest ≡ over end) → Some end ≡ end_of status → breaks_off status ≡ false → lags status ≡ false
+      → EventsOver status old place told told_then written written
+  at_event status end written is ends whole late = record {
     bytes = next.bytes;
     met = false;
     taken = rw next.supplies.0 at next.taken;
-    ended = λ behind can. record {
-      ends = λ never. absurd (let no : true ≡ false = sym off ∙ never in cc);
-      lines = rw (off, comes_behind behind) (lines_front (tick_line place_then.events (told_outcome answer new) new) _ n within wrote);
-    };
-    pace = rw (late, sym (append-nil next.bytes), comes_behind []) (lines_front (tick_line place_then.events (told_outcome answer new) new) _ n within wrote);
+    ended = λ behind can. rw (comes behind ∙ is (λ after. rest_of after place_then behind)) (record { ends = λ _. ends; lines = no_lines _ [] written (reaches_none _) });
+    pace = rw (sym (append-nil next.bytes), comes [] ∙ is (λ after. rest_of after place_then [])) (no_lines _ [] written (reaches_none _));
   }
 
-  -- the line could not be written
-  pub line_over : (trouble : Trouble) (written written_then : List ℕ) → WritesAll {V = Unit {0}} (tick_line place_then.events (told_outcome answer new) new) (Err trouble) (record { taken = written; faults = 0; reliable = true }) (record { taken = written_then; faults = 0; reliable = true })
-      → EventsOver (unwritten trouble) old place told told_then written written_then
-  line_over troubles.Failed written written_then wrote = front_over statuses.WriteFault wrote.0 written written_then refl refl wrote.1 wrote.2
-  line_over troubles.NoMemory written written_then wrote = front_over statuses.NoMemory wrote.0 written written_then refl refl wrote.1 wrote.2
+  limited_then : (number kind : ℕ) (outcome : EventOutcome (Store × Accepted)) (bound : Limit) → outcome ≡ event_limited bound → (rest : Store → Run) → event_then number kind old outcome rest ≡ over (limited 0 number bound)
+  unfolding event_then
+  limited_then number kind outcome bound is rest = rw is refl
+
+  clashing_then : (number kind : ℕ) (outcome : EventOutcome (Store × Accepted)) (clashing : ClashKind) → outcome ≡ event_clashes clashing → (rest : Store → Run) → event_then number kind old outcome rest ≡ over (clash 0 number clashing 0)
+  unfolding event_then
+  clashing_then number kind outcome clashing is rest = rw is refl
+
+  pub over_at : (status : Status) (written : List ℕ) → EndsAt status place_then.events (outcome_of old event) → EventsOver status old place told told_then written written
+  over_at (statuses.Limit which at bound) written h =
+      at_event (statuses.Limit which at bound) (limited 0 place_then.events bound) written (limited_then place_then.events event.kind (outcome_of old event) bound h.2) (rw (h.0, h.1) refl) refl refl
+  over_at (statuses.Clash which at kind kept_which) written h =
+      at_event (statuses.Clash which at kind kept_which) (clash 0 place_then.events kind 0) written (clashing_then place_then.events event.kind (outcome_of old event) kind h.3) (rw (h.0, h.1, h.2) refl) refl refl
+  over_at statuses.NoMemory written h = record {
+    bytes = next.bytes;
+    met = false;
+    taken = rw next.supplies.0 at next.taken;
+    ended = λ behind can. record { ends = λ never. cc; lines = no_lines true _ written (reaches_front 0 _ (omega arith)) };
+    pace = no_lines true _ written (reaches_front 0 _ (omega arith));
+  }
+  over_at statuses.Done written h = absurd h
+  over_at statuses.Words written h = absurd h
+  over_at (statuses.Config fault) written h = absurd h
+  over_at (statuses.Genesis part) written h = absurd h
+  over_at (statuses.Record which at fault) written h = absurd h
+  over_at statuses.ReadFault written h = absurd h
+  over_at statuses.WriteFault written h = absurd h
 
 -- one step more
 pub progress_then : {store mid next : Store} {place place_mid place_next : Source} {s t u : ShelfTold} {w x y : List ℕ} → Progress store place s w mid place_mid t x → Progress mid place_mid t x next place_next u y → Progress store place s w next place_next u y
@@ -163,20 +199,36 @@ over_then {status} {store} {mid} {place} {place_mid} {s} {t} {u} {w} {x} {y} h k
 }
 
 -- events ask for no file
+event_then-files : (number kind : ℕ) (old : Store) (outcome : EventOutcome (Store × Accepted)) (rest : Store → Run) → ((after : Store) → (rest after).files ≡ 0) → (event_then number kind old outcome rest).files ≡ 0
+unfolding event_then
+event_then-files number kind old (accepted new) rest none = none new.0
+event_then-files number kind old (event_refused why) rest none = none old
+event_then-files number kind old (event_limited bound) rest none = refl
+event_then-files number kind old (event_clashes clashing) rest none = refl
+
 replay_events-files : (number : ℕ) (store : Store) (events : List Event) (end : End) → (replay_events number store events end).files ≡ 0
 unfolding replay_events
 replay_events-files number store [] end = refl
-replay_events-files number store (event ∷ events) end = replay_events-files (number + 1) (store_after store (handle_tick store event.payload)) events end
+replay_events-files number store (event ∷ events) end =
+    event_then-files number event.kind store (outcome_of store event) (λ after. replay_events (number + 1) after events end) (λ after. replay_events-files (number + 1) after events end)
 
 pub with_events-files : (number : ℕ) (store : Store) (rest : Events) → (with_events number store rest).files ≡ 0
 with_events-files number store rest = replay_events-files number store rest.events (record_end 0 rest.end)
 
 -- a run of events doesn't end as one of words that are no command
+event_then-command : (number kind : ℕ) (old : Store) (outcome : EventOutcome (Store × Accepted)) (rest : Store → Run) → ((after : Store) → (rest after).end ≡ Some no_command → ⊥) → (event_then number kind old outcome rest).end ≡ Some no_command → ⊥
+unfolding event_then
+event_then-command number kind old (accepted new) rest never e = never new.0 e
+event_then-command number kind old (event_refused why) rest never e = never old e
+event_then-command number kind old (event_limited bound) rest never e = cc
+event_then-command number kind old (event_clashes clashing) rest never e = cc
+
 never_no_command : (number : ℕ) (store : Store) (events : List Event) (end : record_file.End) → (replay_events number store events (record_end 0 end)).end ≡ Some no_command → ⊥
 unfolding replay_events
 never_no_command number store [] record_file.done e = cc
 never_no_command number store [] (record_file.fault event reason) e = cc
-never_no_command number store (event ∷ events) end e = never_no_command (number + 1) (store_after store (handle_tick store event.payload)) events end e
+never_no_command number store (event ∷ events) end e =
+    event_then-command number event.kind store (outcome_of store event) (λ after. replay_events (number + 1) after events (record_end 0 end)) (λ after. never_no_command (number + 1) after events end) e
 
 pub over_command : (status : Status) (store : Store) (place : Source) (told told_then : ShelfTold) (written written_then : List ℕ) → EventsOver status store place told told_then written written_then → status ≢ statuses.Words
 over_command status store place told told_then written written_then h = λ is.

@@ -1,5 +1,5 @@
 -- The configuration's file, the genesis file and the record as steps of a run.
-use Rattle.std.proofs.Common.{◌≡◌, ℕ, false, List, [], ◌∷◌, ◌++◌, take, Ok, Err, refl, sym, ap, ◌∙◌, arith, append-nil}
+use Rattle.std.proofs.Common.{◌≡◌, ℕ, true, false, List, [], ◌∷◌, ◌++◌, take, Option, Some, None, Ok, Err, refl, sym, ap, ◌∙◌, arith, append-nil}
 use Rattle.bc_outside.specs.Told.{ShelfTold}
 use Rattle.bc_outside.specs.Calls.{Opened}
 use Rattle.bc_outside.specs.declared.trouble.Trouble.{Trouble}
@@ -10,23 +10,30 @@ use Rattle.bc_preset.specs.declared.faults.ConfigFault.{ConfigFault}
 use Rattle.record_file.specs.Record.{events_of}
 use Rattle.record_file.specs.Frames.{unread_file, events_at}
 use Rattle.record_file.specs.Sources.{record_source}
-use Rattle.spec_state.specs.Genesis.{genesis_of, header_root_of}
-use Rattle.spec_replay.specs.Ticks.{Store, store_at}
-use Rattle.spec_replay.specs.Run.{with_files, with_config, with_genesis, with_state, with_record, with_events}
+use Rattle.bc_words.specs.Events.{accepted, event_clashes}
+use Rattle.bc_words.specs.declared.store_stop.ClashKind.{ClashKind}
+use Rattle.bc_words.specs.declared.store_stop.StoreStop.{StoreStop}
+use Rattle.bc_words.specs.declared.store_stop.StoreStop.TheVariants as stores
+use Rattle.spec_state.specs.Genesis.{genesis_of}
+use Rattle.spec_state.specs.declared.plain.PlainState.{PlainState}
+use Rattle.spec_fork_choice.specs.Store.{Store}
+use Rattle.spec_fork_choice.specs.GetForkchoiceStore.{get_forkchoice_store}
+use Rattle.spec_fork_choice.specs.OnEvent.{genesis_clash, open_unless, open_store}
+use Rattle.fork_store.specs.inside.Handled.{Opens}
+use Rattle.spec_replay.specs.Run.{with_files, with_config, with_genesis, with_state, with_store, with_record, with_events}
 use Rattle.spec_replay.specs.Words.{ReplayFiles}
 use Rattle.beacon_node.specs.declared.status.Status.{Status}
 use Rattle.beacon_node.specs.declared.status.Status.TheVariants as statuses
-use Rattle.beacon_node.specs.declared.genesis.Genesis.{Genesis}
 use Rattle.beacon_node.specs.declared.genesis.GenesisStop.{GenesisStop}
 use Rattle.beacon_node.specs.declared.genesis.GenesisStop.TheVariants as stops
 use Rattle.beacon_node.specs.Answers.{Replayed, breaks_off, taken_of}
 use Rattle.beacon_node.specs.inside.Statuses.{unread}
-use Rattle.beacon_node.specs.inside.GenesisAnswers.{GivesGenesis, no_genesis}
+use Rattle.beacon_node.specs.inside.GenesisAnswers.{GivesGenesis, no_genesis, no_store, run_from}
 use Rattle.beacon_node.specs.inside.Reading.{ReadOf, Unread}
 use Rattle.beacon_node.specs.inside.Progress.{EventsOver}
-use Rattle.beacon_node.proofs.Reaching.{reaches_none, reaches_front, reaches_all}
+use Rattle.beacon_node.proofs.Reaching.{reaches_none, reaches_front, reaches_all, no_lines}
 use Rattle.beacon_node.proofs.OneByOne.{with_events-files}
-use Rattle.beacon_node.proofs.Steps.{last_taken, held_as, held_front, taken_none, over_after, unread_after, goes_on, opened_more}
+use Rattle.beacon_node.proofs.Steps.{asks_none, last_taken, held_as, held_front, taken_none, over_after, unread_after, goes_on, opened_more}
 use Rattle.beacon_node.proofs.Fronts.{config_of-front, genesis_of-front, files-with_record, files-with_genesis, files-with_files, no_record_lines, no_genesis_lines, no_files_lines}
 
 -- The record was opened, and the rest are its events.
@@ -97,19 +104,71 @@ module _ (config : ConfigValues) (name record_name : List ℕ) (bytes : List ℕ
         rw whole.1 (over_after _ _ name (record_name ∷ []) statuses.NoMemory s.asked t.asked w read.asked (λ never. cc) (reaches_front 0 _ (omega arith)) (reaches_front 0 _ (omega arith)) (reaches_front 1 _ (omega arith)));
   }
 
-  pub genesis_goes_on : (u : ShelfTold) (w x : List ℕ) (genesis : Genesis) (status : Status) → GivesGenesis (Ok genesis) (genesis_of config.preset bytes)
-      → Replayed (λ contents. with_record (store_at genesis.time genesis.root) (contents record_name)) (λ contents opened. with_record (store_at genesis.time genesis.root) (taken_of 0 opened)) (record_name ∷ []) status t u w x
+  pub genesis_goes_on : (u : ShelfTold) (w x : List ℕ) (genesis : PlainState) (status : Status) → GivesGenesis (Ok genesis) (genesis_of config.preset bytes)
+      → Replayed (λ contents. run_from config genesis (contents record_name)) (λ contents opened. run_from config genesis (taken_of 0 opened)) (record_name ∷ []) status t u w x
       → Replayed (λ contents. with_genesis config (contents name) (contents record_name)) (λ contents opened. with_genesis config (contents name) (taken_of 1 opened)) (name ∷ record_name ∷ []) status s u w x
   unfolding with_genesis with_state taken_of
-  genesis_goes_on u w x genesis status (state, is_state, is) rest = record {
+  genesis_goes_on u w x genesis status is_state rest = record {
     opened = read.handed ∷ rest.opened;
     files = opened_more s.files read.handed rest.opened read.files rest.files;
     answers = λ c a.
         let whole = held_front read c (agreed_front c t.files rest.opened (rw rest.files at a)) in
-        let good : genesis_of config.preset whole.0 ≡ Ok state = sym (same_genesis whole.0 whole.2) ∙ is_state in
-        let same : store_at genesis.time genesis.root ≡ store_at state.genesis_time (header_root_of state) = ap (λ time. store_at time genesis.root) is.time ∙ ap (store_at state.genesis_time) is.root in
-        rw (whole.1, good, ← same) (goes_on (with_record (store_at genesis.time genesis.root) (c record_name)) (with_record (store_at genesis.time genesis.root) (taken_of 0 rest.opened)) name (record_name ∷ []) status s.asked t.asked u.asked w x read.asked (rest.answers c a));
+        let good : genesis_of config.preset whole.0 ≡ Ok genesis = sym (same_genesis whole.0 whole.2) ∙ is_state in
+        rw (whole.1, good) (goes_on (run_from config genesis (c record_name)) (run_from config genesis (taken_of 0 rest.opened)) name (record_name ∷ []) status s.asked t.asked u.asked w x read.asked (rest.answers c a));
   }
+
+-- how the opening of a store is one of a clash or of none
+clash_of_opening : (clash : Option ClashKind) (store : Store) (kind : ClashKind) → open_unless clash store ≡ event_clashes kind → clash ≡ Some kind
+unfolding open_unless
+clash_of_opening (Some other) store kind e = cc
+clash_of_opening None store kind e = cc
+
+opened_without : (clash : Option ClashKind) (store opened : Store) → open_unless clash store ≡ accepted opened → (clash ≡ None) × (opened ≡ store)
+unfolding open_unless
+opened_without (Some other) store opened e = cc
+opened_without None store opened e = (refl, cc)
+
+-- The store opened, and the record comes next.
+pub opened_goes_on : (config : ConfigValues) (genesis : PlainState) (store : Store) (name : List ℕ) (status : Status) (s t : ShelfTold) (w x : List ℕ) → open_store config genesis ≡ accepted store
+    → Replayed (λ contents. with_record store (contents name)) (λ contents opened. with_record store (taken_of 0 opened)) (name ∷ []) status s t w x
+    → Replayed (λ contents. run_from config genesis (contents name)) (λ contents opened. run_from config genesis (taken_of 0 opened)) (name ∷ []) status s t w x
+unfolding open_store with_store
+opened_goes_on config genesis store name status s t w x is rest =
+    let opened = opened_without (genesis_clash genesis) (get_forkchoice_store config genesis) store is in
+    rw (opened.0, ← opened.1) rest
+
+-- no store opened
+no_store_over : (config : ConfigValues) (genesis : PlainState) (name : List ℕ) (s : ShelfTold) (w : List ℕ)
+    → Replayed (λ contents. run_from config genesis (contents name)) (λ contents opened. run_from config genesis (taken_of 0 opened)) (name ∷ []) statuses.NoMemory s s w w
+no_store_over config genesis name s w = record {
+  opened = [];
+  files = sym (append-nil s.files);
+  answers = λ c a. record {
+    ends = λ never. cc;
+    lines = no_lines true _ w (reaches_front 0 _ (omega arith));
+    pace = no_lines true _ w (reaches_front 0 _ (omega arith));
+    asks = asks_none true _ (name ∷ []) s.asked s.asked (reaches_front 0 _ (omega arith)) refl;
+  };
+}
+
+pub opening_over : (config : ConfigValues) (genesis : PlainState) (name : List ℕ) (stop : StoreStop) (s : ShelfTold) (w : List ℕ) → Opens (Err stop) (open_store config genesis)
+    → Replayed (λ contents. run_from config genesis (contents name)) (λ contents opened. run_from config genesis (taken_of 0 opened)) (name ∷ []) (no_store stop) s s w w
+unfolding open_store with_store
+opening_over config genesis name (stores.Clash kind) s w is = record {
+  opened = [];
+  files = sym (append-nil s.files);
+  answers = λ c a.
+      let clash = clash_of_opening (genesis_clash genesis) (get_forkchoice_store config genesis) kind is in
+      rw clash (record {
+        ends = λ _. refl;
+        lines = no_lines false [] w (reaches_none false);
+        pace = no_lines false [] w (reaches_none false);
+        asks = asks_none false 0 (name ∷ []) s.asked s.asked (reaches_none false) refl;
+      });
+}
+opening_over config genesis name (stores.Refused why) s w is = no_store_over config genesis name s w
+opening_over config genesis name (stores.Limit bound) s w is = no_store_over config genesis name s w
+opening_over config genesis name stores.NoMemory s w is = no_store_over config genesis name s w
 
 module _ (files : ReplayFiles) (bytes : List ℕ) (s t : ShelfTold) (read : ReadOf files.config 65537 bytes s t) where
   pub config_stops : (w : List ℕ) (reason : ConfigFault) → Err reason ≡ config_of bytes

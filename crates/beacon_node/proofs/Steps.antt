@@ -74,7 +74,7 @@ taken_none (suc n) (f ∷ opened) h = taken_none n opened (omega arith)
 asks_one : (fewer : Bool) (files : ℕ) (name : List ℕ) (names asked asked_then : List (List ℕ)) → Reaches fewer 1 files → asked_then ≡ asked ++ name ∷ [] → AsksFor fewer files (name ∷ names) asked asked_then
 asks_one fewer files name names asked asked_then reaches e = record { count = 1; reaches = reaches; names_are = e }
 
-asks_none : (fewer : Bool) (files : ℕ) (names asked asked_then : List (List ℕ)) → Reaches fewer 0 files → asked_then ≡ asked → AsksFor fewer files names asked asked_then
+pub asks_none : (fewer : Bool) (files : ℕ) (names asked asked_then : List (List ℕ)) → Reaches fewer 0 files → asked_then ≡ asked → AsksFor fewer files names asked asked_then
 asks_none fewer files names asked asked_then reaches e = record { count = 0; reaches = reaches; names_are = e ∙ sym (append-nil asked) }
 
 -- The run is over, or broken off, behind its first file.

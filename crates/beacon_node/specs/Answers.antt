@@ -2,7 +2,7 @@
 use Rattle.std.specs.Prelude.{◌≡◌, ℕ, zero, suc, ◌≤◌, Bool, true, false, List, [], ◌∷◌, ◌++◌, length, take, Option, Some, None}
 use Rattle.bc_outside.specs.Told.{FileHanded, ShelfTold, Agrees}
 use Rattle.bc_outside.specs.Calls.{Rose}
-use Rattle.spec_replay.specs.Run.{Run, End, done, no_command, bad_config, bad_genesis, bad_record, over, with_files}
+use Rattle.spec_replay.specs.Run.{Run, End, done, no_command, bad_config, bad_genesis, bad_record, limited, clash, over, with_files}
 use Rattle.spec_replay.specs.Words.{ReplayFiles, replay_files_of}
 use Rattle.beacon_node.specs.declared.status.Status.{Status}
 use Rattle.beacon_node.specs.declared.status.Status.TheVariants as statuses
@@ -14,6 +14,8 @@ end_of statuses.Words = Some no_command
 end_of (statuses.Config reason) = Some (bad_config reason)
 end_of (statuses.Genesis part) = Some (bad_genesis part)
 end_of (statuses.Record which event reason) = Some (bad_record which event reason)
+end_of (statuses.Limit which event limit) = Some (limited which event limit)
+end_of (statuses.Clash which event kind kept_which) = Some (clash which event kind kept_which)
 end_of statuses.ReadFault = None
 end_of statuses.WriteFault = None
 end_of statuses.NoMemory = None

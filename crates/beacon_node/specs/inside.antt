@@ -3,4 +3,3 @@ pub mod GenesisAnswers
 pub mod Progress
 pub mod Reading
 pub mod Statuses
-pub mod Stores

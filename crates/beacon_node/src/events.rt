@@ -1,38 +1,62 @@
 //! The record of a run: each event is read, handed to the store, and answered by a line.
 
-ghost use Rattle.std.specs.Prelude.{◌≡◌, ◌≢◌, ◌<◌, ◌^◌, [], ◌∷◌, length, IfSome, IfNone};
-ghost use Rattle.bc_outside.specs.Calls.{HasCause, ShelfKeeps, SinkKeeps, WritesAll};
-ghost use Rattle.spec_replay.specs.Lines.{tick_line};
+ghost use Rattle.std.specs.Prelude.{◌≡◌, ◌≢◌, ◌<◌, ◌^◌, [], ◌∷◌, length, IfSome, IfNone, IfOk, IfErr, Ok};
+ghost use Rattle.bc_outside.specs.Calls.{ShelfKeeps, SinkKeeps};
 ghost use Rattle.spec_replay.specs.Run.{with_record};
 ghost use Rattle.record_file.specs.Sources.{IsOpenedFile};
 ghost use Rattle.beacon_node.specs.Answers.{HasCauses, Replayed, taken_of};
 ghost use Rattle.beacon_node.specs.inside.Statuses.{unwritten, no_frame};
-ghost use Rattle.beacon_node.specs.inside.Progress.{Progress, OneMore, EventsOver};
-ghost use Rattle.beacon_node.specs.inside.Stores.{told_outcome};
+ghost use Rattle.beacon_node.specs.inside.Progress.{Progress, OneMore, EventsOver, HasLine, EndsAt, outcome_of};
 
-use crate::lines::tick_line;
+use crate::lines::{accepted_line, refused_line};
 use crate::reading::unread;
 use crate::status::Status;
-use crate::store::Store;
 use bc_outside::{Shelf, Sink, Trouble, write_all};
-use bc_words::Refusal;
-use record_file::{EventSource, FrameStop, Frames};
+use bc_words::{NoMemory, StoreStop};
+use fork_store::Store;
+use record_file::{Event, EventSource, FrameStop, Frames};
 use std::alloc::Global;
 
-/// Writes the line of an event.
-fn write_line<O: Sink>(
-    alloc: Global,
-    event: u32,
-    answer: &Result<(), Refusal>,
-    store: &Store,
-    out: &mut O,
-) -> Result<(), Trouble>
-    ensures writes { WritesAll (tick_line event (told_outcome answer.now store.now) store.now) result (O.told out.old) (O.told out.new) }
-    ensures causes { HasCause result (O.told out.old).faults (O.told out.new).faults }
-    ensures keeps { SinkKeeps (O.told out.old) (O.told out.new) }
+/// The line, unless memory ran out.
+fn line_or_status(line: Result<Vec<u8>, NoMemory>) -> Result<Vec<u8>, Status>
+    ensures line { IfOk result (λ line'. line ≡ Ok line') }
+    ensures status { IfErr result (λ status. status ≡ Status.NoMemory) }
 {
-    let line = tick_line(alloc, u64::from(event), answer, store)?;
-    write_all(out, &line)
+    match line {
+        Ok(line) => Ok(line),
+        Err(_) => Err(Status::NoMemory),
+    }
+}
+
+/// Hands the event to the store, and makes its line. The status where the event ends the run.
+#[tactic(auto, unfolding(spec_replay::specs::Run::event_then))]
+fn handle_event(
+    alloc: Global,
+    number: u32,
+    event: &Event,
+    store: &mut Store,
+) -> Result<Vec<u8>, Status>
+    ensures line { IfOk result (λ line. HasLine number event.now store.old store.new line.items) }
+    ensures over { IfErr result (λ status. EndsAt status number (outcome_of store.old event.now)) }
+{
+    match store.on_event(event.kind, event.payload.as_slice()) {
+        Ok(given) => line_or_status(accepted_line(alloc, u64::from(number), event.kind, &given, store)),
+        Err(StoreStop::Refused(refusal)) => {
+            line_or_status(refused_line(alloc, u64::from(number), event.kind, refusal, store))
+        }
+        Err(StoreStop::Limit(limit)) => Err(Status::Limit {
+            which: 0,
+            event: number,
+            limit,
+        }),
+        Err(StoreStop::Clash(kind)) => Err(Status::Clash {
+            which: 0,
+            event: number,
+            kind,
+            kept_which: 0,
+        }),
+        Err(StoreStop::NoMemory) => Err(Status::NoMemory),
+    }
 }
 
 /// The status of a line that could not be written.
@@ -83,8 +107,11 @@ fn replay_event<S: EventSource, F: Shelf, O: Sink>(
         Ok(None) => return Some(Status::Done),
         Err(stop) => return Some(no_event(source, stop)),
     };
-    let answer = store.on_tick_payload(event.payload.as_slice());
-    match write_line(alloc, source.given(), &answer, store, out) {
+    let line = match handle_event(alloc, source.given(), &event, store) {
+        Ok(line) => line,
+        Err(status) => return Some(status),
+    };
+    match write_all(out, &line) {
         Ok(()) => None,
         Err(trouble) => Some(unwritten(trouble)),
     }

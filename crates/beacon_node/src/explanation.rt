@@ -3,6 +3,8 @@
 use crate::status::Status;
 use crate::words::replay_files;
 use bc_preset::Preset;
+use bc_preset::constants::{MAX_PROPOSER_CANDIDATES, MAX_SLOTS};
+use bc_words::{ClashKind, Limit};
 use beacon_state::shortest_state;
 use spec_state::GenesisFault;
 use std::fmt;
@@ -84,6 +86,50 @@ fn write_genesis<W: fmt::Write>(
     }
 }
 
+/// A bound of this program that an event meets.
+fn write_limit<W: fmt::Write>(
+    f: &mut fmt::Formatter<W>,
+    record: &str,
+    event: u32,
+    limit: Limit,
+) -> fmt::Result {
+    write!(f, "Limit: {record:?}: event {event}: ")?;
+    match limit {
+        Limit::Slots(slots) => write!(
+            f,
+            "it is {slots} slots ahead, and at most {MAX_SLOTS} are gone through at once"
+        ),
+        Limit::Proposer => write!(
+            f,
+            "none of the first {MAX_PROPOSER_CANDIDATES} candidates for the slot's proposer passes"
+        ),
+    }
+}
+
+/// How the root of a block that would be accepted is no name for it alone. Event 0 is the genesis block.
+fn write_clash<W: fmt::Write>(
+    f: &mut fmt::Formatter<W>,
+    genesis: &str,
+    record: &str,
+    event: u32,
+    kind: ClashKind,
+) -> fmt::Result {
+    if event == 0 {
+        write!(f, "Clash: {genesis:?}: the genesis block: ")?;
+    } else {
+        write!(f, "Clash: {record:?}: event {event}: ")?;
+    }
+    match kind {
+        ClashKind::ZeroBlock => write!(f, "the block's root is zero"),
+        ClashKind::ZeroState => write!(f, "the block's state root is zero"),
+        ClashKind::Kept(0) => write!(f, "the block has the root of the genesis block, and is another one"),
+        ClashKind::Kept(number) => write!(
+            f,
+            "the block has the root of the accepted block {number}, and is another one"
+        ),
+    }
+}
+
 impl fmt::Display for Explanation<'_, '_> {
     fn fmt<W: fmt::Write>(&self, f: &mut fmt::Formatter<W>) -> fmt::Result {
         let (config, genesis, record) = names_in(self.words);
@@ -103,6 +149,8 @@ impl fmt::Display for Explanation<'_, '_> {
             Status::Record { event, fault, .. } => {
                 write!(f, "Record: {record:?}: event {event}: {fault}")
             }
+            Status::Limit { event, limit, .. } => write_limit(f, record, *event, *limit),
+            Status::Clash { event, kind, .. } => write_clash(f, genesis, record, *event, *kind),
             Status::ReadFault => write_cause(
                 f,
                 "ReadFault",

@@ -1,28 +1,18 @@
-//! The genesis state: its time and its block's root, or what is wrong with it.
+//! The genesis state, or what is wrong with it.
 
-ghost use Rattle.std.specs.Prelude.{◌≡◌};
+ghost use Rattle.std.specs.Prelude.{◌≡◌, None, IfOk};
 ghost use Rattle.bc_preset.specs.Presets.{IsPreset};
 ghost use Rattle.spec_state.specs.Genesis.{genesis_of, genesis_fault, sound_genesis};
 ghost use Rattle.beacon_node.specs.inside.GenesisAnswers.{GivesGenesis, no_state};
 
 use bc_preset::Preset;
 use beacon_state::{State, genesis_check};
-use hash_tree::Root;
 use spec_state::GenesisFault;
 use ssz_codec::SszFault;
 use std::alloc::Global;
 
 /// The longest genesis file, in bytes.
 pub const MAX_GENESIS_LEN: usize = 1 << 30;
-
-/// What a run takes of a genesis state.
-#[derive(Drop)]
-pub struct Genesis {
-    /// The genesis time, in seconds.
-    pub time: u64,
-    /// The root of the genesis block (fork-choice.md, "get_forkchoice_store").
-    pub root: Root,
-}
 
 /// Why there is no genesis.
 #[derive(Debug, Drop)]
@@ -43,31 +33,31 @@ fn no_state(fault: SszFault) -> GenesisStop
     }
 }
 
-/// What a run takes of a state, or the first part of it that no genesis has.
-#[tactic(auto, unfolding(spec_state::specs::Genesis::genesis_of))]
-fn check(state: &State) -> Result<Genesis, GenesisStop>
-    ensures { GivesGenesis result (sound_genesis state.now (genesis_fault state.now)) }
+/// The state, or the first part of it that no genesis has.
+fn checked(state: State) -> Result<State, GenesisStop>
+    ensures gives { GivesGenesis result (sound_genesis state (genesis_fault state)) }
+    ensures same { IfOk result (λ genesis. genesis ≡ state) }
+    ensures checked { IfOk result (λ genesis. genesis_fault genesis ≡ None) }
 {
-    match genesis_check(state) {
-        Ok(()) => Ok(Genesis {
-            time: state.genesis_time(),
-            root: state.header_root(),
-        }),
+    match genesis_check(&state) {
+        Ok(()) => Ok(state),
         Err(part) => Err(GenesisStop::Fault(part)),
     }
 }
 
 /// Reads a genesis state of the preset, and checks it.
-#[tactic(auto, unfolding(spec_state::specs::Genesis::genesis_of))]
-pub fn read_genesis(alloc: Global, preset: &Preset, bytes: &[u8]) -> Result<Genesis, GenesisStop>
+#[tactic(auto, using(spec_state::proofs::Limits::within_preset), unfolding(spec_state::specs::Genesis::genesis_of))]
+pub fn read_genesis(alloc: Global, preset: &Preset, bytes: &[u8]) -> Result<State, GenesisStop>
     requires { IsPreset preset.now }
-    ensures { GivesGenesis result (genesis_of preset.now bytes.now) }
+    ensures gives { GivesGenesis result (genesis_of preset.now bytes.now) }
+    ensures preset { IfOk result (λ genesis. genesis.preset ≡ preset.now) }
+    ensures checked { IfOk result (λ genesis. genesis_fault genesis ≡ None) }
 {
     if bytes.len() > MAX_GENESIS_LEN {
         return Err(GenesisStop::Fault(GenesisFault::TooLong));
     }
     match State::read(alloc, preset, bytes) {
-        Ok(state) => check(&state),
+        Ok(state) => checked(state),
         Err(fault) => Err(no_state(fault)),
     }
 }

@@ -7,10 +7,10 @@ mod genesis;
 mod law;
 mod lines;
 mod program;
+mod progress;
 mod reading;
 mod replay;
 mod status;
-mod store;
 #[cfg(test)]
 mod tests;
 mod top;
@@ -19,5 +19,6 @@ mod words;
 pub use explanation::{Cause, Explanation};
 pub use law::runs_in_memory;
 pub use program::run;
+pub use progress::Progress;
 pub use status::Status;
 pub use top::beacon_main;

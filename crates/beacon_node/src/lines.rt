@@ -2,13 +2,14 @@
 
 ghost use Rattle.std.specs.Prelude.{◌≡◌, ◌++◌, OnOk, IfOk};
 ghost use Rattle.std.specs.Fmt.{decimal};
-ghost use Rattle.bc_words.specs.Refusals.{name_of};
-ghost use Rattle.spec_replay.specs.Lines.{root_text, checkpoint_text, refusal_text, outcome_text, store_text, tick_line};
-ghost use Rattle.spec_replay.specs.Lines.{head_label, justified_label, finalized_label};
-ghost use Rattle.beacon_node.specs.inside.Stores.{told_outcome};
+ghost use Rattle.spec_fork_choice.specs.GetHead.{get_head};
+ghost use Rattle.spec_fork_choice.specs.OnEvent.{block};
+ghost use Rattle.spec_replay.specs.Lines.{root_text, checkpoint_text, refusal_text, accepted_text, kind_text, head_label, justified_label, finalized_label, block_label, state_label, store_text, event_line};
+ghost use Rattle.fork_store.specs.inside.Handled.{accepted_of};
 
-use crate::store::Store;
-use bc_words::Refusal;
+use bc_words::{NoMemory, Refusal};
+use beacon_types::Checkpoint;
+use fork_store::{Accepted, BlockIn, Store};
 use hash_tree::Root;
 use std::alloc::{AllocError, Global};
 
@@ -35,14 +36,13 @@ fn push_root(line: &mut Vec<u8>, alloc: Global, root: &Root) -> Result<(), Alloc
 fn push_checkpoint(
     line: &mut Vec<u8>,
     alloc: Global,
-    epoch: u64,
-    root: &Root,
+    checkpoint: &Checkpoint,
 ) -> Result<(), AllocError>
-    ensures { OnOk result (line.new.items ≡ line.old.items ++ checkpoint_text epoch root.now) }
+    ensures { OnOk result (line.new.items ≡ line.old.items ++ checkpoint_text checkpoint.now) }
 {
-    push_number(line, alloc, epoch)?;
+    push_number(line, alloc, checkpoint.epoch)?;
     line.extend_from_slice(b":")?;
-    push_root(line, alloc, root)
+    push_root(line, alloc, &checkpoint.root)
 }
 
 /// Appends a refusal: `refused`, its number and its name.
@@ -80,51 +80,119 @@ fn push_finalized_label(line: &mut Vec<u8>) -> Result<(), AllocError>
     line.extend_from_slice(b" finalized=")
 }
 
-/// Appends the store's head and its two checkpoints.
-#[tactic(auto, unfolding(spec_replay::specs::Lines::store_text))]
-fn push_store(line: &mut Vec<u8>, alloc: Global, store: &Store) -> Result<(), AllocError>
-    ensures { OnOk result (line.new.items ≡ line.old.items ++ store_text store.now) }
+/// Appends the head of the store.
+fn push_head(line: &mut Vec<u8>, alloc: Global, store: &Store) -> Result<(), NoMemory>
+    ensures { OnOk result (line.new.items ≡ line.old.items ++ root_text (get_head store.now)) }
 {
-    let root = store.genesis_root();
-    push_head_label(line)?;
-    push_root(line, alloc, root)?;
-    push_justified_label(line)?;
-    push_checkpoint(line, alloc, 0, root)?;
-    push_finalized_label(line)?;
-    push_checkpoint(line, alloc, 0, root)?;
+    let head = store.head()?;
+    push_root(line, alloc, &head)?;
     Ok(())
 }
 
-/// Appends what became of an event.
-#[tactic(auto, unfolding(spec_replay::specs::Lines::outcome_text))]
-fn push_outcome(
-    line: &mut Vec<u8>,
-    alloc: Global,
-    answer: &Result<(), Refusal>,
-    store: &Store,
-) -> Result<(), AllocError>
-    ensures { OnOk result (line.new.items ≡ line.old.items ++ outcome_text (told_outcome answer.now store.now)) }
+/// Appends the store's head and its two checkpoints.
+#[tactic(auto, unfolding(spec_replay::specs::Lines::store_text))]
+fn push_store(line: &mut Vec<u8>, alloc: Global, store: &Store) -> Result<(), NoMemory>
+    ensures { OnOk result (line.new.items ≡ line.old.items ++ store_text store.now) }
 {
-    match answer {
-        Ok(()) => line.extend_from_slice(b"accepted"),
-        Err(refusal) => push_refusal(line, alloc, *refusal),
+    push_head_label(line)?;
+    push_head(line, alloc, store)?;
+    push_justified_label(line)?;
+    push_checkpoint(line, alloc, &store.justified())?;
+    push_finalized_label(line)?;
+    push_checkpoint(line, alloc, &store.finalized())?;
+    Ok(())
+}
+
+/// Appends the word before an accepted block's root.
+#[tactic(auto, unfolding(spec_replay::specs::Lines::block_label))]
+fn push_block_label(line: &mut Vec<u8>) -> Result<(), AllocError>
+    ensures { OnOk result (line.new.items ≡ line.old.items ++ block_label) }
+{
+    line.extend_from_slice(b"accepted root=")
+}
+
+/// Appends the word before the root of the state behind a block.
+#[tactic(auto, unfolding(spec_replay::specs::Lines::state_label))]
+fn push_state_label(line: &mut Vec<u8>) -> Result<(), AllocError>
+    ensures { OnOk result (line.new.items ≡ line.old.items ++ state_label) }
+{
+    line.extend_from_slice(b" state=")
+}
+
+/// Appends that a block was accepted, with its root and that of the state behind it.
+#[tactic(auto, unfolding(spec_replay::specs::Lines::accepted_text))]
+fn push_block(line: &mut Vec<u8>, alloc: Global, given: &BlockIn) -> Result<(), AllocError>
+    ensures { OnOk result (line.new.items ≡ line.old.items ++ accepted_text (block given.now)) }
+{
+    push_block_label(line)?;
+    push_root(line, alloc, &given.root())?;
+    push_state_label(line)?;
+    push_root(line, alloc, &given.state_root())?;
+    Ok(())
+}
+
+/// Appends that the event was accepted, with the roots of a block.
+#[tactic(auto, unfolding(spec_replay::specs::Lines::accepted_text))]
+fn push_accepted(line: &mut Vec<u8>, alloc: Global, given: &Accepted) -> Result<(), AllocError>
+    ensures { OnOk result (line.new.items ≡ line.old.items ++ accepted_text (accepted_of given.now)) }
+{
+    match given {
+        Accepted::Other => line.extend_from_slice(b"accepted"),
+        Accepted::Block(block) => push_block(line, alloc, block),
     }
 }
 
-/// The line of a tick: its number, its outcome, and the store after it.
-#[tactic(auto, unfolding(spec_replay::specs::Lines::tick_line))]
-pub fn tick_line(
+/// Appends the word of an event's kind.
+#[tactic(auto, unfolding(spec_replay::specs::Lines::kind_text))]
+fn push_kind(line: &mut Vec<u8>, kind: u8) -> Result<(), AllocError>
+    ensures { OnOk result (line.new.items ≡ line.old.items ++ kind_text kind) }
+{
+    if kind == 1 {
+        line.extend_from_slice(b" tick ")
+    } else if kind == 2 {
+        line.extend_from_slice(b" block ")
+    } else if kind == 3 {
+        line.extend_from_slice(b" wire ")
+    } else {
+        line.extend_from_slice(b" carried ")
+    }
+}
+
+/// The line of an accepted event: its number, its kind, what it gave, and the store after it.
+#[tactic(auto, unfolding(spec_replay::specs::Lines::event_line))]
+pub fn accepted_line(
     alloc: Global,
     event: u64,
-    answer: &Result<(), Refusal>,
+    kind: u8,
+    given: &Accepted,
     store: &Store,
-) -> Result<Vec<u8>, AllocError>
-    ensures { IfOk result (λ line. line.items ≡ tick_line event (told_outcome answer.now store.now) store.now) }
+) -> Result<Vec<u8>, NoMemory>
+    ensures { IfOk result (λ line. line.items ≡ event_line event kind (accepted_text (accepted_of given.now)) store.now) }
 {
     let mut line = Vec::new(alloc);
     push_number(&mut line, alloc, event)?;
-    line.extend_from_slice(b" tick ")?;
-    push_outcome(&mut line, alloc, answer, store)?;
+    push_kind(&mut line, kind)?;
+    push_accepted(&mut line, alloc, given)?;
+    push_store(&mut line, alloc, store)?;
+    line.push(b'\n')?;
+    Ok(line)
+}
+
+/// The line of a refused event: its number, its kind, the refusal, and the store, which is as before.
+#[tactic(auto, unfolding(spec_replay::specs::Lines::event_line))]
+pub fn refused_line(
+    alloc: Global,
+    event: u64,
+    kind: u8,
+    refusal: Refusal,
+    store: &Store,
+) -> Result<Vec<u8>, NoMemory>
+    ensures { IfOk result (λ line. line.items ≡ event_line event kind (refusal_text refusal) store.now) }
+{
+    let mut line = Vec::new(alloc);
+    push_number(&mut line, alloc, event)?;
+    push_kind(&mut line, kind)?;
+    push_refusal(&mut line, alloc, refusal)?;
     push_store(&mut line, alloc, store)?;
     line.push(b'\n')?;
     Ok(line)

@@ -1,11 +1,13 @@
 //! The program over a runtime: its words, the disk and standard output go to `beacon_main`, and its status to the caller.
 
 use crate::explanation::{Cause, Explanation};
+use crate::progress::{Progress, Watch, WatchedOut, WatchedShelf};
 use crate::status::Status;
 use crate::top::beacon_main;
 use bc_outside::{DiskShelf, StdSink};
 use std::io::{Eprint, Print};
 use std::rt::{Env, Files};
+use std::time::Clock;
 use std::{env, io};
 
 /// The words behind the program's name. A word that isn't text is none of a command.
@@ -85,8 +87,12 @@ fn explain<R: Eprint + Files, W: io::Write>(
 }
 
 /// Runs the command that the program's words are, over the disk and standard output, and answers the number that the
-/// program ends with. Where it isn't 0, one line on standard error says why.
-pub fn run<R: Env + Files + Print + Eprint + AllocGlobal>(rt: &R) -> u8 {
+/// program ends with. Where it isn't 0, one line on standard error says why. The progress of a long record is shown there
+/// where it is asked for, and cleared at the end.
+pub fn run<R: Env + Files + Print + Eprint + Clock + AllocGlobal>(
+    rt: &R,
+    progress: Progress,
+) -> u8 {
     let words = match words_of(rt) {
         Ok(words) => words,
         Err(status) => {
@@ -94,9 +100,11 @@ pub fn run<R: Env + Files + Print + Eprint + AllocGlobal>(rt: &R) -> u8 {
             return status.number();
         }
     };
-    let mut shelf = DiskShelf::new(rt.alloc(), rt);
-    let mut out = StdSink::new(rt.alloc(), io::writer(rt));
+    let watch = Watch::new(rt, progress);
+    let mut shelf = WatchedShelf::new(DiskShelf::new(rt.alloc(), rt), &watch);
+    let mut out = StdSink::new(rt.alloc(), WatchedOut::new(rt, &watch));
     let status = beacon_main(rt.alloc(), &words, &mut shelf, &mut out);
-    explain(rt, &status, &words, &shelf, &out);
+    watch.clear();
+    explain(rt, &status, &words, shelf.shelf(), &out);
     status.number()
 }

@@ -1,20 +1,23 @@
 //! The command `replay`: configuration, genesis and record are read in this order, each only where the ones before it
 //! have no fault, and each event's line is written before the next frame is read.
 
-ghost use Rattle.std.specs.Prelude.{◌≡◌, ◌≢◌, ◌<◌, ◌+◌, ◌^◌, ◌∷◌, [], length};
+ghost use Rattle.std.specs.Prelude.{◌≡◌, ◌≢◌, ◌<◌, ◌+◌, ◌^◌, ◌∷◌, [], length, None};
 ghost use Rattle.bc_outside.specs.Calls.{ShelfKeeps, SinkKeeps};
 ghost use Rattle.spec_replay.specs.Run.{with_files, with_genesis};
 ghost use Rattle.beacon_node.specs.Answers.{HasCauses, Replayed, taken_of};
-ghost use Rattle.beacon_node.specs.inside.GenesisAnswers.{no_genesis};
+ghost use Rattle.spec_state.specs.Genesis.{genesis_fault};
+ghost use Rattle.beacon_node.specs.inside.GenesisAnswers.{no_genesis, no_store, run_from};
 
 use crate::events::replay_record;
 use crate::genesis::{GenesisStop, MAX_GENESIS_LEN, read_genesis};
 use crate::reading::{read_named, unread};
 use crate::status::Status;
-use crate::store::Store;
 use crate::words::ReplayFiles;
 use bc_outside::{Shelf, Sink};
 use bc_preset::{Config, MAX_CONFIG_LEN};
+use bc_words::StoreStop;
+use beacon_state::State;
+use fork_store::Store;
 use std::alloc::Global;
 
 /// The status of a genesis state that has a fault.
@@ -25,6 +28,47 @@ fn no_genesis(stop: GenesisStop) -> Status
         GenesisStop::Fault(part) => Status::Genesis(part),
         GenesisStop::NoMemory => Status::NoMemory,
     }
+}
+
+/// The status of a genesis with which no store opens. It is never refused or limited.
+fn no_store(stop: StoreStop) -> Status
+    ensures { result ≡ no_store stop }
+{
+    match stop {
+        StoreStop::Clash(kind) => Status::Clash {
+            which: 0,
+            event: 0,
+            kind,
+            kept_which: 0,
+        },
+        StoreStop::Refused(_) | StoreStop::Limit(_) | StoreStop::NoMemory => Status::NoMemory,
+    }
+}
+
+/// Opens the store at genesis, and reads the record.
+fn replay_from<F: Shelf, O: Sink>(
+    alloc: Global,
+    config: &Config,
+    genesis: State,
+    record_name: &str,
+    shelf: &mut F,
+    out: &mut O,
+) -> Status
+    requires few { length (F.told shelf.old).files < 2 ^ 32 }
+    requires preset { config.now.preset ≡ genesis.preset }
+    requires checked { genesis_fault genesis ≡ None }
+    ensures answers { Replayed (λ contents. run_from config.now genesis (contents record_name.now)) (λ contents opened. run_from config.now genesis (taken_of 0 opened))
+        (record_name.now ∷ []) result (F.told shelf.old) (F.told shelf.new) (O.told out.old).taken (O.told out.new).taken }
+    ensures causes { HasCauses result (F.told shelf.old).faults (F.told shelf.new).faults (O.told out.old).faults (O.told out.new).faults }
+    ensures command { result ≢ Status.Words }
+    ensures shelf { ShelfKeeps (record_name.now ∷ []) (F.told shelf.old) (F.told shelf.new) }
+    ensures sink { SinkKeeps (O.told out.old) (O.told out.new) }
+{
+    let mut store = match Store::new(alloc, config, genesis) {
+        Ok(store) => store,
+        Err(stop) => return no_store(stop),
+    };
+    replay_record(alloc, &mut store, record_name, shelf, out)
 }
 
 /// Reads the genesis state and then the record, under this configuration.
@@ -50,11 +94,10 @@ fn replay_genesis<F: Shelf, O: Sink>(
         Err(trouble) => return unread(trouble),
     };
     match read_genesis(alloc, config.preset(), &bytes) {
-        Ok(genesis) => {
+        Ok(state) => {
             // A file of any size is in memory for no longer than it takes to read the state.
             drop(bytes);
-            let mut store = Store::at_genesis(genesis.time, genesis.root);
-            replay_record(alloc, &mut store, record_name, shelf, out)
+            replay_from(alloc, config, state, record_name, shelf, out)
         }
         Err(stop) => no_genesis(stop),
     }

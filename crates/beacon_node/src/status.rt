@@ -4,6 +4,7 @@ ghost use Rattle.std.specs.Prelude.{◌≡◌};
 ghost use Rattle.beacon_node.specs.Statuses.{number_of, name_of};
 
 use bc_preset::ConfigFault;
+use bc_words::{ClashKind, Limit};
 use record_file::RecordFault;
 use spec_state::GenesisFault;
 
@@ -27,12 +28,32 @@ pub enum Status {
         /// What is wrong with it.
         fault: RecordFault,
     },
+    /// An event that passed all checks before meets a bound of this program.
+    Limit {
+        /// Which record: 0 is the only one.
+        which: u8,
+        /// The event.
+        event: u32,
+        /// The bound.
+        limit: Limit,
+    },
     /// A file could not be opened or read.
     ReadFault,
     /// The lines could not be written.
     WriteFault,
     /// Memory ran out.
     NoMemory,
+    /// A block that would be accepted has a root that is no name for it alone.
+    Clash {
+        /// Which record: 0 is the only one.
+        which: u8,
+        /// The event, and 0 for the genesis block.
+        event: u32,
+        /// How it clashes.
+        kind: ClashKind,
+        /// Which record the kept block is of.
+        kept_which: u8,
+    },
 }
 
 impl Status {
@@ -47,9 +68,11 @@ impl Status {
             Status::Config(_) => 2,
             Status::Genesis(_) => 3,
             Status::Record { .. } => 4,
+            Status::Limit { .. } => 5,
             Status::ReadFault => 6,
             Status::WriteFault => 7,
             Status::NoMemory => 8,
+            Status::Clash { .. } => 9,
         }
     }
 
@@ -64,9 +87,11 @@ impl Status {
             Status::Config(_) => "Config",
             Status::Genesis(_) => "Genesis",
             Status::Record { .. } => "Record",
+            Status::Limit { .. } => "Limit",
             Status::ReadFault => "ReadFault",
             Status::WriteFault => "WriteFault",
             Status::NoMemory => "NoMemory",
+            Status::Clash { .. } => "Clash",
         }
     }
 }

@@ -2,6 +2,7 @@
 
 use crate::{Cause, Explanation, Status};
 use bc_preset::ConfigFault;
+use bc_words::{ClashKind, Limit};
 use record_file::RecordFault;
 use spec_state::GenesisFault;
 use std::alloc::Global;
@@ -150,4 +151,43 @@ fn texts_in_the_record(rt: HostRuntime) -> Result<(), Fail> {
         Some(u64::MAX),
         written,
     )
+}
+
+// An event that meets a bound.
+fn limited(event: u32, limit: Limit) -> Status {
+    Status::Limit {
+        which: 0,
+        event,
+        limit,
+    }
+}
+
+// A block that clashes.
+fn clash(event: u32, kind: ClashKind) -> Status {
+    Status::Clash {
+        which: 0,
+        event,
+        kind,
+        kept_which: 0,
+    }
+}
+
+#[test]
+fn texts_of_bounds(rt: HostRuntime) -> Result<(), Fail> {
+    let alloc = rt.alloc();
+    let slots = "Limit: \"r\": event 6: it is 65537 slots ahead, and at most 65536 are gone through at once";
+    says(&rt, alloc, limited(6, Limit::Slots(65_537)), None, slots)?;
+    let proposer = "Limit: \"r\": event 2: none of the first 65536 candidates for the slot's proposer passes";
+    says(&rt, alloc, limited(2, Limit::Proposer), None, proposer)
+}
+
+#[test]
+fn texts_of_clashes(rt: HostRuntime) -> Result<(), Fail> {
+    let alloc = rt.alloc();
+    let zero = "Clash: \"g\": the genesis block: the block's root is zero";
+    says(&rt, alloc, clash(0, ClashKind::ZeroBlock), None, zero)?;
+    let state = "Clash: \"r\": event 4: the block's state root is zero";
+    says(&rt, alloc, clash(4, ClashKind::ZeroState), None, state)?;
+    let kept = "Clash: \"r\": event 4: the block has the root of the accepted block 2, and is another one";
+    says(&rt, alloc, clash(4, ClashKind::Kept(2)), None, kept)
 }

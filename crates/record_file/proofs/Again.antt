@@ -5,19 +5,19 @@ use Rattle.std.proofs.lemmas.Nat.{from_le_bytes-to_le_bytes_4}
 use Rattle.std.proofs.lemmas.Bool.Decides.{nat_tests}
 use Rattle.std.specs.Int.{w32, to_le_bytes}
 use Rattle.record_file.specs.declared.event.Event.{Event}
-use Rattle.record_file.specs.Record.{framed, payload_of, sized_of, frame_of, events_from, events_of, is_run, is_kind, longest_payload, most_events, with_event, done}
+use Rattle.record_file.specs.Record.{framed, payload_of, sized_of, frame_of, events_from, events_of, is_kind, longest_payload, most_events, with_event, done}
 use Rattle.record_file.specs.laws.Written.{frame_of_event, frames_of_events, AreEvents, ReadsAgain}
 use Rattle.record_file.proofs.Coming.{from_ended, from_framed, nothing}
 
 not_below : (m n : ℕ) → n ≤ m → nat_lt m n ≡ false
 not_below m n le = grind (arith, nat_tests)
 
-payload_step : (kind : ℕ) (payload rest : List ℕ) → is_run kind ≡ true → length payload ≤ longest_payload → payload_of kind (length payload) (payload ++ rest) ≡ framed (record { kind = kind; payload = payload }) rest
+payload_step : (kind : ℕ) (payload rest : List ℕ) → length payload ≤ longest_payload → payload_of kind (length payload) (payload ++ rest) ≡ framed (record { kind = kind; payload = payload }) rest
 unfolding payload_of
-payload_step kind payload rest run le =
+payload_step kind payload rest le =
     let short : nat_lt longest_payload (length payload) ≡ false = not_below longest_payload (length payload) le in
     let whole : nat_lt (length (payload ++ rest)) (length payload) ≡ false = not_below (length (payload ++ rest)) (length payload) (omega (arith, length-append payload rest)) in
-    rw (short, whole, run, take-append_seam payload rest, drop-append_seam payload rest)
+    rw (short, whole, take-append_seam payload rest, drop-append_seam payload rest)
 
 sized_step : (kind n : ℕ) (bytes : List ℕ) → n < 2 ^ 32 → sized_of kind (to_le_bytes w32 n ++ bytes) ≡ payload_of kind n bytes
 unfolding sized_of
@@ -25,16 +25,12 @@ sized_step kind n bytes lt =
     let whole : nat_lt (length (to_le_bytes w32 n ++ bytes)) 4 ≡ false = not_below (length (to_le_bytes w32 n ++ bytes)) 4 (omega arith) in
     rw whole (ap (λ m. payload_of kind m bytes) (from_le_bytes-to_le_bytes_4 n lt))
 
-run_is_kind : (kind : ℕ) → is_run kind ≡ true → is_kind kind ≡ true
-run_is_kind kind run = let e : kind ≡ 1 = grind (arith, nat_tests) in rw e
-
-frame_step : (events : ℕ) (event : Event) (rest : List ℕ) → events < most_events → is_run event.kind ≡ true → length event.payload ≤ longest_payload → frame_of events (frame_of_event event ++ rest) ≡ framed event rest
+frame_step : (events : ℕ) (event : Event) (rest : List ℕ) → events < most_events → is_kind event.kind ≡ true → length event.payload ≤ longest_payload → frame_of events (frame_of_event event ++ rest) ≡ framed event rest
 unfolding frame_of
-frame_step events event rest lt run le =
+frame_step events event rest lt known le =
     let few : nat_le most_events events ≡ false = grind (arith, nat_tests) in
-    let known : is_kind event.kind ≡ true = run_is_kind event.kind run in
     rw (few, known, append_assoc (to_le_bytes w32 (length event.payload)) event.payload rest)
-    (sized_step event.kind (length event.payload) (event.payload ++ rest) (omega arith) ∙ payload_step event.kind event.payload rest run le)
+    (sized_step event.kind (length event.payload) (event.payload ++ rest) (omega arith) ∙ payload_step event.kind event.payload rest le)
 
 all_again : (es : List Event) (room events : ℕ) → AreEvents es → room + events ≡ most_events → length es ≤ room → events_from room events (frames_of_events es) ≡ record { events = es; end = done }
 unfolding frames_of_events AreEvents

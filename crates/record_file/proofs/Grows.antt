@@ -3,7 +3,7 @@ use Rattle.std.proofs.Common.{◌≡◌, ◌≤◌, ℕ, Bool, true, false, List
 use Rattle.std.proofs.Common.{length-append}
 use Rattle.std.proofs.lemmas.List.{take-append-le, drop-append-le}
 use Rattle.std.specs.Int.{w32, from_le_bytes}
-use Rattle.record_file.specs.Record.{is_kind, is_run, most_events}
+use Rattle.record_file.specs.Record.{is_kind, most_events}
 use Rattle.std.proofs.lemmas.Bool.Decides.{nat_tests}
 use Rattle.record_file.specs.declared.fault.RecordFault.TheVariants.{BadMagic, TooMany, BadKind, Torn, TooLong}
 use Rattle.record_file.specs.declared.found.Found.{Found}
@@ -24,21 +24,20 @@ long_enough bytes more size e = grind (arith, nat_tests)
 still_enough : (bytes more : List ℕ) (size : ℕ) → nat_lt (length bytes) size ≡ false → nat_lt (length (bytes ++ more)) size ≡ false
 still_enough bytes more size e = let h = length-append bytes more in let k = long_enough bytes more size e in grind (arith, nat_tests)
 
-payload_cases : (kind size : ℕ) (bytes more : List ℕ) (long short run : Bool)
+payload_cases : (kind size : ℕ) (bytes more : List ℕ) (long short : Bool)
     → (short ≡ false → (nat_lt (length (bytes ++ more)) size ≡ false) × (size ≤ length bytes))
-    → may_grow (cond long (faulted (TooLong size)) (cond short (faulted Torn) (cond run (framed (record { kind = kind; payload = take size bytes }) (drop size bytes)) (faulted (BadKind kind))))) ≡ false
-    → cond long (faulted (TooLong size)) (cond (nat_lt (length (bytes ++ more)) size) (faulted Torn) (cond run (framed (record { kind = kind; payload = take size (bytes ++ more) }) (drop size (bytes ++ more))) (faulted (BadKind kind))))
-    ≡ with_behind more (cond long (faulted (TooLong size)) (cond short (faulted Torn) (cond run (framed (record { kind = kind; payload = take size bytes }) (drop size bytes)) (faulted (BadKind kind)))))
+    → may_grow (cond long (faulted (TooLong size)) (cond short (faulted Torn) (framed (record { kind = kind; payload = take size bytes }) (drop size bytes)))) ≡ false
+    → cond long (faulted (TooLong size)) (cond (nat_lt (length (bytes ++ more)) size) (faulted Torn) (framed (record { kind = kind; payload = take size (bytes ++ more) }) (drop size (bytes ++ more))))
+    ≡ with_behind more (cond long (faulted (TooLong size)) (cond short (faulted Torn) (framed (record { kind = kind; payload = take size bytes }) (drop size bytes))))
 unfolding may_grow
-payload_cases kind size bytes more true short run s h = refl
-payload_cases kind size bytes more false true run s h = cc
-payload_cases kind size bytes more false false true s h =
+payload_cases kind size bytes more true short s h = refl
+payload_cases kind size bytes more false true s h = cc
+payload_cases kind size bytes more false false s h =
     rw ((s refl).0, take-append-le size bytes more (s refl).1, drop-append-le size bytes more (s refl).1)
-payload_cases kind size bytes more false false false s h = rw (s refl).0
 
 payload_grows : (kind size : ℕ) (bytes more : List ℕ) → may_grow (payload_of kind size bytes) ≡ false → payload_of kind size (bytes ++ more) ≡ with_behind more (payload_of kind size bytes)
 unfolding payload_of
-payload_grows kind size bytes more h = payload_cases kind size bytes more (nat_lt longest_payload size) (nat_lt (length bytes) size) (is_run kind) (λ e. (still_enough bytes more size e, long_enough bytes more size e)) h
+payload_grows kind size bytes more h = payload_cases kind size bytes more (nat_lt longest_payload size) (nat_lt (length bytes) size) (λ e. (still_enough bytes more size e, long_enough bytes more size e)) h
 
 sized_cases : (kind n : ℕ) (bytes more : List ℕ) (short : Bool)
     → (short ≡ false → (nat_lt (length (bytes ++ more)) n ≡ false) × (n ≤ length bytes))

@@ -8,7 +8,7 @@ use Rattle.record_file.specs.declared.fault.FrameStop.{FrameStop}
 use Rattle.record_file.specs.declared.fault.FrameStop.TheVariants.{Fault, ReadFault, NoMemory}
 use Rattle.record_file.specs.declared.place.Place.{Place}
 use Rattle.record_file.specs.declared.place.Place.TheVariants.{AtMagic, AtFrame, Stopped}
-use Rattle.record_file.specs.Record.{Events, done, fault, fault_event, events_from, events_of, most_events, longest_payload, is_run, with_event}
+use Rattle.record_file.specs.Record.{Events, done, fault, fault_event, events_from, events_of, most_events, longest_payload, is_kind, with_event}
 
 -- The file, how many events were read of it, where the next call stands, and the bytes that were taken of the file and
 -- not read yet.
@@ -59,7 +59,7 @@ pub record Nexts (result : Result (Option Event) FrameStop) (old new : Reading) 
 
 -- What `next` does to the place.
 abbrev pub Moves : Result (Option Event) FrameStop → Reading → Reading → Type 0
-Moves (Ok (Some event)) before now = (now.events ≡ before.events + 1) × (now.place ≡ AtFrame) × (is_run event.kind ≡ true) × (length event.payload ≤ longest_payload)
+Moves (Ok (Some event)) before now = (now.events ≡ before.events + 1) × (now.place ≡ AtFrame) × (is_kind event.kind ≡ true) × (length event.payload ≤ longest_payload)
 Moves (Ok None) before now = (now.events ≡ before.events) × (now.place ≡ AtFrame)
 Moves (Err (Fault reason)) before now = (now.events ≡ before.events) × (now.place ≡ Stopped reason)
 Moves (Err _) before now = now.events ≡ before.events

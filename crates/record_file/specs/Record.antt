@@ -15,10 +15,6 @@ magic = 66 ∷ 67 ∷ 82 ∷ 49 ∷ []
 abbrev pub is_kind : ℕ → Bool
 is_kind kind = nat_le 1 kind && nat_le kind 4
 
--- the kinds whose events can be run: ticks
-abbrev pub is_run : ℕ → Bool
-is_run kind = kind == 1
-
 -- how many events a record may have
 abbrev pub most_events : ℕ
 most_events = 4194304
@@ -33,13 +29,12 @@ pub data FrameRead : Type 0 where
   faulted : RecordFault → FrameRead
   framed : Event → List ℕ → FrameRead
 
--- behind the length: the payload, or Torn where it is cut. A whole frame whose event can't be run is of a bad kind
+-- behind the length: the payload, or Torn where it is cut
 unfoldable pub payload_of : ℕ → ℕ → List ℕ → FrameRead
 payload_of kind size bytes =
     if nat_lt longest_payload size then faulted (TooLong size)
     else if nat_lt (length bytes) size then faulted Torn
-    else if is_run kind then framed (record { kind = kind; payload = take size bytes }) (drop size bytes)
-    else faulted (BadKind kind)
+    else framed (record { kind = kind; payload = take size bytes }) (drop size bytes)
 
 -- behind the kind: the length, or Torn where it is cut
 unfoldable pub sized_of : ℕ → List ℕ → FrameRead

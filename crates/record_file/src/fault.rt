@@ -17,7 +17,7 @@ pub enum RecordFault {
     #[error("more than 4194304 events")]
     TooMany,
     /// There is no such kind of frame, or its events are not run.
-    #[error("a frame of kind {0}, where only ticks are run, of kind 1")]
+    #[error("a frame of kind {0}, and kinds are 1 to 4")]
     BadKind(u8),
     /// The file ends inside a frame.
     #[error("the record ends inside the event")]

@@ -1,7 +1,7 @@
 //! What the buffered bytes of a record show of its next frame.
 
 ghost use Rattle.std.specs.Prelude.{◌≡◌, ◌≤◌, ◌<◌, ◌+◌, ℕ, ◌∷◌, length, true, IsTrue};
-ghost use Rattle.record_file.specs.Record.{frame_of, sized_of, is_kind, is_run, most_events, longest_payload};
+ghost use Rattle.record_file.specs.Record.{frame_of, sized_of, is_kind, most_events, longest_payload};
 ghost use Rattle.record_file.specs.inside.Found.{read_of, IsWhole, is_short, is_frame};
 
 use crate::RecordFault;
@@ -39,18 +39,11 @@ pub fn is_kind(kind: u8) -> bool
     kind >= 1 && kind <= 4
 }
 
-/// Whether events of this kind can be run: ticks can.
-pub fn is_run(kind: u8) -> bool
-    ensures { result ≡ is_run kind }
-{
-    kind == 1
-}
-
 // Behind the kind of a frame.
 #[tactic(auto, unfolding(crate::specs::Record::sized_of, crate::specs::Record::payload_of))]
 fn sized_at(kind: u8, bytes: &[u8]) -> Found
     ensures read { sized_of kind bytes.now ≡ read_of result (kind ∷ bytes.now) }
-    ensures whole { IsWhole result (kind ∷ bytes.now) }
+    ensures whole { is_kind kind ≡ true → IsWhole result (kind ∷ bytes.now) }
     ensures short { is_short result ≡ true → length bytes.now < 4 + longest_payload }
 {
     if bytes.len() < 4 {
@@ -63,9 +56,6 @@ fn sized_at(kind: u8, bytes: &[u8]) -> Found
     }
     if payload.len() < size as usize {
         return Found::Fault(RecordFault::Torn);
-    }
-    if !is_run(kind) {
-        return Found::Fault(RecordFault::BadKind(kind));
     }
     Found::Frame(kind, size)
 }

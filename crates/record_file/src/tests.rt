@@ -79,8 +79,8 @@ fn records(rt: HostRuntime) -> Result<(), Fail> {
     )?;
     let torn_block = b"BCR1\x01\0\0\0\0\x02\x10";
     ends_however_cut(&rt, alloc, torn_block, 1, Some((RecordFault::Torn, 2)))?;
-    let block = b"BCR1\x02\0\0\0\0";
-    ends_however_cut(&rt, alloc, block, 0, Some((RecordFault::BadKind(2), 1)))?;
+    let of_all_kinds = b"BCR1\x02\0\0\0\0\x03\0\0\0\0\x04\0\0\0\0";
+    ends_however_cut(&rt, alloc, of_all_kinds, 3, None)?;
     ends_however_cut(&rt, alloc, b"BCR1\x01", 0, Some((RecordFault::Torn, 1)))?;
     ends_however_cut(&rt, alloc, b"BCR1\x01\x10", 0, Some((RecordFault::Torn, 1)))?;
     ends_however_cut(&rt, alloc, &ticks[..25], 1, Some((RecordFault::Torn, 2)))?;

@@ -1,4 +1,3 @@
 pub mod Lines
 pub mod Run
-pub mod Ticks
 pub mod Words

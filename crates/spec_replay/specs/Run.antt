@@ -3,25 +3,33 @@ use Rattle.std.specs.Prelude.{ℕ, ◌+◌, List, [], ◌∷◌, ◌++◌, Optio
 use Rattle.bc_preset.specs.Configs.{config_of}
 use Rattle.bc_preset.specs.declared.configuration.ConfigValues.{ConfigValues}
 use Rattle.bc_preset.specs.declared.faults.ConfigFault.{ConfigFault}
-use Rattle.spec_state.specs.Genesis.{genesis_of, header_root_of}
+use Rattle.spec_state.specs.Genesis.{genesis_of}
 use Rattle.spec_state.specs.declared.plain.PlainState.{PlainState}
 use Rattle.spec_state.specs.declared.fault.GenesisFault.{GenesisFault}
 use Rattle.record_file.specs.Record.{Events, events_of}
 use Rattle.record_file.specs.Record as record_file
 use Rattle.record_file.specs.declared.event.Event.{Event}
 use Rattle.record_file.specs.declared.fault.RecordFault.{RecordFault}
-use Rattle.spec_replay.specs.Lines.{tick_line}
-use Rattle.spec_replay.specs.Ticks.{Store, store_at, store_after, handle_tick}
+use Rattle.bc_words.specs.Events.{EventOutcome, accepted, event_refused, event_limited, event_clashes}
+use Rattle.bc_words.specs.declared.stop.Limit.{Limit}
+use Rattle.bc_words.specs.declared.store_stop.ClashKind.{ClashKind}
+use Rattle.spec_fork_choice.specs.Store.{Store}
+use Rattle.spec_fork_choice.specs.GetForkchoiceStore.{get_forkchoice_store}
+use Rattle.spec_fork_choice.specs.OnEvent.{Accepted, on_event, genesis_clash}
+use Rattle.spec_replay.specs.Lines.{event_line, accepted_text, refusal_text}
 use Rattle.spec_replay.specs.Words.{ReplayFiles, replay_files_of}
 
--- How a run ends: the record was read to its end; the words are no command; or the first fault of the configuration,
--- of the genesis state, or of a record, with which record it is and its event. Records count from 0.
+-- How a run ends: the record was read to its end; the words are no command; the first fault of the configuration, of the
+-- genesis state, or of a record, with which record it is and its event; an event that meets a bound of this program; or one
+-- that clashes, with which record the kept block is of. Records count from 0, and event 0 is genesis.
 pub data End : Type 0 where
   done : End
   no_command : End
   bad_config : ConfigFault → End
   bad_genesis : GenesisFault → End
   bad_record : ℕ → ℕ → RecordFault → End
+  limited : ℕ → ℕ → Limit → End
+  clash : ℕ → ℕ → ClashKind → ℕ → End
 
 -- What a run writes, how it ends, and how many of its files it asks for, in their order. A file that it asks for and
 -- that isn't there leaves it no end.
@@ -46,13 +54,20 @@ after_file run = record { lines = run.lines; end = run.end; files = run.files + 
 abbrev pub after_lines : List ℕ → Run → Run
 after_lines lines run = record { lines = lines ++ run.lines; end = run.end; files = run.files }
 
+-- The line of the event with this number and kind, and then the run behind it, which begins with the store after it: the
+-- new one where the event is accepted, the old one where it is refused. At a bound and a clash the run is over.
+unfoldable pub event_then : ℕ → ℕ → Store → EventOutcome (Store × Accepted) → (Store → Run) → Run
+event_then number kind old (accepted new) rest = after_lines (event_line number kind (accepted_text new.1) new.0) (rest new.0)
+event_then number kind old (event_refused why) rest = after_lines (event_line number kind (refusal_text why) old) (rest old)
+event_then number kind old (event_limited bound) rest = over (limited 0 number bound)
+event_then number kind old (event_clashes clashing) rest = over (clash 0 number clashing 0)
+
 -- The events in turn, the first of which has this number: the store handles each, and its line is written. Behind the
 -- last the run ends so.
 unfoldable pub replay_events : ℕ → Store → List Event → End → Run
 replay_events number store [] end = over end
 replay_events number store (event ∷ events) end =
-    after_lines (tick_line number (handle_tick store event.payload) (store_after store (handle_tick store event.payload)))
-    (replay_events (number + 1) (store_after store (handle_tick store event.payload)) events end)
+    event_then number event.kind store (on_event store event.kind event.payload) (λ after. replay_events (number + 1) after events end)
 
 -- how the run ends where this record ends so
 abbrev pub record_end : ℕ → record_file.End → End
@@ -68,15 +83,20 @@ unfoldable pub with_record : Store → Option (List ℕ) → Run
 with_record store None = missing
 with_record store (Some bytes) = after_file (with_events 1 store (events_of bytes))
 
+-- the store at genesis, unless the genesis block clashes
+unfoldable pub with_store : Option ClashKind → Store → Option (List ℕ) → Run
+with_store (Some kind) store events = over (clash 0 0 kind 0)
+with_store None store events = with_record store events
+
 -- the genesis state, or its first fault
-unfoldable pub with_state : Result PlainState GenesisFault → Option (List ℕ) → Run
-with_state (Err part) events = over (bad_genesis part)
-with_state (Ok state) events = with_record (store_at state.genesis_time (header_root_of state)) events
+unfoldable pub with_state : ConfigValues → Result PlainState GenesisFault → Option (List ℕ) → Run
+with_state config (Err part) events = over (bad_genesis part)
+with_state config (Ok state) events = with_store (genesis_clash state) (get_forkchoice_store config state) events
 
 -- the genesis file, if it is there
 unfoldable pub with_genesis : ConfigValues → Option (List ℕ) → Option (List ℕ) → Run
 with_genesis config None events = missing
-with_genesis config (Some bytes) events = after_file (with_state (genesis_of config.preset bytes) events)
+with_genesis config (Some bytes) events = after_file (with_state config (genesis_of config.preset bytes) events)
 
 -- the configuration, or its first fault
 unfoldable pub with_config : Result ConfigValues ConfigFault → Option (List ℕ) → Option (List ℕ) → Run

@@ -1,47 +1,9 @@
-//! Runs the program on recorded cases, and compares its lines and its status with what an independent implementation
-//! gives. Each case is also run over files that are handed out at most 1, 3 and 7 bytes at a time.
-//!
-//! `data/cases` lists the cases. Each is a folder of `data/` with the files that its words name, the expected lines
-//! `stdout` and the expected `status`; a file that isn't there is that of the folder `common`. A file `NAME.filled` says
-//! how NAME goes on: a byte, and how often it comes again. The calls of the shelf and of the sink that are to fail stand
-//! in `failing_calls` and `failing_writes`, by their numbers.
+//! Runs the program on recorded configurations, genesis states and records of ticks, and where the outside fails.
 #![tactic(auto)]
 
-mod case;
-mod expected;
-
 use anyhow::Result;
-use case::Case;
-use std::fs;
-
-/// How many bytes the shelf hands out at once, one run each. The first is no bound.
-const PIECES: [usize; 4] = [1 << 40, 7, 3, 1];
-
-/// Runs one case in each cutting, and prints one line.
-fn run_case<R: std::rt::Files + Print + AllocGlobal>(rt: &R, name: &str) -> Result<bool> {
-    let case = Case::load(rt, name)?;
-    for piece in PIECES {
-        let answer = case.run(rt.alloc(), piece)?;
-        if let Some(difference) = case.difference(rt.alloc(), &answer)? {
-            println!(rt; "{name}: pieces of {piece}: {difference}")?;
-            return Ok(false);
-        }
-    }
-    println!(rt; "{name}: {}", case.status())?;
-    Ok(true)
-}
+use run_cases::run_all;
 
 fn main(rt: HostRuntime) -> Result<()> {
-    let cases = fs::read_to_string(&rt, "cases")?;
-    let mut passed = 0u32;
-    let mut failed = 0u32;
-    for name in cases.lines() {
-        if run_case(&rt, name)? {
-            passed = passed.saturating_add(1);
-        } else {
-            failed = failed.saturating_add(1);
-        }
-    }
-    println!(rt; "{passed} as expected, {failed} not")?;
-    Ok(())
+    run_all(&rt)
 }

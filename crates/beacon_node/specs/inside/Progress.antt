@@ -4,14 +4,33 @@ use Rattle.bc_outside.specs.Told.{ShelfTold}
 use Rattle.record_file.specs.Record.{most_events}
 use Rattle.record_file.specs.Frames.{CanFollow}
 use Rattle.record_file.specs.Sources.{Source, TakesFrom}
-use Rattle.spec_replay.specs.Ticks.{Store}
-use Rattle.spec_replay.specs.Run.{Run, after_lines, with_events}
+use Rattle.record_file.specs.declared.event.Event.{Event}
+use Rattle.bc_words.specs.Events.{EventOutcome, event_limited, event_clashes}
+use Rattle.spec_fork_choice.specs.Store.{Store}
+use Rattle.spec_fork_choice.specs.OnEvent.{Accepted, on_event}
+use Rattle.spec_replay.specs.Run.{Run, after_lines, event_then, with_events}
 use Rattle.beacon_node.specs.declared.status.Status.{Status}
+use Rattle.beacon_node.specs.declared.status.Status.TheVariants as statuses
 use Rattle.beacon_node.specs.Answers.{breaks_off, lags, end_of, WritesLines}
 
 -- the run of the events that are to come, where these bytes are those that can still be taken
 abbrev pub rest_of : Store → Source → List ℕ → Run
 rest_of store place behind = with_events (place.events + 1) store (place.coming behind)
+
+-- what the store's handler gives of an event
+abbrev pub outcome_of : Store → Event → EventOutcome (Store × Accepted)
+outcome_of store event = on_event store event.kind event.payload
+
+-- The event with this number has this line, and the store after it is the second one.
+abbrev pub HasLine : ℕ → Event → Store → Store → List ℕ → Type 0
+HasLine number event old new line = (rest : Store → Run) → event_then number event.kind old (outcome_of old event) rest ≡ after_lines line (rest new)
+
+-- The run ends at the event with this number with this status: at a bound, a clash, or for want of memory.
+abbrev pub EndsAt : Status → ℕ → EventOutcome (Store × Accepted) → Type 0
+EndsAt (statuses.Limit which event limit) number outcome = (which ≡ 0) × (event ≡ number) × (outcome ≡ event_limited limit)
+EndsAt (statuses.Clash which event kind kept_which) number outcome = (which ≡ 0) × (event ≡ number) × (kept_which ≡ 0) × (outcome ≡ event_clashes kind)
+EndsAt statuses.NoMemory number outcome = Unit {0}
+EndsAt _ number outcome = ⊥
 
 -- Bytes were taken, the lines of the events in front were written, and the run of the others is to come.
 pub record Progress (store : Store) (place : Source) (told : ShelfTold) (written : List ℕ)

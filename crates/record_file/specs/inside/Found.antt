@@ -3,7 +3,7 @@ use Rattle.std.specs.Prelude.{◌≡◌, ℕ, ◌+◌, ◌≤◌, Bool, true, fa
 use Rattle.record_file.specs.declared.fault.RecordFault.TheVariants.{Torn}
 use Rattle.record_file.specs.declared.found.Found.{Found}
 use Rattle.record_file.specs.declared.found.Found.TheVariants as found
-use Rattle.record_file.specs.Record.{FrameRead, ended, faulted, framed, is_run, longest_payload}
+use Rattle.record_file.specs.Record.{FrameRead, ended, faulted, framed, is_kind, longest_payload}
 
 -- what was found, as what stands at a place of a record
 abbrev pub read_of : Found → List ℕ → FrameRead
@@ -15,7 +15,7 @@ read_of (found.Frame kind size) bytes = framed (record { kind = kind; payload = 
 abbrev pub IsWhole : Found → List ℕ → Type 0
 IsWhole found.Ended bytes = Unit {0}
 IsWhole (found.Fault reason) bytes = Unit {0}
-IsWhole (found.Frame kind size) bytes = (5 + size ≤ length bytes) × (size ≤ longest_payload) × (is_run kind ≡ true)
+IsWhole (found.Frame kind size) bytes = (5 + size ≤ length bytes) × (size ≤ longest_payload) × (is_kind kind ≡ true)
 
 -- whether more bytes may change what was found: there was no byte, or a frame that is cut
 abbrev pub is_short : Found → Bool

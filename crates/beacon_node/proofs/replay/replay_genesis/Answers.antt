@@ -12,17 +12,16 @@ returns-in-Err-clause-answers g c =
 
 pub returns-in-Ok-read_genesis-clause-answers : goal.returns-in-Ok-read_genesis-clause-answers
 returns-in-Ok-read_genesis-clause-answers g c =
-    let gives : GivesGenesis (Ok c.in-Ok-read_genesis.genesis) (genesis_of c.args.config.now.preset c.in-Ok.bytes.items) = rw (c.preset.ensures.exact, c.deref.ensures.value) at c.in-Ok-read_genesis.ensures in
-    let more = c.replay_record.ensures.answers in
-    genesis_goes_on c.args.config.now c.args.genesis_name.now c.args.record_name.now c.in-Ok.bytes.items _ _ c.in-Ok.ensures.reads _ _ _ c.in-Ok-read_genesis.genesis c.replay_record.result gives (rw c.at_genesis-store.ensures at more)
+    let gives : GivesGenesis (Ok c.in-Ok-read_genesis.state) (genesis_of c.args.config.now.preset c.in-Ok.bytes.items) = rw (c.preset.ensures.exact, c.deref.ensures.value) at c.in-Ok-read_genesis.ensures.gives in
+    genesis_goes_on c.args.config.now c.args.genesis_name.now c.args.record_name.now c.in-Ok.bytes.items _ _ c.in-Ok.ensures.reads _ _ _ c.in-Ok-read_genesis.state c.replay_from.result gives c.replay_from.ensures.answers
 
 pub returns-in-Err-read_genesis-clause-answers : goal.returns-in-Err-read_genesis-clause-answers
 returns-in-Err-read_genesis-clause-answers g c =
-    let gives : GivesGenesis (Err c.in-Err-read_genesis.stop) (genesis_of c.args.config.now.preset c.in-Ok.bytes.items) = rw (c.preset.ensures.exact, c.deref.ensures.value) at c.in-Err-read_genesis.ensures in
+    let gives : GivesGenesis (Err c.in-Err-read_genesis.stop) (genesis_of c.args.config.now.preset c.in-Ok.bytes.items) = rw (c.preset.ensures.exact, c.deref.ensures.value) at c.in-Err-read_genesis.ensures.gives in
     rw c.no_genesis.ensures (genesis_stops c.args.config.now c.args.genesis_name.now c.args.record_name.now c.in-Ok.bytes.items _ _ c.in-Ok.ensures.reads _ c.in-Err-read_genesis.stop gives)
 
 pub returns-in-Ok-read_genesis-clause-shelf : goal.returns-in-Ok-read_genesis-clause-shelf
-returns-in-Ok-read_genesis-clause-shelf g c = keeps_then (c.args.genesis_name.now ∷ []) (c.args.record_name.now ∷ []) c.read_named.ensures.keeps c.replay_record.ensures.shelf
+returns-in-Ok-read_genesis-clause-shelf g c = keeps_then (c.args.genesis_name.now ∷ []) (c.args.record_name.now ∷ []) c.read_named.ensures.keeps c.replay_from.ensures.shelf
 
 pub returns-in-Err-clause-shelf : goal.returns-in-Err-clause-shelf
 returns-in-Err-clause-shelf g c = keeps_more (c.args.genesis_name.now ∷ []) (c.args.record_name.now ∷ []) c.read_named.ensures.keeps

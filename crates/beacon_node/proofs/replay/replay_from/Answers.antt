@@ -1,0 +1,11 @@
+-- The store at genesis doesn't open, or the record comes next.
+use Rattle.beacon_node.proofs.Readers.{opened_goes_on, opening_over}
+use Rattle.beacon_node.proofs.replay.replay_from.Goals as goal
+
+pub returns-in-Err-clause-answers : goal.returns-in-Err-clause-answers
+returns-in-Err-clause-answers g c =
+    rw c.no_store.ensures (opening_over c.args.config.now c.args.genesis c.args.record_name.now c.in-Err.stop _ _ c.in-Err.ensures)
+
+pub returns-clause-answers : goal.returns-clause-answers
+returns-clause-answers g c =
+    opened_goes_on c.args.config.now c.args.genesis c.in-Ok.store c.args.record_name.now c.replay_record.result _ _ _ _ c.in-Ok.ensures c.replay_record.ensures.answers

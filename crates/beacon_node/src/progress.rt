@@ -1,0 +1,180 @@
+//! The progress of a run, on a terminal beside a file of lines.
+//!
+//! The shelf and the writer of a run are wrapped, and count what passes: the bytes of the record, and the lines, one an
+//! event. No answer depends on it: contracts see both as what they wrap.
+
+ghost use Rattle.std.specs.Prelude.{◌≡◌, ◌<◌, ◌^◌, [], ◌∷◌, length};
+ghost use Rattle.bc_outside.specs.Calls.{FailsOnlyBy, Opens, Reads, ShelfKeeps};
+
+use bc_outside::{Shelf, Trouble};
+use std::cell::Cell;
+use std::io;
+use std::io::{Eprint, IsTerminal, Print, Write};
+use std::time::{Clock, Duration};
+
+/// The file of the record, by the order of the command's words.
+const RECORD: u32 = 2;
+
+/// How much time passes between one show and the next, in milliseconds.
+const PAUSE: u64 = 200;
+
+/// Whether a run shows its progress.
+#[derive(Clone, Copy, Debug, PartialEq, Eq)]
+pub enum Progress {
+    /// On standard error.
+    Shown,
+    /// Nowhere.
+    Hidden,
+}
+
+impl Progress {
+    /// Progress is shown where the lines don't go to a terminal, and standard error does.
+    pub fn beside<O: IsTerminal, E: IsTerminal>(out: &O, err: &E) -> Progress {
+        if err.is_terminal() && !out.is_terminal() {
+            Progress::Shown
+        } else {
+            Progress::Hidden
+        }
+    }
+}
+
+/// What a run did so far, and when it was shown last.
+#[derive(Drop)]
+pub struct Watch<'a, R: Eprint + Clock> {
+    rt: &'a R,
+    progress: Progress,
+    events: Cell<u64>,
+    bytes: Cell<u64>,
+    // When it was shown last, or the run's beginning.
+    shown: Cell<Duration>,
+    is_dirty: Cell<bool>,
+}
+
+impl<'a, R: Eprint + Clock> Watch<'a, R> {
+    /// A run that did nothing yet.
+    pub fn new(rt: &'a R, progress: Progress) -> Self {
+        Watch {
+            rt,
+            progress,
+            events: Cell::new(0),
+            bytes: Cell::new(0),
+            shown: Cell::new(rt.monotonic().unwrap_or(Duration::ZERO)),
+            is_dirty: Cell::new(false),
+        }
+    }
+
+    /// Shows the progress in place of what was shown before.
+    fn show(&self) {
+        let events = self.events.get();
+        let bytes = self.bytes.get();
+        let _ = eprint!(self.rt; "\r{events} events, {bytes} bytes of the record");
+        self.is_dirty.set(true);
+    }
+
+    /// Shows the progress where it was not shown for long enough.
+    fn show_again(&self) {
+        let Ok(now) = self.rt.monotonic() else {
+            return;
+        };
+        if now.saturating_sub(self.shown.get()) >= Duration::from_millis(PAUSE) {
+            self.shown.set(now);
+            self.show();
+        }
+    }
+
+    /// Counts bytes that were read of the record.
+    fn count_bytes(&self, count: usize) {
+        self.bytes
+            .set(self.bytes.get().saturating_add(count as u64));
+    }
+
+    /// Counts a line where it ends in bytes that were written: no write has more than one.
+    fn count_lines(&self, bytes: &[u8]) {
+        if self.progress == Progress::Shown && bytes.contains(&b'\n') {
+            self.events.set(self.events.get().saturating_add(1));
+            self.show_again();
+        }
+    }
+
+    /// Clears what was shown.
+    pub fn clear(&self) {
+        if self.is_dirty.get() {
+            let _ = eprint!(self.rt; "\r\x1b[K");
+        }
+    }
+}
+
+/// A shelf that counts what is read of the record.
+#[derive(Drop)]
+pub struct WatchedShelf<'a, 'b, F: Shelf + Drop, R: Eprint + Clock> {
+    shelf: F,
+    watch: &'a Watch<'b, R>,
+}
+
+impl<'a, 'b, F: Shelf + Drop, R: Eprint + Clock> WatchedShelf<'a, 'b, F, R> {
+    /// The same shelf, watched.
+    pub fn new(shelf: F, watch: &'a Watch<'b, R>) -> Self
+        ensures { result.shelf ≡ shelf }
+    {
+        WatchedShelf { shelf, watch }
+    }
+
+    /// The shelf itself.
+    pub fn shelf(&self) -> &F
+        ensures { result.now ≡ self.now.shelf }
+    {
+        &self.shelf
+    }
+}
+
+impl<'a, 'b, F: Shelf + Drop, R: Eprint + Clock> Shelf for WatchedShelf<'a, 'b, F, R> {
+    ghost told = { λ watched. F.told watched.shelf };
+
+    fn open(&mut self, name: &str) -> Result<u32, Trouble>
+        requires { length (F.told self.old.shelf).files < 2 ^ 32 }
+        ensures opens { Opens name.now result (F.told self.old.shelf) (F.told self.new.shelf) }
+        ensures causes { FailsOnlyBy result (F.told self.old.shelf).faults (F.told self.new.shelf).faults }
+        ensures keeps { ShelfKeeps (name.now ∷ []) (F.told self.old.shelf) (F.told self.new.shelf) }
+    {
+        self.shelf.open(name)
+    }
+
+    fn read(&mut self, file: u32, into: &mut [u8]) -> Result<usize, Trouble>
+        requires { file < length (F.told self.old.shelf).files }
+        ensures reads { Reads file into.old into.new result (F.told self.old.shelf) (F.told self.new.shelf) }
+        ensures causes { FailsOnlyBy result (F.told self.old.shelf).faults (F.told self.new.shelf).faults }
+        ensures keeps { ShelfKeeps [] (F.told self.old.shelf) (F.told self.new.shelf) }
+    {
+        let count = self.shelf.read(file, into)?;
+        if file == RECORD {
+            self.watch.count_bytes(count);
+        }
+        Ok(count)
+    }
+}
+
+/// Standard output, with its lines counted.
+#[derive(Drop)]
+pub struct WatchedOut<'a, 'b, R: Print + Eprint + Clock> {
+    to: &'b R,
+    watch: &'a Watch<'b, R>,
+}
+
+impl<'a, 'b, R: Print + Eprint + Clock> WatchedOut<'a, 'b, R> {
+    /// What the runtime prints, watched.
+    pub fn new(to: &'b R, watch: &'a Watch<'b, R>) -> Self {
+        WatchedOut { to, watch }
+    }
+}
+
+impl<R: Print + Eprint + Clock> Write for WatchedOut<'_, '_, R> {
+    fn write(&mut self, buf: &[u8]) -> io::Result<usize> {
+        let n = self.to.write_some(buf)?;
+        self.watch.count_lines(&buf[..n]);
+        Ok(n)
+    }
+
+    fn flush(&mut self) -> io::Result<()> {
+        Ok(())
+    }
+}

@@ -1,0 +1,163 @@
+//! One case: its words, the files that they name, and what is expected of them.
+
+use crate::expected::status_text;
+use anyhow::{Context, Result};
+use bc_outside::{MemoryFile, MemoryShelf, MemorySink};
+use beacon_node::beacon_main;
+use std::alloc::Global;
+use std::rt::Files;
+use std::{fs, io};
+
+/// A case, with its files in memory.
+#[derive(Drop)]
+pub struct Case {
+    words: Vec<String>,
+    files: Vec<(String, Vec<u8>)>,
+    failing_calls: Vec<u64>,
+    failing_writes: Vec<u64>,
+    pieces: Vec<u64>,
+    lines: Vec<u8>,
+    status: String,
+}
+
+/// What the program answered.
+#[derive(Drop)]
+pub struct Answer {
+    lines: Vec<u8>,
+    status: String,
+}
+
+/// The bytes of a file, None where there is no such file.
+fn bytes_at<R: Files + AllocGlobal>(rt: &R, path: &str) -> Result<Option<Vec<u8>>> {
+    match fs::read(rt, path) {
+        Ok(bytes) => Ok(Some(bytes)),
+        Err(error) if error.kind() == io::ErrorKind::NotFound => Ok(None),
+        Err(error) => Err(error.into()),
+    }
+}
+
+/// The text of a file.
+fn text_at<R: Files + AllocGlobal>(rt: &R, path: &str) -> Result<Option<String>> {
+    match fs::read_to_string(rt, path) {
+        Ok(text) => Ok(Some(text)),
+        Err(error) if error.kind() == io::ErrorKind::NotFound => Ok(None),
+        Err(error) => Err(error.into()),
+    }
+}
+
+/// Adds the byte that a note names, as often as it says.
+fn fill(bytes: &mut Vec<u8>, note: &str) -> Result<()> {
+    let (byte, count) = note.trim().split_once(' ').context("a byte and a count")?;
+    let byte: u8 = byte.parse()?;
+    let count: u32 = count.parse()?;
+    for _ in 0..count {
+        bytes.push(byte)?;
+    }
+    Ok(())
+}
+
+/// A file of the case, or the common one of that name, if there is either.
+fn load_file<R: Files + AllocGlobal>(rt: &R, case: &str, name: &str) -> Result<Option<Vec<u8>>> {
+    let alloc = rt.alloc();
+    let own = format!(in alloc; "{case}/{name}")?;
+    let common = format!(in alloc; "common/{name}")?;
+    let mut bytes = match bytes_at(rt, own.as_str())? {
+        Some(bytes) => bytes,
+        None => return bytes_at(rt, common.as_str()),
+    };
+    let note = format!(in alloc; "{own}.filled")?;
+    if let Some(note) = text_at(rt, note.as_str())? {
+        fill(&mut bytes, note.as_str())?;
+    }
+    Ok(Some(bytes))
+}
+
+/// A text of the case, or the common one of that name; empty where there is neither.
+fn load_text<R: Files + AllocGlobal>(rt: &R, case: &str, name: &str) -> Result<String> {
+    match load_file(rt, case, name)? {
+        Some(bytes) => Ok(String::from_utf8(bytes).ok().context("a text")?),
+        None => Ok(String::new(rt.alloc())),
+    }
+}
+
+/// The numbers of a text, one a line.
+fn load_numbers<R: Files + AllocGlobal>(rt: &R, case: &str, name: &str) -> Result<Vec<u64>> {
+    let text = load_text(rt, case, name)?;
+    let mut numbers = Vec::new(rt.alloc());
+    for line in text.lines() {
+        let number: u64 = line.parse()?;
+        numbers.push(number)?;
+    }
+    Ok(numbers)
+}
+
+impl Case {
+    /// Reads the case of this name.
+    pub fn load<R: Files + AllocGlobal>(rt: &R, name: &str) -> Result<Case> {
+        let alloc = rt.alloc();
+        let words = load_text(rt, name, "words")?;
+        let lines = load_file(rt, name, "stdout")?.unwrap_or(Vec::new(alloc));
+        let status = load_text(rt, name, "status")?;
+        let mut case = Case {
+            words: Vec::new(alloc),
+            files: Vec::new(alloc),
+            failing_calls: load_numbers(rt, name, "failing_calls")?,
+            failing_writes: load_numbers(rt, name, "failing_writes")?,
+            pieces: load_numbers(rt, name, "pieces")?,
+            lines,
+            status: status.trim().to_string(alloc)?,
+        };
+        for word in words.lines() {
+            case.words.push(word.to_string(alloc)?)?;
+            if let Some(bytes) = load_file(rt, name, word)? {
+                case.files.push((word.to_string(alloc)?, bytes))?;
+            }
+        }
+        Ok(case)
+    }
+
+    /// The expected status.
+    pub fn status(&self) -> &str {
+        self.status.as_str()
+    }
+
+    /// How many bytes a call hands out at most, for each run of the case.
+    pub fn pieces(&self) -> &[u64] {
+        self.pieces.as_slice()
+    }
+
+    /// Runs the program over files that are handed out in pieces of at most so many bytes.
+    pub fn run(&self, alloc: Global, piece: u64) -> Result<Answer> {
+        let mut files = Vec::new(alloc);
+        for (name, bytes) in &self.files {
+            files.push(MemoryFile::new(name.clone()?, Vec::from_slice(alloc, bytes)?))?;
+        }
+        let calls = self.failing_calls.clone()?;
+        let writes = self.failing_writes.clone()?;
+        let piece = (piece as usize).max(1);
+        let mut shelf = MemoryShelf::new(alloc, files, calls, piece);
+        let mut sink = MemorySink::new(alloc, writes, piece);
+        let status = beacon_main(alloc, &self.words, &mut shelf, &mut sink);
+        Ok(Answer {
+            lines: Vec::from_slice(alloc, sink.written())?,
+            status: status_text(alloc, &status)?,
+        })
+    }
+
+    /// What is not as expected, if anything is.
+    pub fn difference(&self, alloc: Global, answer: &Answer) -> Result<Option<String>> {
+        if answer.status.as_str() != self.status.as_str() {
+            let expected = self.status.as_str();
+            let found = answer.status.as_str();
+            return Ok(Some(format!(in alloc; "expected {expected}, found {found}")?));
+        }
+        if answer.lines.as_slice() != self.lines.as_slice() {
+            let expected = self.lines.len();
+            let found = answer.lines.len();
+            return Ok(Some(format!(in alloc;
+                "expected other lines ({expected} bytes, found {found})"
+            )?));
+        }
+        Ok(None)
+    }
+}
