@@ -1,5 +1,5 @@
 -- The configuration's file, the genesis file and the record as steps of a run.
-use Rattle.std.proofs.Common.{◌≡◌, ℕ, true, false, List, [], ◌∷◌, ◌++◌, take, Option, Some, None, Ok, Err, refl, sym, ap, ◌∙◌, arith, append-nil}
+use Rattle.std.proofs.Common.{◌≡◌, ◌≤◌, ℕ, true, false, List, [], ◌∷◌, ◌++◌, length, take, Option, Some, None, Ok, Err, refl, sym, ap, ◌∙◌, arith, append-nil}
 use Rattle.bc_outside.specs.Told.{ShelfTold}
 use Rattle.bc_outside.specs.Calls.{Opened}
 use Rattle.bc_outside.specs.declared.trouble.Trouble.{Trouble}
@@ -19,7 +19,7 @@ use Rattle.spec_state.specs.declared.plain.PlainState.{PlainState}
 use Rattle.spec_fork_choice.specs.Store.{Store}
 use Rattle.spec_fork_choice.specs.GetForkchoiceStore.{get_forkchoice_store}
 use Rattle.spec_fork_choice.specs.OnEvent.{genesis_clash, open_unless, open_store}
-use Rattle.fork_store.specs.inside.Handled.{Opens}
+use Rattle.bc_words.specs.Events.{StoreStops}
 use Rattle.spec_replay.specs.Run.{with_files, with_config, with_genesis, with_state, with_store, with_record, with_events}
 use Rattle.spec_replay.specs.Words.{ReplayFiles}
 use Rattle.beacon_node.specs.declared.status.Status.{Status}
@@ -128,6 +128,13 @@ unfolding open_unless
 opened_without (Some other) store opened e = cc
 opened_without None store opened e = (refl, cc)
 
+-- a store that opened keeps one block
+pub one_block : (config : ConfigValues) (genesis : PlainState) (store : Store) → open_store config genesis ≡ accepted store → length store.blocks ≤ 1
+unfolding open_store get_forkchoice_store
+one_block config genesis store is =
+    let opened = opened_without (genesis_clash genesis) (get_forkchoice_store config genesis) store is in
+    rw opened.1 (omega arith)
+
 -- The store opened, and the record comes next.
 pub opened_goes_on : (config : ConfigValues) (genesis : PlainState) (store : Store) (name : List ℕ) (status : Status) (s t : ShelfTold) (w x : List ℕ) → open_store config genesis ≡ accepted store
     → Replayed (λ contents. with_record store (contents name)) (λ contents opened. with_record store (taken_of 0 opened)) (name ∷ []) status s t w x
@@ -151,7 +158,7 @@ no_store_over config genesis name s w = record {
   };
 }
 
-pub opening_over : (config : ConfigValues) (genesis : PlainState) (name : List ℕ) (stop : StoreStop) (s : ShelfTold) (w : List ℕ) → Opens (Err stop) (open_store config genesis)
+pub opening_over : (config : ConfigValues) (genesis : PlainState) (name : List ℕ) (stop : StoreStop) (s : ShelfTold) (w : List ℕ) → StoreStops stop (open_store config genesis)
     → Replayed (λ contents. run_from config genesis (contents name)) (λ contents opened. run_from config genesis (taken_of 0 opened)) (name ∷ []) (no_store stop) s s w w
 unfolding open_store with_store
 opening_over config genesis name (stores.Clash kind) s w is = record {

@@ -1,6 +1,6 @@
 //! The record of a run: each event is read, handed to the store, and answered by a line.
 
-ghost use Rattle.std.specs.Prelude.{◌≡◌, ◌≢◌, ◌<◌, ◌^◌, [], ◌∷◌, length, IfSome, IfNone, IfOk, IfErr, Ok};
+ghost use Rattle.std.specs.Prelude.{◌≡◌, ◌≢◌, ◌<◌, ◌≤◌, ◌+◌, ◌-◌, ◌^◌, [], ◌∷◌, length, IfSome, IfNone, IfOk, IfErr, Ok};
 ghost use Rattle.bc_outside.specs.Calls.{ShelfKeeps, SinkKeeps};
 ghost use Rattle.spec_replay.specs.Run.{with_record};
 ghost use Rattle.record_file.specs.Sources.{IsOpenedFile};
@@ -29,17 +29,19 @@ fn line_or_status(line: Result<Vec<u8>, NoMemory>) -> Result<Vec<u8>, Status>
 }
 
 /// Hands the event to the store, and makes its line. The status where the event ends the run.
-#[tactic(auto, unfolding(spec_replay::specs::Run::event_then))]
+#[tactic(auto, using(spec_fork_choice::proofs::Grows::event_keeps_one_more), unfolding(spec_replay::specs::Run::event_then))]
 fn handle_event(
     alloc: Global,
     number: u32,
     event: &Event,
     store: &mut Store,
 ) -> Result<Vec<u8>, Status>
+    requires few { length store.old.blocks < 2 ^ 32 - 1 }
+    ensures few { IfOk result (λ _. length store.new.blocks ≤ length store.old.blocks + 1) }
     ensures line { IfOk result (λ line. HasLine number event.now store.old store.new line.items) }
     ensures over { IfErr result (λ status. EndsAt status number (outcome_of store.old event.now)) }
 {
-    match store.on_event(event.kind, event.payload.as_slice()) {
+    match store.on_event(alloc, event.kind, event.payload.as_slice()) {
         Ok(given) => line_or_status(accepted_line(alloc, u64::from(number), event.kind, &given, store)),
         Err(StoreStop::Refused(refusal)) => {
             line_or_status(refused_line(alloc, u64::from(number), event.kind, refusal, store))
@@ -92,7 +94,9 @@ fn replay_event<S: EventSource, F: Shelf, O: Sink>(
     shelf: &mut F,
     out: &mut O,
 ) -> Option<Status>
-    requires { IsOpenedFile (S.seen source.old).file (F.told shelf.old) }
+    requires opened { IsOpenedFile (S.seen source.old).file (F.told shelf.old) }
+    requires few { length store.old.blocks ≤ (S.seen source.old).events + 1 }
+    ensures few { IfNone result (length store.new.blocks ≤ (S.seen source.new).events + 1) }
     ensures goes_on { IfNone result (Progress store.old (S.seen source.old) (F.told shelf.old) (O.told out.old).taken
         store.new (S.seen source.new) (F.told shelf.new) (O.told out.new).taken × OneMore (S.seen source.old) (S.seen source.new)) }
     ensures over { IfSome result (λ status. EventsOver status store.old (S.seen source.old) (F.told shelf.old) (F.told shelf.new)
@@ -125,7 +129,8 @@ fn replay_events<S: EventSource, F: Shelf, O: Sink>(
     shelf: &mut F,
     out: &mut O,
 ) -> Status
-    requires { IsOpenedFile (S.seen source.old).file (F.told shelf.old) }
+    requires opened { IsOpenedFile (S.seen source.old).file (F.told shelf.old) }
+    requires few { length store.old.blocks ≤ (S.seen source.old).events + 1 }
     ensures over { EventsOver result store.old (S.seen source.old) (F.told shelf.old) (F.told shelf.new) (O.told out.old).taken (O.told out.new).taken }
     ensures causes { HasCauses result (F.told shelf.old).faults (F.told shelf.new).faults (O.told out.old).faults (O.told out.new).faults }
     ensures command { result ≢ Status.Words }
@@ -147,7 +152,8 @@ pub fn replay_record<F: Shelf, O: Sink>(
     shelf: &mut F,
     out: &mut O,
 ) -> Status
-    requires { length (F.told shelf.old).files < 2 ^ 32 }
+    requires opened { length (F.told shelf.old).files < 2 ^ 32 }
+    requires few { length store.old.blocks ≤ 1 }
     ensures answers { Replayed (λ contents. with_record store.old (contents name.now)) (λ contents opened. with_record store.old (taken_of 0 opened))
         (name.now ∷ []) result (F.told shelf.old) (F.told shelf.new) (O.told out.old).taken (O.told out.new).taken }
     ensures causes { HasCauses result (F.told shelf.old).faults (F.told shelf.new).faults (O.told out.old).faults (O.told out.new).faults }

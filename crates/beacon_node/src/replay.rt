@@ -46,6 +46,7 @@ fn no_store(stop: StoreStop) -> Status
 }
 
 /// Opens the store at genesis, and reads the record.
+#[tactic(auto, using(crate::proofs::Readers::one_block))]
 fn replay_from<F: Shelf, O: Sink>(
     alloc: Global,
     config: &Config,

@@ -11,18 +11,20 @@ events-init g c = record {
   progress = no_progress c.args.store.now (g.S.EventSource.seen c.args.source.now) (g.F.Shelf.told c.args.shelf.now) (g.O.Sink.told c.args.out.now).taken;
   shelf = keeps_none (g.F.Shelf.told c.args.shelf.now);
   sink = sink_keeps_none (g.O.Sink.told c.args.out.now);
+  few = c.requires.few;
 }
 
-pub replay_event-requires : goal.replay_event-requires
-replay_event-requires g c =
+pub replay_event-requires-clause-opened : goal.replay_event-requires-clause-opened
+replay_event-requires-clause-opened g c =
     subst (λ file. IsOpenedFile file (g.F.Shelf.told c.events.shelf)) (sym c.events.invariant.progress.file)
-    (opened_on (g.S.EventSource.seen c.args.source.now).file (g.F.Shelf.told c.args.shelf.now) (g.F.Shelf.told c.events.shelf) c.events.invariant.shelf.opened c.requires)
+    (opened_on (g.S.EventSource.seen c.args.source.now).file (g.F.Shelf.told c.args.shelf.now) (g.F.Shelf.told c.events.shelf) c.events.invariant.shelf.opened c.requires.opened)
 
 pub events-preserved : goal.events-preserved
 events-preserved g c = record {
   progress = progress_then c.events.invariant.progress c.in_default.ensures.goes_on.0;
   shelf = keeps_then [] [] c.events.invariant.shelf c.replay_event.ensures.shelf;
   sink = sink_keeps_then c.events.invariant.sink c.replay_event.ensures.sink;
+  few = c.in_default.ensures.few;
 }
 
 pub returns-in-Some-clause-over : goal.returns-in-Some-clause-over

@@ -1,5 +1,5 @@
 -- So far the lines of some events were written, and the others are still to come.
-use Rattle.std.proofs.Common.{◌-◌, []}
+use Rattle.std.proofs.Common.{◌-◌, ◌+◌, ◌≤◌, [], length}
 use Rattle.bc_outside.specs.Calls.{ShelfKeeps, SinkKeeps}
 use Rattle.record_file.specs.Record.{most_events}
 use Rattle.beacon_node.specs.inside.Progress.{Progress}
@@ -10,6 +10,7 @@ invariant-events g l = record {
   progress : Progress l.initial.store (g.S.EventSource.seen l.initial.source) (g.F.Shelf.told l.initial.shelf) (g.O.Sink.told l.initial.out).taken l.store (g.S.EventSource.seen l.source) (g.F.Shelf.told l.shelf) (g.O.Sink.told l.out).taken;
   shelf : ShelfKeeps [] (g.F.Shelf.told l.initial.shelf) (g.F.Shelf.told l.shelf);
   sink : SinkKeeps (g.O.Sink.told l.initial.out) (g.O.Sink.told l.out);
+  few : length l.store.blocks ≤ (g.S.EventSource.seen l.source).events + 1;
 }
 
 abbrev pub decreases-events : goal.decreases-events
