@@ -2,6 +2,8 @@
 //!
 //! It comes from the store's handler of blocks, and goes to lines and to whoever follows justification.
 
+ghost use Rattle.std.specs.Prelude.{◌≡◌};
+
 use hash_tree::Root;
 use std::marker::Model;
 use transition::States;
@@ -25,4 +27,20 @@ impl Model for BlockIn {
     ghost view = { λ b. record { root = b.root; state_root = b.state_root; entered = b.entered } };
 
     ghost invariant = { λ b. Unit {0} };
+}
+
+impl BlockIn {
+    /// The block's root.
+    pub fn root(&self) -> Root
+        ensures { result ≡ self.now.root }
+    {
+        self.root
+    }
+
+    /// The root of the state behind it.
+    pub fn state_root(&self) -> Root
+        ensures { result ≡ self.now.state_root }
+    {
+        self.state_root
+    }
 }
