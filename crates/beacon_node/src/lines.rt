@@ -84,7 +84,7 @@ fn push_finalized_label(line: &mut Vec<u8>) -> Result<(), AllocError>
 fn push_head(line: &mut Vec<u8>, alloc: Global, store: &Store) -> Result<(), NoMemory>
     ensures { OnOk result (line.new.items ≡ line.old.items ++ root_text (get_head store.now)) }
 {
-    let head = store.head()?;
+    let head = store.head(alloc)?;
     push_root(line, alloc, &head)?;
     Ok(())
 }

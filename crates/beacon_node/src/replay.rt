@@ -56,7 +56,7 @@ fn replay_from<F: Shelf, O: Sink>(
     out: &mut O,
 ) -> Status
     requires few { length (F.told shelf.old).files < 2 ^ 32 }
-    requires preset { config.now.preset ≡ genesis.preset }
+    requires preset { genesis.preset ≡ config.now.preset }
     requires checked { genesis_fault genesis ≡ None }
     ensures answers { Replayed (λ contents. run_from config.now genesis (contents record_name.now)) (λ contents opened. run_from config.now genesis (taken_of 0 opened))
         (record_name.now ∷ []) result (F.told shelf.old) (F.told shelf.new) (O.told out.old).taken (O.told out.new).taken }
