@@ -2,7 +2,7 @@
 //!
 //! The payload's bytes come from a record; the store changes, and what an accepted block leaves goes to the event's line.
 
-ghost use Rattle.std.specs.Prelude.{◌≡◌, ◌≤◌, ◌<◌, ◌-◌, ◌^◌, length};
+ghost use Rattle.std.specs.Prelude.{◌≡◌, ◌<◌, ◌-◌, ◌^◌, length};
 ghost use Rattle.beacon_body.specs.Containers.{signed_block_codec, attestation_codec};
 ghost use Rattle.spec_fork_choice.specs.OnTick.{on_tick};
 ghost use Rattle.spec_fork_choice.specs.OnAttestation.{on_attestation};
@@ -96,8 +96,9 @@ fn handle_attestation(
 }
 
 impl Store {
-    /// Takes an event by its kind: 1 a tick, 2 a block, 3 an attestation from the wire, 4 an attestation from a block. The
-    /// block of an accepted block event is answered, and nothing for another kind.
+    /// Takes an event by its kind: 1 a tick, 2 a block, 3 an attestation from the wire, 4 an attestation from a block. A record
+    /// has no other kind, and one would be taken as 3. The block of an accepted block event is answered, and nothing for the
+    /// others.
     ///
     /// Refused as `Malformed` where the payload isn't the writing of such an event, and refused, limited and clashing as its
     /// handler is. After a stop the store is as before.
@@ -108,8 +109,6 @@ impl Store {
         kind: u8,
         payload: &[u8],
     ) -> Result<Accepted, StoreStop>
-        requires first { 1 ≤ kind }
-        requires last { kind ≤ 4 }
         requires few { length self.old.blocks < 2 ^ 32 - 1 }
         ensures { AcceptsBy accepted_of result self.old self.new (on_event self.old kind payload.now) }
     {
