@@ -42,7 +42,13 @@ fn handle_event(
     ensures over { IfErr result (λ status. EndsAt status number (outcome_of store.old event.now)) }
 {
     match store.on_event(alloc, event.kind, event.payload.as_slice()) {
-        Ok(given) => line_or_status(accepted_line(alloc, u64::from(number), event.kind, &given, store)),
+        Ok(given) => line_or_status(accepted_line(
+            alloc,
+            u64::from(number),
+            event.kind,
+            &given,
+            store,
+        )),
         Err(StoreStop::Refused(refusal)) => {
             line_or_status(refused_line(alloc, u64::from(number), event.kind, refusal, store))
         }

@@ -97,7 +97,7 @@ fn write_limit<W: fmt::Write>(
     match limit {
         Limit::Slots(slots) => write!(
             f,
-            "it is {slots} slots ahead, and at most {MAX_SLOTS} are gone through at once"
+            "it needs {slots} slots, and at most {MAX_SLOTS} are gone through at once"
         ),
         Limit::Proposer => write!(
             f,
@@ -122,7 +122,10 @@ fn write_clash<W: fmt::Write>(
     match kind {
         ClashKind::ZeroBlock => write!(f, "the block's root is zero"),
         ClashKind::ZeroState => write!(f, "the block's state root is zero"),
-        ClashKind::Kept(0) => write!(f, "the block has the root of the genesis block, and is another one"),
+        ClashKind::Kept(0) => write!(
+            f,
+            "the block has the root of the genesis block, and is another one"
+        ),
         ClashKind::Kept(number) => write!(
             f,
             "the block has the root of the accepted block {number}, and is another one"

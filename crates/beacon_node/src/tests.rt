@@ -175,9 +175,11 @@ fn clash(event: u32, kind: ClashKind) -> Status {
 #[test]
 fn texts_of_bounds(rt: HostRuntime) -> Result<(), Fail> {
     let alloc = rt.alloc();
-    let slots = "Limit: \"r\": event 6: it is 65537 slots ahead, and at most 65536 are gone through at once";
+    let slots =
+        "Limit: \"r\": event 6: it needs 65537 slots, and at most 65536 are gone through at once";
     says(&rt, alloc, limited(6, Limit::Slots(65_537)), None, slots)?;
-    let proposer = "Limit: \"r\": event 2: none of the first 65536 candidates for the slot's proposer passes";
+    let proposer =
+        "Limit: \"r\": event 2: none of the first 65536 candidates for the slot's proposer passes";
     says(&rt, alloc, limited(2, Limit::Proposer), None, proposer)
 }
 
@@ -188,6 +190,7 @@ fn texts_of_clashes(rt: HostRuntime) -> Result<(), Fail> {
     says(&rt, alloc, clash(0, ClashKind::ZeroBlock), None, zero)?;
     let state = "Clash: \"r\": event 4: the block's state root is zero";
     says(&rt, alloc, clash(4, ClashKind::ZeroState), None, state)?;
-    let kept = "Clash: \"r\": event 4: the block has the root of the accepted block 2, and is another one";
+    let kept =
+        "Clash: \"r\": event 4: the block has the root of the accepted block 2, and is another one";
     says(&rt, alloc, clash(4, ClashKind::Kept(2)), None, kept)
 }

@@ -16,7 +16,7 @@ pub enum RecordFault {
     /// A frame begins after 2^22 events.
     #[error("more than 4194304 events")]
     TooMany,
-    /// There is no such kind of frame, or its events are not run.
+    /// There is no such kind of frame.
     #[error("a frame of kind {0}, and kinds are 1 to 4")]
     BadKind(u8),
     /// The file ends inside a frame.
