@@ -1,4 +1,4 @@
-//! Runs the program on recorded configurations, genesis states and records of ticks, and where the outside fails.
+//! Runs the program on recorded configurations, genesis states and records of all kinds of events, and where the outside fails.
 #![tactic(auto)]
 
 use anyhow::Result;
