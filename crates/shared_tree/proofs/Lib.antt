@@ -2,3 +2,5 @@ pub mod Puts
 pub mod Pairs
 pub mod Keeps
 pub mod Changes
+pub mod Packing
+pub mod Packs

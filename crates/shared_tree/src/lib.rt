@@ -6,13 +6,17 @@
 
 mod build;
 mod find;
+mod four;
 mod laws;
 mod node;
+mod packed_list;
 mod put;
 mod shared_list;
+mod tree;
 mod work;
 
 pub use laws::set_after_share;
+pub use packed_list::PackedList;
 pub use shared_list::SharedList;
 
 #[cfg(test)]

@@ -9,27 +9,19 @@ ghost use Rattle.bc_words.specs.Outcome.{Pushes, Becomes, checked_push};
 ghost use Rattle.hash_tree.specs.Merkle.{merkleize, mix_in_length as mixed_in, depth_of as depth_for};
 ghost use Rattle.shared_tree.specs.Lists.{AreChanges, changed};
 
-use crate::build::{absent, build};
-use crate::find::find;
-use crate::node::Node;
-use crate::put::{put, put_each};
+use crate::tree::Tree;
 use crate::work::mix_step;
 use bc_words::{NoMemory, PushStop, Steps};
 use hash_tree::{Leaf, Root, depth_of, mix_in_length};
-use std::alloc::Global;
 use std::marker::Model;
-use std::rc::Rc;
 use std::sync::ledger::Ledger;
 
 /// The items in order, of which there may be so many. Contracts see the list and its limit.
 #[derive(Drop)]
 pub struct SharedList<T: Leaf + Drop> {
-    tree: Rc<Node<T>>,
-    depth: u32,
-    len: u64,
+    tree: Tree<T>,
     limit: u64,
     root: Root,
-    alloc: Global,
 }
 
 impl<T: Leaf + Drop> Model for SharedList<T> {
@@ -39,9 +31,9 @@ impl<T: Leaf + Drop> Model for SharedList<T> {
 
     ghost use Rattle.shared_tree.specs.inside.Kept.{IsKept};
 
-    ghost view = { λ list. record { limit = list.limit; items = list.tree.value.1 } };
+    ghost view = { λ list. record { limit = list.limit; items = list.tree.1 } };
 
-    ghost invariant = { λ list. IsKept T.root_of list.tree.value list.depth list.len list.limit list.root };
+    ghost invariant = { λ list. IsKept T.root_of list.tree list.limit list.root };
 }
 
 impl<T: Leaf + Drop> SharedList<T> {
@@ -51,28 +43,16 @@ impl<T: Leaf + Drop> SharedList<T> {
         requires fits { length items.items ≤ limit }
         ensures { IfOk result (λ list. list ≡ record { limit = limit; items = items.items }) }
     {
-        let mut items = items;
-        let alloc = *items.allocator();
-        let len = items.len() as u64;
-        let depth = depth_of(limit);
-        let without = absent(alloc, depth)?;
-        let tree = build(alloc, &mut items, 0, depth, &without)?;
-        let root = mix_in_length(&tree.root(), len);
-        Ok(SharedList {
-            tree,
-            depth,
-            len,
-            limit,
-            root,
-            alloc,
-        })
+        let tree = Tree::of(items, depth_of(limit))?;
+        let root = mix_in_length(&tree.top(), tree.len());
+        Ok(SharedList { tree, limit, root })
     }
 
     /// How many items there are.
     pub fn len(&self) -> u64
         ensures { result ≡ length self.now.items }
     {
-        self.len
+        self.tree.len()
     }
 
     /// How many items there may be.
@@ -88,7 +68,7 @@ impl<T: Leaf + Drop> SharedList<T> {
     pub fn get(&self, i: u64) -> Option<&T>
         ensures { option_map (λ x. x.now) result ≡ slice_get self.now.items i }
     {
-        find(&self.tree, self.depth, i)
+        self.tree.get(i)
     }
 
     /// The root of the list (simple-serialize.md, "Merkleization"). It is kept.
@@ -103,7 +83,7 @@ impl<T: Leaf + Drop> SharedList<T> {
     pub fn top(&self) -> Root
         ensures { result ≡ merkleize (map T.root_of self.now.items) self.now.limit }
     {
-        self.tree.root()
+        self.tree.top()
     }
 
     /// Another item at a place. A step for each level of the tree, and one for the length. Where memory is refused, the
@@ -114,9 +94,9 @@ impl<T: Leaf + Drop> SharedList<T> {
         ensures steps { OnOk result (steps.new ≡ steps.old + (depth_for self.old.limit + 1)) }
         ensures at_most { steps.new ≤ steps.old + (depth_for self.old.limit + 1) }
     {
-        let tree = put(&self.tree, self.depth, i, value, self.alloc, steps)?;
-        self.root = mix_step(&tree.root(), self.len, steps);
-        self.tree = tree;
+        let len = self.tree.len();
+        self.tree.put(i, value, steps)?;
+        self.root = mix_step(&self.tree.top(), len, steps);
         Ok(())
     }
 
@@ -131,9 +111,8 @@ impl<T: Leaf + Drop> SharedList<T> {
         ensures set { Becomes result self.old self.new (record self.old { items = changed self.old.items changes.items }) }
         ensures at_most { steps.new ≤ steps.old + (length changes.items * depth_for self.old.limit + 1) }
     {
-        let next = put_each(&self.tree, self.depth, changes, self.alloc, steps)?;
-        self.root = mix_step(&next.root(), self.len, steps);
-        self.tree = next;
+        self.tree.put_many(changes, steps)?;
+        self.root = mix_step(&self.tree.top(), self.tree.len(), steps);
         Ok(())
     }
 
@@ -145,13 +124,12 @@ impl<T: Leaf + Drop> SharedList<T> {
         ensures steps { OnOk result (steps.new ≡ steps.old + (depth_for self.old.limit + 1)) }
         ensures at_most { steps.new ≤ steps.old + (depth_for self.old.limit + 1) }
     {
-        if self.len >= self.limit {
+        let len = self.tree.len();
+        if len >= self.limit {
             return Err(PushStop::Full);
         }
-        let tree = put(&self.tree, self.depth, self.len, value, self.alloc, steps)?;
-        self.root = mix_step(&tree.root(), self.len + 1, steps);
-        self.tree = tree;
-        self.len += 1;
+        self.tree.put(len, value, steps)?;
+        self.root = mix_step(&self.tree.top(), len + 1, steps);
         Ok(())
     }
 
@@ -160,12 +138,9 @@ impl<T: Leaf + Drop> SharedList<T> {
         ensures { IfOk result (λ list. list ≡ self.now) }
     {
         Ok(SharedList {
-            tree: self.tree.clone()?,
-            depth: self.depth,
-            len: self.len,
+            tree: self.tree.share()?,
             limit: self.limit,
             root: self.root,
-            alloc: self.alloc,
         })
     }
 }

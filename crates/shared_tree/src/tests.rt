@@ -2,9 +2,9 @@
 
 ghost use Rattle.std.specs.Prelude.{◌≡◌, ◌<◌};
 
-use crate::{SharedList, set_after_share};
+use crate::{PackedList, SharedList, set_after_share};
 use bc_words::{NoMemory, PushStop, Steps};
-use hash_tree::{Root, merkle_leaves, mix_in_length, zero_hash};
+use hash_tree::{Root, merkle_leaves, merkle_u64, mix_in_length, zero_hash};
 use std::alloc::Global;
 use std::marker::Brand;
 use std::sync::ledger::{Blank, Ledger};
@@ -115,5 +115,59 @@ fn many_items_are_set(rt: HostRuntime) -> Result<(), Fail> {
         root,
         mix_in_length(&merkle_leaves(&[6u64, 2, 3, 7, 8], 40), 5)
     );
+    Ok(())
+}
+
+/// The roots of a list of three numbers, after two were set at once, one set and two pushed; and of the list that it was
+/// shared with at first, with the second number of both.
+fn numbers_changed<L: Ledger>(
+    alloc: Global,
+    blank: Blank,
+) -> Result<([Root; 4], Option<u64>, Option<u64>), PushStop>
+    requires name { blank.name ≡ L.name }
+    requires parts { blank.parts ≡ L.parts }
+    requires some { 0 < blank.parts }
+{
+    let mut steps = Steps::<L>::new(blank);
+    let mut list = PackedList::from_vec(vec![in alloc; 1, 2, 3]?, 5)?;
+    let other = list.share()?;
+    list.set_many(vec![in alloc; (0, 6), (2, 7)]?, &mut steps)?;
+    let many = list.root();
+    if list.len() != 3 {
+        return Err(PushStop::NoMemory);
+    }
+    list.set(1, u64::MAX, &mut steps)?;
+    let set = list.root();
+    list.push(4, &mut steps)?;
+    list.push(5, &mut steps)?;
+    match list.push(8, &mut steps) {
+        Err(PushStop::Full) => {}
+        _ => return Err(PushStop::NoMemory),
+    }
+    Ok((
+        [many, set, list.root(), other.root()],
+        list.get(1),
+        other.get(1),
+    ))
+}
+
+#[test]
+fn numbers_are_packed(rt: HostRuntime) -> Result<(), Fail> {
+    let alloc = rt.alloc();
+    let ([many, set, pushed, other], there, here) = numbers_changed::<Brand>(alloc, Blank::new(1))?;
+    assert_eq!(rt; many, mix_in_length(&merkle_u64(&[6, 2, 7], 1), 3));
+    assert_eq!(rt; set, mix_in_length(&merkle_u64(&[6, u64::MAX, 7], 1), 3));
+    assert_eq!(rt;
+        pushed,
+        mix_in_length(&merkle_u64(&[6, u64::MAX, 7, 4, 5], 1), 5)
+    );
+    assert_eq!(rt; other, mix_in_length(&merkle_u64(&[1, 2, 3], 1), 3));
+    assert_eq!(rt; there, Some(u64::MAX));
+    assert_eq!(rt; here, Some(2));
+    let list = PackedList::from_vec(vec![in alloc; 1, 2, 3, 4, 5]?, 1 << 40)?;
+    assert_eq!(rt; list.top(), merkle_u64(&[1, 2, 3, 4, 5], 38));
+    assert_eq!(rt; list.limit(), 1 << 40);
+    assert_eq!(rt; list.len(), 5);
+    assert_eq!(rt; list.get(5), None);
     Ok(())
 }

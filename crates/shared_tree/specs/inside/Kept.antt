@@ -1,13 +1,34 @@
--- What a shared list keeps beside its tree.
+-- What trees and lists keep beside their nodes.
 use Rattle.std.specs.Prelude.{◌≡◌, ℕ, ◌≤◌, ◌^◌, List, length, map}
+use Rattle.std.specs.List.{AllByRecursion}
 use Rattle.hash_tree.specs.Merkle.{merkleize, mix_in_length, depth_of}
+use Rattle.ssz_codec.specs.Basic.{uint64}
+use Rattle.ssz_codec.specs.Lists.{leaf_count, list_codec}
+use Rattle.shared_tree.specs.declared.four.Four.{Four}
+use Rattle.shared_tree.specs.inside.Fours.{packed, numbers_in}
 
-pub record IsKept {T : Type 0} (root_of : T → List ℕ) (tree : ℕ × List T) (depth len limit : ℕ) (root : List ℕ) : Type 0 where
-  pub tree_depth : tree.0 ≡ depth
-  pub depth_is : depth ≡ depth_of limit
+-- a tree of a depth, by its first node
+pub record IsTree {T : Type 0} (node : ℕ × List T) (depth len : ℕ) : Type 0 where
+  pub node_depth : node.0 ≡ depth
   pub low : depth ≤ 40
+  pub len_is : len ≡ length node.1
+  pub fits : len ≤ 2 ^ depth
+
+-- a list of values, by its tree
+pub record IsKept {T : Type 0} (root_of : T → List ℕ) (tree : ℕ × List T) (limit : ℕ) (root : List ℕ) : Type 0 where
+  pub depth_is : tree.0 ≡ depth_of limit
   pub limit_low : limit ≤ 2 ^ 40
-  pub wide : limit ≤ 2 ^ depth
-  pub len_is : len ≡ length tree.1
-  pub fits : len ≤ limit
+  pub wide : limit ≤ 2 ^ tree.0
+  pub fits : length tree.1 ≤ limit
   pub root_is : root ≡ mix_in_length (merkleize (map root_of tree.1) limit) (length tree.1)
+
+-- a list of numbers, by its tree of chunks
+pub record IsPacked (tree : ℕ × List Four) (len limit : ℕ) (root : List ℕ) : Type 0 where
+  pub depth_is : tree.0 ≡ depth_of (leaf_count uint64 limit)
+  pub limit_low : limit ≤ 2 ^ 40
+  pub wide : leaf_count uint64 limit ≤ 2 ^ tree.0
+  pub fits : len ≤ limit
+  pub len_is : len ≡ length (numbers_in len tree.1)
+  pub packs : tree.1 ≡ packed (numbers_in len tree.1)
+  pub within : AllByRecursion uint64.Within (numbers_in len tree.1)
+  pub root_is : root ≡ (list_codec uint64 limit).hash_tree_root (numbers_in len tree.1)

@@ -1,15 +1,22 @@
 -- The list with the item set.
-use Rattle.std.proofs.Common.{◌≡◌, ◌<◌, length, ap, arith}
+use Rattle.std.proofs.Common.{◌≡◌, ◌<◌, ◌+◌, ℕ, List, length, max, ap, ◌∙◌, arith}
+use Rattle.std.specs.Prelude.{slice_set}
 use Rattle.shared_tree.specs.Lists.{Limited}
-use Rattle.shared_tree.proofs.Keeps.{set_kept, set_value}
+use Rattle.shared_tree.specs.inside.Puts.{put_at}
+use Rattle.shared_tree.proofs.Keeps.{kept_after, seen_after}
+use Rattle.shared_tree.proofs.Puts.{length_put, put_set}
 use Rattle.shared_tree.proofs.shared_list.SharedList.set.Goals as goal
 
-pub invariant_of-self : goal.invariant_of-self
-invariant_of-self g c =
-    let long : length c.self.inside.tree.value.1 ≡ length c.args.self.now.items = ap (λ (l : Limited _). length l.items) c.self.view_is in
-    let within : c.args.i < length c.self.inside.tree.value.1 = omega arith in
-    set_kept g.T.Leaf.root_of c.self.inside.tree.value c.deref.result.now c.in_ok-tree.tree.value c.deref-2.result.now c.self.inside.depth c.self.inside.len c.self.inside.limit c.args.i c.args.value c.self.inside.root c.mix_step-self-inside.result c.root.result c.self.invariant within c.deref.ensures c.in_ok-tree.ensures.put c.deref-2.ensures c.root.ensures c.mix_step-self-inside.ensures.mixed
+pub invariant_of-self-2 : goal.invariant_of-self-2
+invariant_of-self-2 g c =
+    let view = ap (λ (l : Limited _). length l.items) c.self.view_is in
+    let within : c.args.i < length c.self.inside.tree.1 = omega (arith, c.requires) in
+    let long : length (put_at c.self.inside.tree.1 c.args.i c.args.value) ≡ max (length c.self.inside.tree.1) (c.args.i + 1) = length_put c.self.inside.tree.1 c.args.i c.args.value (omega arith) in
+    let same = ap (λ (v : ℕ × List _). length v.1) c.in_ok-put.ensures.put in
+    let fits = c.self.invariant.fits in
+    kept_after g.T.Leaf.root_of c.self.inside.tree c.put.new.self (put_at c.self.inside.tree.1 c.args.i c.args.value) c.self.inside.limit c.len-len.result c.self.inside.root c.mix_step-self-inside.result c.top.result c.self.invariant c.in_ok-put.ensures.put (omega (arith, c.len-len.ensures.len)) (omega (arith, c.len-len.ensures.len)) c.top.ensures c.mix_step-self-inside.ensures.mixed
 
 pub returns-clause-set : goal.returns-clause-set
 returns-clause-set g c =
-    set_value c.args.self.now c.self.inside.limit c.self.inside.depth c.args.i c.args.value c.self.inside.tree.value c.deref.result.now c.in_ok-tree.tree.value c.self.view_is c.requires c.deref.ensures c.in_ok-tree.ensures.put
+    seen_after c.args.self.now c.self.inside.limit c.self.inside.tree.1 c.put.new.self.1 (slice_set c.args.self.now.items c.args.i c.args.value) c.self.view_is
+    (ap (λ (v : ℕ × List _). v.1) c.in_ok-put.ensures.put ∙ (ap (λ (l : Limited _). put_at l.items c.args.i c.args.value) c.self.view_is ∙ put_set c.args.self.now.items c.args.i c.args.value c.requires))

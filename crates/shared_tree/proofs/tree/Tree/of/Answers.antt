@@ -1,0 +1,7 @@
+-- The tree of all items.
+use Rattle.std.proofs.Common.{arith}
+use Rattle.shared_tree.proofs.Keeps.{width_low}
+use Rattle.shared_tree.proofs.tree.Tree.of.Goals as goal
+
+pub build-requires-clause-within : goal.build-requires-clause-within
+build-requires-clause-within g c = let w = width_low c.args.depth c.requires.low in omega arith
