@@ -1,7 +1,8 @@
 -- A list whose values are all within a codec's limits, and a change of it.
-use Rattle.std.proofs.Common.{◌≡◌, ℕ, zero, suc, ◌+◌, ◌<◌, ◌≤◌, List, [], ◌∷◌, ◌++◌, length, take, get_or, slice_set, sym, ap, ◌∙◌, subst}
+use Rattle.std.proofs.Common.{◌≡◌, ℕ, zero, suc, ◌+◌, ◌<◌, ◌≤◌, List, [], ◌∷◌, ◌++◌, length, take, get_or, slice_get, slice_set, Some, sym, ap, ◌∙◌, subst}
 use Rattle.std.specs.List.{AllByRecursion}
 use Rattle.std.proofs.lemmas.List.{take_more, take_all}
+use Rattle.std.proofs.lemmas.Option.{slice_get_within, get_or_from_slice_get}
 
 pub all_push : {A : Type 0} (P : A → Type 0) (xs : List A) (x : A) → AllByRecursion P xs → P x → AllByRecursion P (xs ++ x ∷ [])
 all_push P [] x all is = (is, tt)
@@ -21,3 +22,9 @@ all_taken_more P xs i x less at all is = subst (AllByRecursion P) (ap (λ y. tak
 
 pub all_taken : {A : Type 0} (P : A → Type 0) (xs : List A) (n : ℕ) → length xs ≤ n → AllByRecursion P (take n xs) → AllByRecursion P xs
 all_taken P xs n over all = subst (AllByRecursion P) (take_all n xs over) all
+
+-- one more of a list's values was copied
+pub copied_more : {A : Type 0} (xs ys zs : List A) (i : ℕ) (v x : A) → ys ≡ take i xs → Some v ≡ slice_get xs i → x ≡ v → zs ≡ ys ++ x ∷ [] → zs ≡ take (i + 1) xs
+copied_more xs ys zs i v x so_far at copy more =
+    let is = sym at in
+    more ∙ ap (λ y. ys ++ y ∷ []) (copy ∙ sym (get_or_from_slice_get xs i v v is)) ∙ ap (λ front. front ++ get_or xs i v ∷ []) so_far ∙ sym (take_more xs i v (slice_get_within xs i v is))

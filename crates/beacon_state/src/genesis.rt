@@ -1,10 +1,13 @@
 //! Whether a state begins a chain. The state comes from the genesis file, the fault goes to the program's status.
 
-ghost use Rattle.std.specs.Prelude.{◌≡◌, ◌≤◌, ◌^◌, ◌==◌, ◌&&◌, not, Some, None, MatchResult, length};
+ghost use Rattle.std.specs.Prelude.{◌≡◌, ◌<◌, ◌≤◌, ◌^◌, ◌==◌, ◌&&◌, not, Some, None, MatchResult, length, slice_get};
 ghost use Rattle.std.specs.List.{list_all};
+ghost use Rattle.std.specs.Option.{option_map};
 ghost use Rattle.spec_state.specs.Genesis.{is_genesis_header as is_header, is_zero_checkpoint as is_zero, validator_fault as fault_of, validators_fault as first_fault, genesis_fault};
 
+use crate::numbers::Numbers;
 use crate::state::State;
+use crate::values::Values;
 use bc_preset::constants::FAR_FUTURE_EPOCH;
 use beacon_body::empty_body_root;
 use beacon_types::{BeaconBlockHeader, Checkpoint, Validator};
@@ -52,13 +55,24 @@ fn validator_fault(most: u64, validator: &Validator) -> Option<ValidatorFault>
     None
 }
 
+/// What is wrong with the validator at a place.
+fn fault_at(most: u64, validators: &Values<Validator>, i: u64) -> Option<ValidatorFault>
+    requires { i < length validators.now.items }
+    ensures { Some result ≡ option_map (fault_of most) (slice_get validators.now.items i) }
+{
+    match validators.get(i) {
+        Some(validator) => validator_fault(most, validator),
+        None => unreachable!(),
+    }
+}
+
 /// The first validator that is wrong.
-fn validators_fault(most: u64, validators: &[Validator]) -> Option<GenesisFault>
-    ensures { result ≡ first_fault most 0 validators.now }
+fn validators_fault(most: u64, validators: &Values<Validator>) -> Option<GenesisFault>
+    ensures { result ≡ first_fault most 0 validators.now.items }
 {
     for i in 0..validators.len() {
-        if let Some(wrong) = validator_fault(most, &validators[i]) {
-            return Some(GenesisFault::Validator(i as u64, wrong));
+        if let Some(wrong) = fault_at(most, validators, i) {
+            return Some(GenesisFault::Validator(i, wrong));
         }
     }
     None
@@ -68,17 +82,33 @@ fn validators_fault(most: u64, validators: &[Validator]) -> Option<GenesisFault>
 fn lists_are_empty(s: &State) -> bool
     ensures { result ≡ ((length s.now.previous_epoch_attestations == 0) && ((length s.now.current_epoch_attestations == 0) && ((length s.now.eth1_data_votes == 0) && (length s.now.historical_roots == 0)))) }
 {
-    s.previous_epoch_attestations().is_empty()
-        && s.current_epoch_attestations().is_empty()
-        && s.eth1_data_votes().is_empty()
-        && s.historical_roots().is_empty()
+    s.previous_epoch_attestations_len() == 0
+        && s.current_epoch_attestations_len() == 0
+        && s.eth1_data_votes_len() == 0
+        && s.historical_roots_len() == 0
+}
+
+/// Whether nothing was slashed at a place.
+fn not_slashed_at(slashings: &Numbers, i: u64) -> bool
+    requires { i < length slashings.now.items }
+    ensures { Some result ≡ option_map (λ n. n == 0) (slice_get slashings.now.items i) }
+{
+    match slashings.get(i) {
+        Some(amount) => amount == 0,
+        None => unreachable!(),
+    }
 }
 
 /// Whether nothing was slashed.
-fn nothing_slashed(slashings: &[u64]) -> bool
-    ensures { result ≡ list_all (λ n. n == 0) slashings.now }
+fn nothing_slashed(slashings: &Numbers) -> bool
+    ensures { result ≡ list_all (λ n. n == 0) slashings.now.items }
 {
-    slashings.iter().all(|amount| *amount == 0)
+    for i in 0..slashings.len() {
+        if !not_slashed_at(slashings, i) {
+            return false;
+        }
+    }
+    true
 }
 
 /// Whether no justification bit is set.

@@ -10,7 +10,6 @@ use beacon_types::{
 };
 use hash_tree::Root;
 use ssz_codec::Ssz;
-use std::alloc::Global;
 
 /// A value of a list of the state.
 pub(crate) trait InRange: Ssz {
@@ -18,9 +17,9 @@ pub(crate) trait InRange: Ssz {
     fn in_range(&self)
         ensures { Self.codec.Within self.now };
 
-    /// The same values once more.
-    fn copies(alloc: Global, values: &[Self]) -> Result<Vec<Self>, NoMemory>
-        ensures { IfOk result (λ copies. copies.items ≡ values.now) };
+    /// The same value once more.
+    fn copied(&self) -> Result<Self, NoMemory>
+        ensures { IfOk result (λ copy. copy ≡ self.now) };
 }
 
 impl InRange for u64 {
@@ -28,9 +27,8 @@ impl InRange for u64 {
         let _number = *self;
     }
 
-    fn copies(alloc: Global, values: &[u64]) -> Result<Vec<u64>, NoMemory> {
-        let copies = Vec::from_slice(alloc, values)?;
-        Ok(copies)
+    fn copied(&self) -> Result<u64, NoMemory> {
+        Ok(*self)
     }
 }
 
@@ -39,9 +37,8 @@ impl InRange for Root {
         let _root = *self;
     }
 
-    fn copies(alloc: Global, values: &[Root]) -> Result<Vec<Root>, NoMemory> {
-        let copies = Vec::from_slice(alloc, values)?;
-        Ok(copies)
+    fn copied(&self) -> Result<Root, NoMemory> {
+        Ok(*self)
     }
 }
 
@@ -50,9 +47,8 @@ impl InRange for Eth1Data {
         eth1_data_in_range(self);
     }
 
-    fn copies(alloc: Global, values: &[Eth1Data]) -> Result<Vec<Eth1Data>, NoMemory> {
-        let copies = Vec::from_slice(alloc, values)?;
-        Ok(copies)
+    fn copied(&self) -> Result<Eth1Data, NoMemory> {
+        Ok(*self)
     }
 }
 
@@ -61,9 +57,8 @@ impl InRange for Validator {
         validator_in_range(self);
     }
 
-    fn copies(alloc: Global, values: &[Validator]) -> Result<Vec<Validator>, NoMemory> {
-        let copies = Vec::from_slice(alloc, values)?;
-        Ok(copies)
+    fn copied(&self) -> Result<Validator, NoMemory> {
+        Ok(*self)
     }
 }
 
@@ -72,15 +67,8 @@ impl InRange for PendingAttestation {
         attestation_in_range(self);
     }
 
-    fn copies(
-        alloc: Global,
-        values: &[PendingAttestation],
-    ) -> Result<Vec<PendingAttestation>, NoMemory> {
-        let mut copies = Vec::with_capacity(alloc, values.len())?;
-        for attestation in values {
-            copies.push(attestation.copy()?)?;
-        }
-        Ok(copies)
+    fn copied(&self) -> Result<PendingAttestation, NoMemory> {
+        self.copy()
     }
 }
 

@@ -3,10 +3,12 @@
 //! Bytes come from the genesis file; contracts see a `State` as the plain record of its 21 fields and its preset.
 #![tactic(auto)]
 
+mod building;
 mod genesis;
 mod groups;
 mod in_range;
 mod lookups;
+mod numbers;
 mod parts;
 mod reading;
 mod roots;

@@ -28,14 +28,21 @@ impl Lookup for State {
         let preset = State::preset(self);
         preset.bounds();
         let index = epoch % preset.epochs_per_historical_vector;
-        self.randao_mixes()[index as usize]
+        match self.randao_mixes_at(index) {
+            Some(mix) => *mix,
+            None => unreachable!(),
+        }
     }
 
     fn registry(&self) -> u64 {
         self.validators_len()
     }
 
+    #[tactic(auto, using(crate::proofs::Balances::effective_balance_at))]
     fn effective(&self, index: u64) -> u64 {
-        self.validators()[index as usize].effective_balance
+        let Some(validator) = self.validators_at(index) else {
+            unreachable!()
+        };
+        validator.effective_balance
     }
 }

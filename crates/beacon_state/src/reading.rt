@@ -90,6 +90,9 @@ impl State {
         ensures written { IfOk result HasWriting }
     {
         let plain = read_plain(alloc, preset, bytes)?;
-        Ok(State::from_plain(plain))
+        match State::from_plain(plain) {
+            Ok(state) => Ok(state),
+            Err(_refused) => Err(SszFault::NoMemory),
+        }
     }
 }

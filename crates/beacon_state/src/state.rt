@@ -1,16 +1,19 @@
 //! The state: its fields, and the plain record that they stand for.
 //!
-//! What is kept here is named by the getters, the setters and the slices of lists alone, so that how a list is kept can
-//! change under the same contracts.
+//! What is kept here is named by the getters, the setters and the lists alone, so that how a list is kept can change under
+//! the same contracts.
 
 ghost use Rattle.std.specs.Prelude.{◌≡◌, IfOk};
 ghost use Rattle.spec_state.specs.Limits.{IsState, IsInRange};
+ghost use Rattle.beacon_state.specs.inside.Plain.{HasRoots, HasRegistry, HasPending};
 
 mod getters;
+mod lists;
 mod setters;
-mod slices;
 mod whole;
 
+use crate::building::{lists_built, pending_built, registry_built, vectors_built};
+use crate::numbers::Numbers;
 use crate::values::Values;
 use bc_preset::Preset;
 use bc_words::NoMemory;
@@ -35,9 +38,9 @@ pub struct State {
     eth1_data_votes: Values<Eth1Data>,
     eth1_deposit_index: u64,
     validators: Values<Validator>,
-    balances: Values<u64>,
+    balances: Numbers,
     randao_mixes: Values<Root>,
-    slashings: Values<u64>,
+    slashings: Numbers,
     previous_epoch_attestations: Values<PendingAttestation>,
     current_epoch_attestations: Values<PendingAttestation>,
     justification_bits: [bool; 4],
@@ -48,23 +51,22 @@ pub struct State {
 
 impl Model for State {
     ghost use Rattle.spec_state.specs.declared.plain.PlainState.{PlainState};
-    ghost use Rattle.spec_state.specs.Limits.{IsState};
 
     ghost Value = { PlainState };
 
-    ghost use Rattle.beacon_state.specs.inside.Plain.{plain_of};
+    ghost use Rattle.beacon_state.specs.inside.Plain.{plain_of, IsHeld};
 
     ghost view = { plain_of };
 
-    ghost invariant = { λ state. IsState (plain_of state) };
+    ghost invariant = { IsHeld };
 }
 
 impl State {
-    /// The state of these fields, which were read.
-    pub(crate) fn from_plain(plain: PlainState) -> State
+    /// The state of these fields, which were read. The tree of each list is built once.
+    pub(crate) fn from_plain(plain: PlainState) -> Result<State, NoMemory>
         requires state { IsState plain }
         requires range { IsInRange plain }
-        ensures { result ≡ plain }
+        ensures { IfOk result (λ state. state ≡ plain) }
     {
         let PlainState {
             preset,
@@ -90,41 +92,48 @@ impl State {
             current_justified_checkpoint,
             finalized_checkpoint,
         } = plain;
-        State {
+        let (block_roots, state_roots, randao_mixes) =
+            vectors_built(&preset, block_roots, state_roots, randao_mixes)?;
+        let (historical_roots, eth1_data_votes) =
+            lists_built(&preset, historical_roots, eth1_data_votes)?;
+        let (validators, balances, slashings) =
+            registry_built(&preset, validators, balances, slashings)?;
+        let (previous_epoch_attestations, current_epoch_attestations) =
+            pending_built(&preset, previous_epoch_attestations, current_epoch_attestations)?;
+        Ok(State {
             preset,
             genesis_time,
             genesis_validators_root,
             slot,
             fork,
             latest_block_header,
-            block_roots: Values::from_items(block_roots),
-            state_roots: Values::from_items(state_roots),
-            historical_roots: Values::from_items(historical_roots),
+            block_roots,
+            state_roots,
+            historical_roots,
             eth1_data,
-            eth1_data_votes: Values::from_items(eth1_data_votes),
+            eth1_data_votes,
             eth1_deposit_index,
-            validators: Values::from_items(validators),
-            balances: Values::from_items(balances),
-            randao_mixes: Values::from_items(randao_mixes),
-            slashings: Values::from_items(slashings),
-            previous_epoch_attestations: Values::from_items(previous_epoch_attestations),
-            current_epoch_attestations: Values::from_items(current_epoch_attestations),
+            validators,
+            balances,
+            randao_mixes,
+            slashings,
+            previous_epoch_attestations,
+            current_epoch_attestations,
             justification_bits,
             previous_justified_checkpoint,
             current_justified_checkpoint,
             finalized_checkpoint,
-        }
+        })
     }
 
-    /// An equal state. Its lists are copies; they will come to share what they have in common.
+    /// An equal state, whose lists stand in the same nodes.
     pub fn share(&self) -> Result<State, NoMemory>
         ensures { IfOk result (λ state. state ≡ self.now) }
     {
-        let roots = self.share_roots()?;
-        let (validators, balances, eth1_data_votes) = self.share_registry()?;
-        let (slashings, previous_epoch_attestations, current_epoch_attestations) =
+        let (block_roots, state_roots, historical_roots, randao_mixes) = self.share_roots()?;
+        let (validators, balances, slashings) = self.share_registry()?;
+        let (eth1_data_votes, previous_epoch_attestations, current_epoch_attestations) =
             self.share_pending()?;
-        let (block_roots, state_roots, historical_roots, randao_mixes) = roots;
         let genesis_validators_root = self.genesis_validators_root;
         let justification_bits = self.justification_bits;
         Ok(State {
@@ -154,10 +163,8 @@ impl State {
     }
 
     /// The lists of roots once more.
-    fn share_roots(
-        &self,
-    ) -> Result<(Values<Root>, Values<Root>, Values<Root>, Values<Root>), NoMemory>
-        ensures { IfOk result (λ lists. (lists.0 ≡ self.now.block_roots) × (lists.1 ≡ self.now.state_roots) × (lists.2 ≡ self.now.historical_roots) × (lists.3 ≡ self.now.randao_mixes)) }
+    fn share_roots(&self) -> Result<(Values<Root>, Values<Root>, Values<Root>, Values<Root>), NoMemory>
+        ensures { IfOk result (HasRoots self.now) }
     {
         let block_roots = self.block_roots.share()?;
         let state_roots = self.state_roots.share()?;
@@ -166,33 +173,24 @@ impl State {
         Ok((block_roots, state_roots, historical_roots, randao_mixes))
     }
 
-    /// The registry, the balances and the votes once more.
-    fn share_registry(&self) -> Result<(Values<Validator>, Values<u64>, Values<Eth1Data>), NoMemory>
-        ensures { IfOk result (λ lists. (lists.0 ≡ self.now.validators) × (lists.1 ≡ self.now.balances) × (lists.2 ≡ self.now.eth1_data_votes)) }
+    /// The registry, the balances and the slashed balances once more.
+    fn share_registry(&self) -> Result<(Values<Validator>, Numbers, Numbers), NoMemory>
+        ensures { IfOk result (HasRegistry self.now) }
     {
         let validators = self.validators.share()?;
         let balances = self.balances.share()?;
-        let votes = self.eth1_data_votes.share()?;
-        Ok((validators, balances, votes))
+        let slashings = self.slashings.share()?;
+        Ok((validators, balances, slashings))
     }
 
-    /// The slashed balances and the pending attestations once more.
-    fn share_pending(
-        &self,
-    ) -> Result<
-        (
-            Values<u64>,
-            Values<PendingAttestation>,
-            Values<PendingAttestation>,
-        ),
-        NoMemory,
-    >
-        ensures { IfOk result (λ lists. (lists.0 ≡ self.now.slashings) × (lists.1 ≡ self.now.previous_epoch_attestations) × (lists.2 ≡ self.now.current_epoch_attestations)) }
+    /// The votes and the pending attestations once more.
+    fn share_pending(&self) -> Result<(Values<Eth1Data>, Values<PendingAttestation>, Values<PendingAttestation>), NoMemory>
+        ensures { IfOk result (HasPending self.now) }
     {
-        let slashings = self.slashings.share()?;
+        let votes = self.eth1_data_votes.share()?;
         let previous = self.previous_epoch_attestations.share()?;
         let current = self.current_epoch_attestations.share()?;
-        Ok((slashings, previous, current))
+        Ok((votes, previous, current))
     }
 
     /// The state is within the limits of its preset. It does nothing when it runs.

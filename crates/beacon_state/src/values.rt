@@ -1,116 +1,202 @@
-//! The values of a list or a vector of the state, each of which is one that its codec has.
+//! The values of a list or a vector of the state, each of which is one that its codec has, in a tree that shares its nodes
+//! and keeps its root.
 //!
-//! Values come from reading and from those who change the state; slices go to writing and to roots.
+//! Values come from reading and from those who change the state, and go to getters, writing and roots.
 
-ghost use Rattle.std.specs.Prelude.{◌≡◌, ◌<◌, ◌≤◌, [], length, slice_get, slice_set, IfOk};
+ghost use Rattle.std.specs.Prelude.{◌≡◌, ◌<◌, ◌≤◌, ◌^◌, [], length, slice_get, slice_set, IfOk};
 ghost use Rattle.std.specs.List.{AllByRecursion};
 ghost use Rattle.std.specs.Option.{option_map};
 ghost use Rattle.bc_words.specs.Outcome.{Pushes, Becomes, checked_push};
+ghost use Rattle.ssz_codec.specs.Lists.{vector_codec, list_codec, variable_list_codec};
 
 use crate::in_range::InRange;
-use bc_words::{NoMemory, PushStop};
-use ssz_codec::Items;
-use std::marker::Model;
+use bc_words::{NoMemory, PushStop, Steps};
+use hash_tree::{Leaf, Root};
+use shared_tree::SharedList;
+use ssz_codec::{FixedSsz, Items};
+use std::alloc::Global;
+use std::marker::{Brand, Model};
+use std::sync::ledger::{Blank, Ledger};
 
-/// The values in order, which contracts see as the list alone.
+/// The values in order, and how many there may be: of a vector, how many there are.
 #[derive(Drop)]
 pub(crate) struct Values<T: InRange> {
-    values: Vec<T>,
+    list: SharedList<T>,
+    alloc: Global,
 }
 
 impl<T: InRange> Model for Values<T> {
-    ghost use Rattle.std.specs.Prelude.{List};
     ghost use Rattle.std.specs.List.{AllByRecursion};
+    ghost use Rattle.shared_tree.specs.Lists.{Limited};
 
-    ghost Value = { List T };
+    ghost Value = { Limited T };
 
-    ghost view = { λ s. s.values.items };
+    ghost view = { λ s. s.list };
 
-    ghost invariant = { λ s. AllByRecursion T.Ssz.codec.Within s.values.items };
+    ghost invariant = { λ s. AllByRecursion T.Ssz.codec.Within s.list.items };
+}
+
+/// Sets an item of a list. The steps that it takes are counted by a counter of its own, which nothing reads.
+fn set_item<T: Leaf + Drop, L: Ledger>(
+    list: &mut SharedList<T>,
+    i: u64,
+    value: T,
+    blank: Blank,
+) -> Result<(), NoMemory>
+    requires name { blank.name ≡ L.name }
+    requires parts { blank.parts ≡ L.parts }
+    requires some { 0 < blank.parts }
+    requires place { i < length list.old.items }
+    ensures { Becomes result list.old list.new (record list.old { items = slice_set list.old.items i value }) }
+{
+    let mut steps = Steps::<L>::new(blank);
+    list.set(i, value, &mut steps)
+}
+
+/// Puts one more item at the end of a list, with a counter of its own.
+fn push_item<T: Leaf + Drop, L: Ledger>(
+    list: &mut SharedList<T>,
+    value: T,
+    blank: Blank,
+) -> Result<(), PushStop>
+    requires name { blank.name ≡ L.name }
+    requires parts { blank.parts ≡ L.parts }
+    requires some { 0 < blank.parts }
+    ensures pushes { Pushes result list.old.items list.new.items (checked_push list.old.limit list.old.items value) }
+    ensures limit { list.new.limit ≡ list.old.limit }
+{
+    let mut steps = Steps::<L>::new(blank);
+    list.push(value, &mut steps)
 }
 
 impl<T: InRange> Values<T> {
-    /// The values that were read.
-    pub(crate) fn from_items(items: Items<T>) -> Values<T>
-        requires { AllByRecursion T.Ssz.codec.Within items }
-        ensures { result ≡ items }
+    /// The values that were read, of which there may be so many. Each inner node of their tree is hashed once.
+    pub(crate) fn from_items(items: Items<T>, limit: u64) -> Result<Values<T>, NoMemory>
+        requires within { AllByRecursion T.Ssz.codec.Within items }
+        requires low { limit ≤ 2 ^ 40 }
+        requires fits { length items ≤ limit }
+        ensures { IfOk result (λ values. values ≡ record { limit = limit; items = items }) }
     {
-        Values {
-            values: items.into_vec(),
-        }
+        let values = items.into_vec();
+        let alloc = *values.allocator();
+        let list = SharedList::from_vec(values, limit)?;
+        Ok(Values { list, alloc })
     }
 
-    /// All of them.
-    pub(crate) fn as_slice(&self) -> &[T]
-        ensures same { result.now ≡ self.now }
-        ensures within { AllByRecursion T.Ssz.codec.Within self.now }
+    /// The list that they stand in.
+    pub(crate) fn list(&self) -> &SharedList<T>
+        ensures { result.now ≡ self.now }
     {
-        self.values.as_slice()
+        &self.list
     }
 
-    /// How many there are.
+    /// How many there are. Each of them is one that its codec has.
     pub(crate) fn len(&self) -> u64
-        ensures { result ≡ length self.now }
+        ensures len { result ≡ length self.now.items }
+        ensures within { AllByRecursion T.Ssz.codec.Within self.now.items }
     {
-        self.values.len() as u64
+        self.list.len()
     }
 
     /// The value at a place. None exactly where the place is not below the length.
     pub(crate) fn get(&self, i: u64) -> Option<&T>
-        ensures { option_map (λ x. x.now) result ≡ slice_get self.now i }
+        ensures { option_map (λ x. x.now) result ≡ slice_get self.now.items i }
     {
-        self.values.as_slice().get(i as usize)
+        self.list.get(i)
     }
 
-    /// Writes another value at a place.
+    /// Writes another value at a place. Where memory is refused, they are as before.
     #[tactic(auto, using(crate::proofs::Within::all_set))]
     pub(crate) fn set(&mut self, i: u64, value: T) -> Result<(), NoMemory>
-        requires { i < length self.old }
-        ensures { Becomes result self.old self.new (slice_set self.old i value) }
+        requires { i < length self.old.items }
+        ensures { Becomes result self.old self.new (record self.old { items = slice_set self.old.items i value }) }
     {
         value.in_range();
-        self.values[i as usize] = value;
-        Ok(())
+        set_item::<T, Brand>(&mut self.list, i, value, Blank::new(1))
     }
 
-    /// One more value at the end, where there are fewer than the limit.
+    /// One more value at the end, where there are fewer than the limit. After a stop they are as before.
     #[tactic(auto, unfolding(bc_words::specs::Outcome::checked_push), using(crate::proofs::Within::all_push))]
-    pub(crate) fn push(&mut self, value: T, limit: u64) -> Result<(), PushStop>
-        requires { length self.old ≤ limit }
-        ensures pushes { Pushes result self.old self.new (checked_push limit self.old value) }
-        ensures limit { length self.new ≤ limit }
+    pub(crate) fn push(&mut self, value: T) -> Result<(), PushStop>
+        ensures pushes { Pushes result self.old.items self.new.items (checked_push self.old.limit self.old.items value) }
+        ensures limit { self.new.limit ≡ self.old.limit }
+        ensures fits { length self.new.items ≤ self.new.limit }
     {
-        if self.len() >= limit {
-            return Err(PushStop::Full);
-        }
         value.in_range();
-        self.values.push(value)?;
-        Ok(())
+        let pushed = push_item::<T, Brand>(&mut self.list, value, Blank::new(1));
+        let _limit = self.list.limit();
+        pushed
     }
 
-    /// Writes other values in the place of all of them.
-    #[tactic(auto, using(crate::proofs::Within::all_none_taken, crate::proofs::Within::all_taken_more, crate::proofs::Within::all_taken))]
-    pub(crate) fn replace(&mut self, values: Vec<T>)
-        ensures { self.new ≡ values.items }
+    /// Writes other values in the place of all of them. Where memory is refused, they are as before.
+    pub(crate) fn replace(&mut self, values: Vec<T>) -> Result<(), NoMemory>
+        requires { length values.items ≤ self.old.limit }
+        ensures { Becomes result self.old self.new (record self.old { items = values.items }) }
     {
         for value in &values {
             value.in_range();
         }
-        self.values = values;
+        let limit = self.list.limit();
+        self.list = SharedList::from_vec(values, limit)?;
+        Ok(())
     }
 
-    /// Drops all of them.
-    pub(crate) fn clear(&mut self)
-        ensures { self.new ≡ [] }
+    /// No values, of which there may be as many.
+    pub(crate) fn none(&self) -> Result<Values<T>, NoMemory>
+        ensures { IfOk result (λ values. values ≡ record self.now { items = [] }) }
     {
-        self.values.clear();
+        let list = SharedList::from_vec(Vec::new(self.alloc), self.list.limit())?;
+        Ok(Values {
+            list,
+            alloc: self.alloc,
+        })
     }
 
-    /// The same values once more.
+    /// The same values, in the same nodes.
     pub(crate) fn share(&self) -> Result<Values<T>, NoMemory>
         ensures { IfOk result (λ values. values ≡ self.now) }
     {
-        let values = T::copies(*self.values.allocator(), self.values.as_slice())?;
-        Ok(Values { values })
+        let list = self.list.share()?;
+        Ok(Values {
+            list,
+            alloc: self.alloc,
+        })
+    }
+
+    /// Copies of all of them in one piece, for writing.
+    pub(crate) fn copied(&self, alloc: Global) -> Result<Vec<T>, NoMemory>
+        ensures { IfOk result (λ values. values.items ≡ self.now.items) }
+    {
+        let mut values = Vec::new(alloc);
+        for i in 0..self.len() {
+            match self.get(i) {
+                Some(value) => values.push(value.copied()?)?,
+                None => unreachable!(),
+            }
+        }
+        Ok(values)
+    }
+
+    /// The root of the list of values of variable size (simple-serialize.md, "Merkleization"). It is kept.
+    pub(crate) fn variable_list_root(&self) -> Root
+        ensures { result ≡ (variable_list_codec T.Ssz.codec self.now.limit).hash_tree_root self.now.items }
+    {
+        self.list.root()
+    }
+}
+
+impl<T: InRange + FixedSsz> Values<T> {
+    /// The root of the list of values of fixed size (simple-serialize.md, "Merkleization"). It is kept.
+    pub(crate) fn list_root(&self) -> Root
+        ensures { result ≡ (list_codec T.Ssz.codec self.now.limit).hash_tree_root self.now.items }
+    {
+        self.list.root()
+    }
+
+    /// The root of the vector of as many values as there may be. It is kept.
+    pub(crate) fn vector_root(&self) -> Root
+        ensures { result ≡ (vector_codec T.Ssz.codec self.now.limit).hash_tree_root self.now.items }
+    {
+        self.list.top()
     }
 }

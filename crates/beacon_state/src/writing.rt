@@ -31,43 +31,43 @@ fn add_clock(s: &State, out: &mut PartsWriter) -> Result<(), NoMemory>
 }
 
 #[tactic(auto, unfolding(crate::specs::inside::Groups::history_fields))]
-fn add_history(s: &State, out: &mut PartsWriter) -> Result<(), NoMemory>
+fn add_history(alloc: Global, s: &State, out: &mut PartsWriter) -> Result<(), NoMemory>
     ensures { OnOk result (out.new ≡ with_parts (layout_of (history_fields s.now.preset)) (parts_of (history_fields s.now.preset) (history_of s.now)) out.old) }
 {
-    out.add_vector(s.block_roots())?;
-    out.add_vector(s.state_roots())?;
-    out.add_items(s.historical_roots())?;
+    out.add_vector(&s.block_roots().copied(alloc)?)?;
+    out.add_vector(&s.state_roots().copied(alloc)?)?;
+    out.add_items(&s.historical_roots().copied(alloc)?)?;
     Ok(())
 }
 
 #[tactic(auto, unfolding(crate::specs::inside::Groups::eth1_fields))]
-fn add_eth1(s: &State, out: &mut PartsWriter) -> Result<(), NoMemory>
+fn add_eth1(alloc: Global, s: &State, out: &mut PartsWriter) -> Result<(), NoMemory>
     ensures { OnOk result (out.new ≡ with_parts (layout_of (eth1_fields s.now.preset)) (parts_of (eth1_fields s.now.preset) (eth1_of s.now)) out.old) }
 {
     out.add(&s.eth1_data())?;
-    out.add_items(s.eth1_data_votes())?;
+    out.add_items(&s.eth1_data_votes().copied(alloc)?)?;
     out.add(&s.eth1_deposit_index())?;
     Ok(())
 }
 
 #[tactic(auto, unfolding(crate::specs::inside::Groups::registry_fields))]
-fn add_registry(s: &State, out: &mut PartsWriter) -> Result<(), NoMemory>
+fn add_registry(alloc: Global, s: &State, out: &mut PartsWriter) -> Result<(), NoMemory>
     ensures { OnOk result (out.new ≡ with_parts (layout_of (registry_fields s.now.preset)) (parts_of (registry_fields s.now.preset) (registry_of s.now)) out.old) }
 {
-    out.add_items(s.validators())?;
-    out.add_items(s.balances())?;
-    out.add_vector(s.randao_mixes())?;
-    out.add_vector(s.slashings())?;
+    out.add_items(&s.validators().copied(alloc)?)?;
+    out.add_items(&s.balances().copied(alloc)?)?;
+    out.add_vector(&s.randao_mixes().copied(alloc)?)?;
+    out.add_vector(&s.slashings().copied(alloc)?)?;
     Ok(())
 }
 
 #[tactic(auto, unfolding(crate::specs::inside::Groups::pending_fields), using(bc_preset::proofs::Bounds::preset_bounds))]
-fn add_pending(s: &State, out: &mut PartsWriter) -> Result<(), NoMemory>
+fn add_pending(alloc: Global, s: &State, out: &mut PartsWriter) -> Result<(), NoMemory>
     ensures { OnOk result (out.new ≡ with_parts (layout_of (pending_fields s.now.preset)) (parts_of (pending_fields s.now.preset) (pending_of s.now)) out.old) }
 {
     let _preset = s.preset();
-    out.add_list(s.previous_epoch_attestations())?;
-    out.add_list(s.current_epoch_attestations())?;
+    out.add_list(&s.previous_epoch_attestations().copied(alloc)?)?;
+    out.add_list(&s.current_epoch_attestations().copied(alloc)?)?;
     Ok(())
 }
 
@@ -96,14 +96,14 @@ pub fn shortest_state(preset: &Preset) -> u64
 
 /// Writes each of the 21 fields.
 #[tactic(auto, unfolding(spec_state::specs::States::state_fields, crate::specs::inside::Groups::clock_fields, crate::specs::inside::Groups::history_fields, crate::specs::inside::Groups::eth1_fields, crate::specs::inside::Groups::registry_fields, crate::specs::inside::Groups::pending_fields, crate::specs::inside::Groups::finality_fields))]
-fn write_fields(s: &State, out: &mut PartsWriter) -> Result<(), NoMemory>
+fn write_fields(alloc: Global, s: &State, out: &mut PartsWriter) -> Result<(), NoMemory>
     ensures { OnOk result (out.new ≡ with_parts (layout_of (state_fields s.now.preset)) (parts_of (state_fields s.now.preset) s.now) out.old) }
 {
     add_clock(s, out)?;
-    add_history(s, out)?;
-    add_eth1(s, out)?;
-    add_registry(s, out)?;
-    add_pending(s, out)?;
+    add_history(alloc, s, out)?;
+    add_eth1(alloc, s, out)?;
+    add_registry(alloc, s, out)?;
+    add_pending(alloc, s, out)?;
     add_finality(s, out)
 }
 
@@ -113,7 +113,7 @@ fn write_plain(alloc: Global, s: &State) -> Result<Vec<u8>, NoMemory>
     ensures { IfOk result (λ bytes. bytes.items ≡ (state_codec s.now.preset).serialize s.now) }
 {
     let mut parts = PartsWriter::new(alloc, shortest_state(s.preset()));
-    write_fields(s, &mut parts)?;
+    write_fields(alloc, s, &mut parts)?;
     parts.finish()
 }
 

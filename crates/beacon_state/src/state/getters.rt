@@ -184,7 +184,7 @@ impl State {
     pub fn balances_at(&self, i: u64) -> Option<u64>
         ensures { result ≡ slice_get self.now.balances i }
     {
-        self.balances.get(i).copied()
+        self.balances.get(i)
     }
 
     /// How many mixes there are: as many as the preset says.
@@ -215,7 +215,7 @@ impl State {
     pub fn slashings_at(&self, i: u64) -> Option<u64>
         ensures { result ≡ slice_get self.now.slashings i }
     {
-        self.slashings.get(i).copied()
+        self.slashings.get(i)
     }
 
     /// How many attestations of the previous epoch there are.

@@ -9,7 +9,6 @@ ghost use Rattle.beacon_state.specs.inside.Changes.{one_more_previous_attestatio
 ghost use Rattle.beacon_state.specs.inside.Changes.{with_previous_attestation_at, with_current_attestation_at, with_rotated_attestations};
 
 use super::State;
-use crate::groups::{attestations_limit_of, votes_limit_of};
 use bc_words::{NoMemory, PushStop};
 use beacon_types::{BeaconBlockHeader, Checkpoint, Eth1Data, Fork, PendingAttestation, Validator};
 use hash_tree::Root;
@@ -124,8 +123,7 @@ impl State {
     pub fn push_historical_roots(&mut self, root: Root) -> Result<(), PushStop>
         ensures { Pushes result self.old self.new (one_more_historical_root self.old root) }
     {
-        let limit = self.preset.historical_roots_limit;
-        self.historical_roots.push(root, limit)
+        self.historical_roots.push(root)
     }
 
     /// Writes another vote at a place. Where memory is refused, the state is as before.
@@ -141,8 +139,7 @@ impl State {
     pub fn push_eth1_data_votes(&mut self, vote: Eth1Data) -> Result<(), PushStop>
         ensures { Pushes result self.old self.new (one_more_vote self.old vote) }
     {
-        let limit = votes_limit_of(&self.preset);
-        self.eth1_data_votes.push(vote, limit)
+        self.eth1_data_votes.push(vote)
     }
 
     /// Writes another validator at a place. Where memory is refused, the state is as before.
@@ -158,8 +155,7 @@ impl State {
     pub fn push_validators(&mut self, validator: Validator) -> Result<(), PushStop>
         ensures { Pushes result self.old self.new (one_more_validator self.old validator) }
     {
-        let limit = self.preset.validator_registry_limit;
-        self.validators.push(validator, limit)
+        self.validators.push(validator)
     }
 
     /// Writes another balance at a place. Where memory is refused, the state is as before.
@@ -175,8 +171,7 @@ impl State {
     pub fn push_balances(&mut self, balance: u64) -> Result<(), PushStop>
         ensures { Pushes result self.old self.new (one_more_balance self.old balance) }
     {
-        let limit = self.preset.validator_registry_limit;
-        self.balances.push(balance, limit)
+        self.balances.push(balance)
     }
 
     /// Writes another mix at a place. Where memory is refused, the state is as before.
@@ -215,8 +210,7 @@ impl State {
     ) -> Result<(), PushStop>
         ensures { Pushes result self.old self.new (one_more_previous_attestation self.old attestation) }
     {
-        let limit = attestations_limit_of(&self.preset);
-        self.previous_epoch_attestations.push(attestation, limit)
+        self.previous_epoch_attestations.push(attestation)
     }
 
     /// Writes another attestation at a place. Where memory is refused, the state is as before.
@@ -239,15 +233,14 @@ impl State {
     ) -> Result<(), PushStop>
         ensures { Pushes result self.old self.new (one_more_current_attestation self.old attestation) }
     {
-        let limit = attestations_limit_of(&self.preset);
-        self.current_epoch_attestations.push(attestation, limit)
+        self.current_epoch_attestations.push(attestation)
     }
 
     /// Drops all votes for the deposit contract. Where memory is refused, the state is as before.
     pub fn clear_eth1_data_votes(&mut self) -> Result<(), NoMemory>
         ensures { Becomes result self.old self.new (record self.old { eth1_data_votes = [] }) }
     {
-        self.eth1_data_votes.clear();
+        self.eth1_data_votes = self.eth1_data_votes.none()?;
         Ok(())
     }
 
@@ -256,11 +249,9 @@ impl State {
     pub fn rotate_attestations(&mut self) -> Result<(), NoMemory>
         ensures { Becomes result self.old self.new (with_rotated_attestations self.old) }
     {
-        self.previous_epoch_attestations.clear();
-        mem::swap(
-            &mut self.previous_epoch_attestations,
-            &mut self.current_epoch_attestations,
-        );
+        let none = self.current_epoch_attestations.none()?;
+        self.previous_epoch_attestations =
+            mem::replace(&mut self.current_epoch_attestations, none);
         Ok(())
     }
 }

@@ -9,7 +9,6 @@ use super::State;
 use bc_words::NoMemory;
 use beacon_types::Validator;
 use hash_tree::Root;
-use ssz_codec::vector_root;
 
 impl State {
     /// Writes the whole registry. Where memory is refused, the state is as before.
@@ -17,8 +16,7 @@ impl State {
         requires { length validators.items ≤ self.old.preset.validator_registry_limit }
         ensures { Becomes result self.old self.new (record self.old { validators = validators.items }) }
     {
-        self.validators.replace(validators);
-        Ok(())
+        self.validators.replace(validators)
     }
 
     /// Writes all balances, in Gwei. Where memory is refused, the state is as before.
@@ -26,25 +24,20 @@ impl State {
         requires { length balances.items ≤ self.old.preset.validator_registry_limit }
         ensures { Becomes result self.old self.new (record self.old { balances = balances.items }) }
     {
-        self.balances.replace(balances);
-        Ok(())
+        self.balances.replace(balances)
     }
 
-    /// The root of the vector of the roots of the latest blocks. It takes no memory.
-    #[tactic(auto, using(bc_preset::proofs::Bounds::preset_bounds))]
+    /// The root of the vector of the roots of the latest blocks. It is kept.
     pub fn block_roots_root(&self) -> Root
         ensures { result ≡ (vector_codec bytes32 self.now.preset.slots_per_historical_root).hash_tree_root self.now.block_roots }
     {
-        let preset = self.preset();
-        vector_root(self.block_roots(), preset.slots_per_historical_root)
+        self.block_roots().vector_root()
     }
 
-    /// The root of the vector of the roots of the latest states. It takes no memory.
-    #[tactic(auto, using(bc_preset::proofs::Bounds::preset_bounds))]
+    /// The root of the vector of the roots of the latest states. It is kept.
     pub fn state_roots_root(&self) -> Root
         ensures { result ≡ (vector_codec bytes32 self.now.preset.slots_per_historical_root).hash_tree_root self.now.state_roots }
     {
-        let preset = self.preset();
-        vector_root(self.state_roots(), preset.slots_per_historical_root)
+        self.state_roots().vector_root()
     }
 }

@@ -1,4 +1,5 @@
-use Rattle.std.proofs.Common.{rules}
+use Rattle.std.proofs.Common.{rules, subst}
+use Rattle.std.specs.List.{AllByRecursion}
 use Rattle.beacon_state.proofs.state.State.in_range.Goals as goal
 
 pub returns-clause-range : goal.returns-clause-range
@@ -8,18 +9,18 @@ returns-clause-range c = record {
   slot = search rules;
   fork = rw (← c.self.view_is) c.fork_in_range.ensures;
   latest_block_header = rw (← c.self.view_is) c.header_in_range.ensures;
-  block_roots = c.block_roots-block_roots.ensures.within;
-  state_roots = c.state_roots-state_roots.ensures.within;
-  historical_roots = c.historical_roots-historical_roots.ensures.within;
+  block_roots = subst (AllByRecursion _) c.block_roots.ensures.same c.len-block_roots.ensures.within;
+  state_roots = subst (AllByRecursion _) c.state_roots.ensures.same c.len-state_roots.ensures.within;
+  historical_roots = subst (AllByRecursion _) c.historical_roots.ensures.same c.len-historical_roots.ensures.within;
   eth1_data = rw (← c.self.view_is) c.eth1_data_in_range.ensures;
-  eth1_data_votes = c.eth1_data_votes-votes.ensures.within;
+  eth1_data_votes = subst (AllByRecursion _) c.eth1_data_votes.ensures.same c.len-votes.ensures.within;
   eth1_deposit_index = search rules;
-  validators = c.validators-validators.ensures.within;
-  balances = c.balances-balances.ensures.within;
-  randao_mixes = c.randao_mixes-mixes.ensures.within;
-  slashings = c.slashings-slashings.ensures.within;
-  previous_epoch_attestations = c.previous_epoch_attestations-previous.ensures.within;
-  current_epoch_attestations = c.current_epoch_attestations-current.ensures.within;
+  validators = subst (AllByRecursion _) c.validators.ensures.same c.len-validators.ensures.within;
+  balances = subst (AllByRecursion _) c.balances.ensures.same c.len-balances.ensures.within;
+  randao_mixes = subst (AllByRecursion _) c.randao_mixes.ensures.same c.len-mixes.ensures.within;
+  slashings = subst (AllByRecursion _) c.slashings.ensures.same c.len-slashings.ensures.within;
+  previous_epoch_attestations = subst (AllByRecursion _) c.previous_epoch_attestations.ensures.same c.len-previous.ensures.within;
+  current_epoch_attestations = subst (AllByRecursion _) c.current_epoch_attestations.ensures.same c.len-current.ensures.within;
   justification_bits = rw (← c.self.view_is) c.bits_in_range.ensures;
   previous_justified_checkpoint = rw (← c.self.view_is) c.checkpoint_in_range.ensures;
   current_justified_checkpoint = rw (← c.self.view_is) c.checkpoint_in_range-2.ensures;

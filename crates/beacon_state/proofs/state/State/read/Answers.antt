@@ -18,14 +18,14 @@ from_plain-requires-clause-state c = read_is_state c.args.preset.now c.args.byte
 pub from_plain-requires-clause-range : goal.from_plain-requires-clause-range
 from_plain-requires-clause-range c = read_is_in_range c.args.preset.now c.args.bytes.now c.in_ok-plain.plain (λ i. omega (arith, c.type_inv.bytes i)) c.in_ok-plain.ensures
 
-pub returns-clause-reads : goal.returns-clause-reads
-returns-clause-reads c = rw c.from_plain.ensures ((state_lawful c.args.preset.now).sound c.args.bytes.now c.in_ok-plain.plain (λ i. omega (arith, c.type_inv.bytes i)) c.in_ok-plain.ensures)
+pub returns-in-Ok-clause-reads : goal.returns-in-Ok-clause-reads
+returns-in-Ok-clause-reads c = rw c.in-Ok.ensures ((state_lawful c.args.preset.now).sound c.args.bytes.now c.in_ok-plain.plain (λ i. omega (arith, c.type_inv.bytes i)) c.in_ok-plain.ensures)
 
-pub returns-clause-state : goal.returns-clause-state
-returns-clause-state c = rw c.from_plain.ensures (read_is_state c.args.preset.now c.args.bytes.now c.in_ok-plain.plain c.requires (λ i. omega (arith, c.type_inv.bytes i)) c.in_ok-plain.ensures)
+pub returns-in-Ok-clause-state : goal.returns-in-Ok-clause-state
+returns-in-Ok-clause-state c = rw c.in-Ok.ensures (read_is_state c.args.preset.now c.args.bytes.now c.in_ok-plain.plain c.requires (λ i. omega (arith, c.type_inv.bytes i)) c.in_ok-plain.ensures)
 
-pub returns-clause-range : goal.returns-clause-range
-returns-clause-range c = rw c.from_plain.ensures (read_is_in_range c.args.preset.now c.args.bytes.now c.in_ok-plain.plain (λ i. omega (arith, c.type_inv.bytes i)) c.in_ok-plain.ensures)
+pub returns-in-Ok-clause-range : goal.returns-in-Ok-clause-range
+returns-in-Ok-clause-range c = rw c.in-Ok.ensures (read_is_in_range c.args.preset.now c.args.bytes.now c.in_ok-plain.plain (λ i. omega (arith, c.type_inv.bytes i)) c.in_ok-plain.ensures)
 
-pub returns-clause-written : goal.returns-clause-written
-returns-clause-written c = rw c.from_plain.ensures (read_has_writing c.args.preset.now c.args.bytes.now c.in_ok-plain.plain (λ i. omega (arith, c.type_inv.bytes i)) c.in_ok-plain.ensures)
+pub returns-in-Ok-clause-written : goal.returns-in-Ok-clause-written
+returns-in-Ok-clause-written c = rw c.in-Ok.ensures (read_has_writing c.args.preset.now c.args.bytes.now c.in_ok-plain.plain (λ i. omega (arith, c.type_inv.bytes i)) c.in_ok-plain.ensures)

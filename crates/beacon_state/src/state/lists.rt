@@ -1,0 +1,147 @@
+//! The lists of a state, for its writing, its root and the check of a genesis, and those that are lent to all.
+
+ghost use Rattle.std.specs.Prelude.{◌≡◌, ◌≤◌, length};
+ghost use Rattle.spec_state.specs.States.{votes_limit, attestations_limit};
+ghost use Rattle.spec_state.specs.Limits.{IsState, IsInRange};
+
+use super::State;
+use crate::in_range::{
+    bits_in_range, checkpoint_in_range, eth1_data_in_range, fork_in_range, header_in_range,
+    root_in_range,
+};
+use crate::numbers::Numbers;
+use crate::values::Values;
+use beacon_types::{Eth1Data, PendingAttestation, Validator};
+use hash_tree::Root;
+use shared_tree::SharedList;
+
+impl State {
+    /// The roots of the latest blocks.
+    pub(crate) fn block_roots(&self) -> &Values<Root>
+        ensures same { result.now.items ≡ self.now.block_roots }
+        ensures most { result.now.limit ≡ self.now.preset.slots_per_historical_root }
+        ensures limit { length self.now.block_roots ≡ self.now.preset.slots_per_historical_root }
+    {
+        &self.block_roots
+    }
+
+    /// The roots of the latest states.
+    pub(crate) fn state_roots(&self) -> &Values<Root>
+        ensures same { result.now.items ≡ self.now.state_roots }
+        ensures most { result.now.limit ≡ self.now.preset.slots_per_historical_root }
+        ensures limit { length self.now.state_roots ≡ self.now.preset.slots_per_historical_root }
+    {
+        &self.state_roots
+    }
+
+    /// The roots of older batches.
+    pub(crate) fn historical_roots(&self) -> &Values<Root>
+        ensures same { result.now.items ≡ self.now.historical_roots }
+        ensures most { result.now.limit ≡ self.now.preset.historical_roots_limit }
+        ensures limit { length self.now.historical_roots ≤ self.now.preset.historical_roots_limit }
+    {
+        &self.historical_roots
+    }
+
+    /// The votes for the deposit contract.
+    pub(crate) fn eth1_data_votes(&self) -> &Values<Eth1Data>
+        ensures same { result.now.items ≡ self.now.eth1_data_votes }
+        ensures most { result.now.limit ≡ votes_limit self.now.preset }
+        ensures limit { length self.now.eth1_data_votes ≤ votes_limit self.now.preset }
+    {
+        &self.eth1_data_votes
+    }
+
+    /// The registry.
+    pub(crate) fn validators(&self) -> &Values<Validator>
+        ensures same { result.now.items ≡ self.now.validators }
+        ensures most { result.now.limit ≡ self.now.preset.validator_registry_limit }
+        ensures limit { length self.now.validators ≤ self.now.preset.validator_registry_limit }
+    {
+        &self.validators
+    }
+
+    /// The balances.
+    pub(crate) fn balances(&self) -> &Numbers
+        ensures same { result.now.items ≡ self.now.balances }
+        ensures most { result.now.limit ≡ self.now.preset.validator_registry_limit }
+        ensures limit { length self.now.balances ≤ self.now.preset.validator_registry_limit }
+    {
+        &self.balances
+    }
+
+    /// The mixes.
+    pub(crate) fn randao_mixes(&self) -> &Values<Root>
+        ensures same { result.now.items ≡ self.now.randao_mixes }
+        ensures most { result.now.limit ≡ self.now.preset.epochs_per_historical_vector }
+        ensures limit { length self.now.randao_mixes ≡ self.now.preset.epochs_per_historical_vector }
+    {
+        &self.randao_mixes
+    }
+
+    /// The slashed balances.
+    pub(crate) fn slashings(&self) -> &Numbers
+        ensures same { result.now.items ≡ self.now.slashings }
+        ensures most { result.now.limit ≡ self.now.preset.epochs_per_slashings_vector }
+        ensures limit { length self.now.slashings ≡ self.now.preset.epochs_per_slashings_vector }
+    {
+        &self.slashings
+    }
+
+    /// The attestations of the previous epoch.
+    pub(crate) fn previous_epoch_attestations(&self) -> &Values<PendingAttestation>
+        ensures same { result.now.items ≡ self.now.previous_epoch_attestations }
+        ensures most { result.now.limit ≡ attestations_limit self.now.preset }
+        ensures limit { length self.now.previous_epoch_attestations ≤ attestations_limit self.now.preset }
+    {
+        &self.previous_epoch_attestations
+    }
+
+    /// The attestations of the current epoch.
+    pub(crate) fn current_epoch_attestations(&self) -> &Values<PendingAttestation>
+        ensures same { result.now.items ≡ self.now.current_epoch_attestations }
+        ensures most { result.now.limit ≡ attestations_limit self.now.preset }
+        ensures limit { length self.now.current_epoch_attestations ≤ attestations_limit self.now.preset }
+    {
+        &self.current_epoch_attestations
+    }
+}
+
+impl State {
+    /// The registry. Its root is kept.
+    pub fn validator_list(&self) -> &SharedList<Validator>
+        ensures items { result.now.items ≡ self.now.validators }
+        ensures limit { result.now.limit ≡ self.now.preset.validator_registry_limit }
+    {
+        self.validators.list()
+    }
+
+    /// The state is within the limits of its preset, and so is each value. It does nothing when it runs.
+    pub(crate) fn in_range(&self)
+        ensures state { IsState self.now }
+        ensures range { IsInRange self.now }
+    {
+        let _preset = &self.preset;
+        let _time = self.genesis_time;
+        let _slot = self.slot;
+        let _index = self.eth1_deposit_index;
+        root_in_range(&self.genesis_validators_root);
+        bits_in_range(&self.justification_bits);
+        fork_in_range(&self.fork);
+        header_in_range(&self.latest_block_header);
+        eth1_data_in_range(&self.eth1_data);
+        checkpoint_in_range(&self.previous_justified_checkpoint);
+        checkpoint_in_range(&self.current_justified_checkpoint);
+        checkpoint_in_range(&self.finalized_checkpoint);
+        let _block_roots = self.block_roots().len();
+        let _state_roots = self.state_roots().len();
+        let _historical_roots = self.historical_roots().len();
+        let _votes = self.eth1_data_votes().len();
+        let _validators = self.validators().len();
+        let _balances = self.balances().len();
+        let _mixes = self.randao_mixes().len();
+        let _slashings = self.slashings().len();
+        let _previous = self.previous_epoch_attestations().len();
+        let _current = self.current_epoch_attestations().len();
+    }
+}
