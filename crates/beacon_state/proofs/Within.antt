@@ -1,6 +1,7 @@
 -- A list whose values are all within a codec's limits, and a change of it.
 use Rattle.std.proofs.Common.{◌≡◌, ℕ, zero, suc, ◌+◌, ◌<◌, ◌≤◌, List, [], ◌∷◌, ◌++◌, length, take, get_or, slice_get, slice_set, Some, sym, ap, ◌∙◌, subst}
 use Rattle.std.specs.List.{AllByRecursion}
+use Rattle.shared_tree.specs.Lists.{Limited}
 use Rattle.std.proofs.lemmas.List.{take_more, take_all}
 use Rattle.std.proofs.lemmas.Option.{slice_get_within, get_or_from_slice_get}
 
@@ -28,3 +29,7 @@ pub copied_more : {A : Type 0} (xs ys zs : List A) (i : ℕ) (v x : A) → ys �
 copied_more xs ys zs i v x so_far at copy more =
     let is = sym at in
     more ∙ ap (λ y. ys ++ y ∷ []) (copy ∙ sym (get_or_from_slice_get xs i v v is)) ∙ ap (λ front. front ++ get_or xs i v ∷ []) so_far ∙ sym (take_more xs i v (slice_get_within xs i v is))
+
+-- a list has these values, all of which are
+pub all_of_list : {A : Type 0} (P : A → Type 0) (list : Limited A) (limit : ℕ) (xs ys : List A) → list ≡ record { limit = limit; items = xs } → ys ≡ xs → AllByRecursion P ys → AllByRecursion P list.items
+all_of_list P list limit xs ys e h all = subst (AllByRecursion P) (sym (ap (λ l. l.items) e)) (subst (AllByRecursion P) h all)

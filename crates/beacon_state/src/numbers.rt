@@ -1,52 +1,81 @@
-//! The numbers of a list or a vector of the state.
+//! The numbers of a list or a vector of the state, in a tree that shares its nodes and keeps its root.
 //!
 //! Numbers come from reading and from those who change the state, and go to getters, writing and roots.
 
-ghost use Rattle.std.specs.Prelude.{◌≡◌, ◌<◌, ◌≤◌, ◌^◌, ◌++◌, ◌∷◌, [], length, slice_get, slice_set, IfOk};
+ghost use Rattle.std.specs.Prelude.{◌≡◌, ◌<◌, ◌≤◌, ◌^◌, length, slice_get, slice_set, IfOk};
 ghost use Rattle.std.specs.List.{AllByRecursion};
 ghost use Rattle.bc_words.specs.Outcome.{Pushes, Becomes, checked_push};
 ghost use Rattle.ssz_codec.specs.Basic.{uint64};
 ghost use Rattle.ssz_codec.specs.Lists.{vector_codec, list_codec};
 
-use crate::in_range::InRange;
-use bc_words::{NoMemory, PushStop};
+use bc_words::{NoMemory, PushStop, Steps};
 use hash_tree::Root;
-use ssz_codec::{Items, number_list_root, number_vector_root};
+use shared_tree::PackedList;
+use ssz_codec::Items;
 use std::alloc::Global;
-use std::marker::Model;
+use std::marker::{Brand, Model};
+use std::sync::ledger::{Blank, Ledger};
 
 /// The numbers in order, and how many there may be: of a vector, how many there are.
 #[derive(Drop)]
 pub(crate) struct Numbers {
-    numbers: Vec<u64>,
-    limit: u64,
+    list: PackedList,
 }
 
 impl Model for Numbers {
-    ghost use Rattle.std.specs.Prelude.{ℕ, ◌≤◌, ◌^◌, length};
-    ghost use Rattle.std.specs.List.{AllByRecursion};
+    ghost use Rattle.std.specs.Prelude.{ℕ};
     ghost use Rattle.shared_tree.specs.Lists.{Limited};
-    ghost use Rattle.ssz_codec.specs.Basic.{uint64};
 
     ghost Value = { Limited ℕ };
 
-    ghost view = { λ s. record { limit = s.limit; items = s.numbers.items } };
+    ghost view = { λ s. s.list };
+}
 
-    ghost invariant = { λ s. (length s.numbers.items ≤ s.limit) × (s.limit ≤ 2 ^ 40) × AllByRecursion uint64.Within s.numbers.items };
+/// Sets a number of a list. The steps that it takes are counted by a counter of its own, which nothing reads.
+fn set_number<L: Ledger>(
+    list: &mut PackedList,
+    i: u64,
+    number: u64,
+    blank: Blank,
+) -> Result<(), NoMemory>
+    requires name { blank.name ≡ L.name }
+    requires parts { blank.parts ≡ L.parts }
+    requires some { 0 < blank.parts }
+    requires place { i < length list.old.items }
+    ensures { Becomes result list.old list.new (record list.old { items = slice_set list.old.items i number }) }
+{
+    let mut steps = Steps::<L>::new(blank);
+    list.set(i, number, &mut steps)
+}
+
+/// Puts one more number at the end of a list, with a counter of its own.
+fn push_number<L: Ledger>(list: &mut PackedList, number: u64, blank: Blank) -> Result<(), PushStop>
+    requires name { blank.name ≡ L.name }
+    requires parts { blank.parts ≡ L.parts }
+    requires some { 0 < blank.parts }
+    ensures pushes { Pushes result list.old.items list.new.items (checked_push list.old.limit list.old.items number) }
+    ensures limit { list.new.limit ≡ list.old.limit }
+{
+    let mut steps = Steps::<L>::new(blank);
+    list.push(number, &mut steps)
 }
 
 impl Numbers {
-    /// The numbers that were read, of which there may be so many.
+    /// The numbers that were read, of which there may be so many. Each inner node of their tree is hashed once.
     pub(crate) fn from_items(items: Items<u64>, limit: u64) -> Result<Numbers, NoMemory>
-        requires within { AllByRecursion uint64.Within items }
         requires low { limit ≤ 2 ^ 40 }
         requires fits { length items ≤ limit }
         ensures { IfOk result (λ numbers. numbers ≡ record { limit = limit; items = items }) }
     {
-        Ok(Numbers {
-            numbers: items.into_vec(),
-            limit,
-        })
+        let list = PackedList::from_vec(items.into_vec(), limit)?;
+        Ok(Numbers { list })
+    }
+
+    /// The list that they stand in.
+    pub(crate) fn list(&self) -> &PackedList
+        ensures { result.now ≡ self.now }
+    {
+        &self.list
     }
 
     /// How many there are. Each of them is below 2^64.
@@ -54,40 +83,33 @@ impl Numbers {
         ensures len { result ≡ length self.now.items }
         ensures within { AllByRecursion uint64.Within self.now.items }
     {
-        self.numbers.len() as u64
+        self.list.len()
     }
 
     /// The number at a place. None exactly where the place is not below the length.
     pub(crate) fn get(&self, i: u64) -> Option<u64>
         ensures { result ≡ slice_get self.now.items i }
     {
-        self.numbers.as_slice().get(i as usize).copied()
+        self.list.get(i)
     }
 
     /// Writes another number at a place. Where memory is refused, they are as before.
-    #[tactic(auto, using(crate::proofs::Within::all_set))]
     pub(crate) fn set(&mut self, i: u64, number: u64) -> Result<(), NoMemory>
         requires { i < length self.old.items }
         ensures { Becomes result self.old self.new (record self.old { items = slice_set self.old.items i number }) }
     {
-        number.in_range();
-        self.numbers[i as usize] = number;
-        Ok(())
+        set_number::<Brand>(&mut self.list, i, number, Blank::new(1))
     }
 
     /// One more number at the end, where there are fewer than the limit. After a stop they are as before.
-    #[tactic(auto, unfolding(bc_words::specs::Outcome::checked_push), using(crate::proofs::Within::all_push))]
     pub(crate) fn push(&mut self, number: u64) -> Result<(), PushStop>
         ensures pushes { Pushes result self.old.items self.new.items (checked_push self.old.limit self.old.items number) }
         ensures limit { self.new.limit ≡ self.old.limit }
         ensures fits { length self.new.items ≤ self.new.limit }
     {
-        if self.len() >= self.limit {
-            return Err(PushStop::Full);
-        }
-        number.in_range();
-        self.numbers.push(number)?;
-        Ok(())
+        let pushed = push_number::<Brand>(&mut self.list, number, Blank::new(1));
+        let _limit = self.list.limit();
+        pushed
     }
 
     /// Writes other numbers in the place of all of them. Where memory is refused, they are as before.
@@ -95,44 +117,44 @@ impl Numbers {
         requires { length numbers.items ≤ self.old.limit }
         ensures { Becomes result self.old self.new (record self.old { items = numbers.items }) }
     {
-        for number in &numbers {
-            number.in_range();
-        }
-        self.numbers = numbers;
+        let limit = self.list.limit();
+        self.list = PackedList::from_vec(numbers, limit)?;
         Ok(())
     }
 
-    /// The same numbers once more.
+    /// The same numbers, in the same nodes.
     pub(crate) fn share(&self) -> Result<Numbers, NoMemory>
         ensures { IfOk result (λ numbers. numbers ≡ self.now) }
     {
-        let numbers = self.copied(*self.numbers.allocator())?;
-        Ok(Numbers {
-            numbers,
-            limit: self.limit,
-        })
+        let list = self.list.share()?;
+        Ok(Numbers { list })
     }
 
     /// All of them in one piece, for writing.
     pub(crate) fn copied(&self, alloc: Global) -> Result<Vec<u64>, NoMemory>
         ensures { IfOk result (λ numbers. numbers.items ≡ self.now.items) }
     {
-        let numbers = Vec::from_slice(alloc, self.numbers.as_slice())?;
+        let mut numbers = Vec::new(alloc);
+        for i in 0..self.len() {
+            match self.get(i) {
+                Some(number) => numbers.push(number)?,
+                None => unreachable!(),
+            }
+        }
         Ok(numbers)
     }
 
-    /// The root of the list (simple-serialize.md, "Merkleization").
+    /// The root of the list (simple-serialize.md, "Merkleization"). It is kept.
     pub(crate) fn list_root(&self) -> Root
         ensures { result ≡ (list_codec uint64 self.now.limit).hash_tree_root self.now.items }
     {
-        number_list_root(self.numbers.as_slice(), self.limit)
+        self.list.root()
     }
 
-    /// The root of the vector, of which there are as many as there may be.
+    /// The root of the vector of as many numbers as there may be. It is kept.
     pub(crate) fn vector_root(&self) -> Root
-        requires { length self.now.items ≡ self.now.limit }
         ensures { result ≡ (vector_codec uint64 self.now.limit).hash_tree_root self.now.items }
     {
-        number_vector_root(self.numbers.as_slice(), self.limit)
+        self.list.top()
     }
 }

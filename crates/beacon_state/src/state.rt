@@ -92,14 +92,25 @@ impl State {
             current_justified_checkpoint,
             finalized_checkpoint,
         } = plain;
-        let (block_roots, state_roots, randao_mixes) =
-            vectors_built(&preset, block_roots, state_roots, randao_mixes)?;
-        let (historical_roots, eth1_data_votes) =
-            lists_built(&preset, historical_roots, eth1_data_votes)?;
-        let (validators, balances, slashings) =
-            registry_built(&preset, validators, balances, slashings)?;
-        let (previous_epoch_attestations, current_epoch_attestations) =
-            pending_built(&preset, previous_epoch_attestations, current_epoch_attestations)?;
+        let (block_roots, state_roots, randao_mixes) = vectors_built(
+            &preset,
+            block_roots,
+            state_roots,
+            randao_mixes,
+        )?;
+        let (historical_roots, eth1_data_votes) = lists_built(
+            &preset,
+            historical_roots,
+            eth1_data_votes,
+        )?;
+        let (validators, balances, slashings) = registry_built(
+            &preset, validators, balances, slashings,
+        )?;
+        let (previous_epoch_attestations, current_epoch_attestations) = pending_built(
+            &preset,
+            previous_epoch_attestations,
+            current_epoch_attestations,
+        )?;
         Ok(State {
             preset,
             genesis_time,
@@ -163,7 +174,9 @@ impl State {
     }
 
     /// The lists of roots once more.
-    fn share_roots(&self) -> Result<(Values<Root>, Values<Root>, Values<Root>, Values<Root>), NoMemory>
+    fn share_roots(
+        &self,
+    ) -> Result<(Values<Root>, Values<Root>, Values<Root>, Values<Root>), NoMemory>
         ensures { IfOk result (HasRoots self.now) }
     {
         let block_roots = self.block_roots.share()?;
@@ -184,7 +197,16 @@ impl State {
     }
 
     /// The votes and the pending attestations once more.
-    fn share_pending(&self) -> Result<(Values<Eth1Data>, Values<PendingAttestation>, Values<PendingAttestation>), NoMemory>
+    fn share_pending(
+        &self,
+    ) -> Result<
+        (
+            Values<Eth1Data>,
+            Values<PendingAttestation>,
+            Values<PendingAttestation>,
+        ),
+        NoMemory,
+    >
         ensures { IfOk result (HasPending self.now) }
     {
         let votes = self.eth1_data_votes.share()?;

@@ -13,7 +13,7 @@ use crate::numbers::Numbers;
 use crate::values::Values;
 use beacon_types::{Eth1Data, PendingAttestation, Validator};
 use hash_tree::Root;
-use shared_tree::SharedList;
+use shared_tree::{PackedList, SharedList};
 
 impl State {
     /// The roots of the latest blocks.
@@ -114,6 +114,14 @@ impl State {
         ensures limit { result.now.limit ≡ self.now.preset.validator_registry_limit }
     {
         self.validators.list()
+    }
+
+    /// The balances, in Gwei. Their root is kept.
+    pub fn balance_list(&self) -> &PackedList
+        ensures items { result.now.items ≡ self.now.balances }
+        ensures limit { result.now.limit ≡ self.now.preset.validator_registry_limit }
+    {
+        self.balances.list()
     }
 
     /// The state is within the limits of its preset, and so is each value. It does nothing when it runs.

@@ -250,8 +250,7 @@ impl State {
         ensures { Becomes result self.old self.new (with_rotated_attestations self.old) }
     {
         let none = self.current_epoch_attestations.none()?;
-        self.previous_epoch_attestations =
-            mem::replace(&mut self.current_epoch_attestations, none);
+        self.previous_epoch_attestations = mem::replace(&mut self.current_epoch_attestations, none);
         Ok(())
     }
 }
