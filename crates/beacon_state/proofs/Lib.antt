@@ -5,3 +5,4 @@ pub mod FirstFault
 pub mod Balances
 pub mod Writings
 pub mod Within
+pub mod Differing

@@ -1,3 +1,4 @@
 pub mod Changes
+pub mod Differences
 pub mod Groups
 pub mod Plain

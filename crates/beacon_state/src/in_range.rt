@@ -1,6 +1,7 @@
-//! What a list of the state holds: values that are within the limits of their codec by their type, and can be copied.
+//! What a list of the state holds: values that are within the limits of their codec by their type, and can be
+//! copied and compared.
 
-ghost use Rattle.std.specs.Prelude.{◌≡◌, IfOk};
+ghost use Rattle.std.specs.Prelude.{◌≡◌, IfOk, IsTrue};
 ghost use Rattle.ssz_codec.specs.Basic.{bytes32, bitvector};
 ghost use Rattle.beacon_types.specs.Containers.{fork_codec, block_header_codec, eth1_data_codec, validator_codec, attestation_data_codec, checkpoint_codec, pending_attestation_codec};
 
@@ -20,16 +21,10 @@ pub(crate) trait InRange: Ssz {
     /// The same value once more.
     fn copied(&self) -> Result<Self, NoMemory>
         ensures { IfOk result (λ copy. copy ≡ self.now) };
-}
 
-impl InRange for u64 {
-    fn in_range(&self) {
-        let _number = *self;
-    }
-
-    fn copied(&self) -> Result<u64, NoMemory> {
-        Ok(*self)
-    }
+    /// Whether it is the same value.
+    fn same(&self, other: &Self) -> bool
+        ensures { IsTrue result → self.now ≡ other.now };
 }
 
 impl InRange for Root {
@@ -39,6 +34,10 @@ impl InRange for Root {
 
     fn copied(&self) -> Result<Root, NoMemory> {
         Ok(*self)
+    }
+
+    fn same(&self, other: &Root) -> bool {
+        self == other
     }
 }
 
@@ -50,6 +49,10 @@ impl InRange for Eth1Data {
     fn copied(&self) -> Result<Eth1Data, NoMemory> {
         Ok(*self)
     }
+
+    fn same(&self, other: &Eth1Data) -> bool {
+        self == other
+    }
 }
 
 impl InRange for Validator {
@@ -60,6 +63,10 @@ impl InRange for Validator {
     fn copied(&self) -> Result<Validator, NoMemory> {
         Ok(*self)
     }
+
+    fn same(&self, other: &Validator) -> bool {
+        self == other
+    }
 }
 
 impl InRange for PendingAttestation {
@@ -69,6 +76,10 @@ impl InRange for PendingAttestation {
 
     fn copied(&self) -> Result<PendingAttestation, NoMemory> {
         self.copy()
+    }
+
+    fn same(&self, other: &PendingAttestation) -> bool {
+        self.equals(other)
     }
 }
 

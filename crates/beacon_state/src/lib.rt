@@ -4,6 +4,7 @@
 #![tactic(auto)]
 
 mod building;
+mod differences;
 mod genesis;
 mod groups;
 mod in_range;

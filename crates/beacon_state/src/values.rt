@@ -8,7 +8,9 @@ ghost use Rattle.std.specs.List.{AllByRecursion};
 ghost use Rattle.std.specs.Option.{option_map};
 ghost use Rattle.bc_words.specs.Outcome.{Pushes, Becomes, checked_push};
 ghost use Rattle.ssz_codec.specs.Lists.{vector_codec, list_codec, variable_list_codec};
+ghost use Rattle.shared_tree.specs.Lists.{AreChanges, changed};
 
+use crate::differences::differences;
 use crate::in_range::InRange;
 use bc_words::{NoMemory, PushStop, Steps};
 use hash_tree::{Leaf, Root};
@@ -67,6 +69,43 @@ fn push_item<T: Leaf + Drop, L: Ledger>(
 {
     let mut steps = Steps::<L>::new(blank);
     list.push(value, &mut steps)
+}
+
+/// Sets many items of a list, with a counter of its own.
+fn set_items<T: Leaf + Drop, L: Ledger>(
+    list: &mut SharedList<T>,
+    changes: Vec<(u64, T)>,
+    blank: Blank,
+) -> Result<(), NoMemory>
+    requires name { blank.name ≡ L.name }
+    requires parts { blank.parts ≡ L.parts }
+    requires some { 0 < blank.parts }
+    requires places { AreChanges 0 (length list.old.items) changes.items }
+    ensures { Becomes result list.old list.new (record list.old { items = changed list.old.items changes.items }) }
+{
+    let mut steps = Steps::<L>::new(blank);
+    list.set_many(changes, &mut steps)
+}
+
+/// Makes a list of these items. Where there are as many as before and at most one in eight differs, the rest of the tree is
+/// kept, and else it is built anew.
+fn replace_items<T: InRange>(
+    list: &mut SharedList<T>,
+    items: Vec<T>,
+    alloc: Global,
+) -> Result<(), NoMemory>
+    requires { length items.items ≤ list.old.limit }
+    ensures { Becomes result list.old list.new (record list.old { items = items.items }) }
+{
+    if items.len() as u64 == list.len() {
+        let changes = differences(alloc, list, &items)?;
+        if changes.len() <= items.len() / 8 {
+            return set_items::<T, Brand>(list, changes, Blank::new(1));
+        }
+    }
+    let limit = list.limit();
+    *list = SharedList::from_vec(items, limit)?;
+    Ok(())
 }
 
 impl<T: InRange> Values<T> {
@@ -128,7 +167,8 @@ impl<T: InRange> Values<T> {
         pushed
     }
 
-    /// Writes other values in the place of all of them. Where memory is refused, they are as before.
+    /// Writes other values in the place of all of them. Where few differ, only the paths to them are made anew. Where memory
+    /// is refused, they are as before.
     pub(crate) fn replace(&mut self, values: Vec<T>) -> Result<(), NoMemory>
         requires { length values.items ≤ self.old.limit }
         ensures { Becomes result self.old self.new (record self.old { items = values.items }) }
@@ -136,9 +176,7 @@ impl<T: InRange> Values<T> {
         for value in &values {
             value.in_range();
         }
-        let limit = self.list.limit();
-        self.list = SharedList::from_vec(values, limit)?;
-        Ok(())
+        replace_items(&mut self.list, values, self.alloc)
     }
 
     /// No values, of which there may be as many.
