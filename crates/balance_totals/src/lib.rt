@@ -15,6 +15,3 @@ pub use epoch::committees_of_epoch;
 pub use epochs::{current_epoch, previous_epoch};
 pub use totals::{active, active_are_indices, count_active, total_active, total_of};
 pub use validators::{balance_at, is_active_validator, validator_at};
-
-#[cfg(test)]
-mod tests;

@@ -13,10 +13,7 @@ mod names;
 mod patience;
 mod seen;
 mod shelf;
-mod sink;
-#[cfg(test)]
-mod tests;
-mod trouble;
+mod sink;mod trouble;
 mod whole;
 
 pub use disk::{DiskShelf, StdSink};

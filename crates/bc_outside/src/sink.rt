@@ -17,4 +17,12 @@ pub trait Sink {
         ensures writes { Writes piece.now result (told self.old) (told self.new) }
         ensures causes { FailsOnlyBy result (told self.old).faults (told self.new).faults }
         ensures keeps { SinkKeeps (told self.old) (told self.new) };
+
+    /// Whether it would hear now of the slot of the head. It changes nothing, and what is written doesn't depend on it.
+    fn asks(&self) -> bool {
+        false
+    }
+
+    /// Hears of the slot of the head, to show how far a run is. It changes nothing.
+    fn hear(&self, _slot: u64) {}
 }

@@ -17,6 +17,3 @@ pub use configuration::{Config, ConfigValues, MAX_CONFIG_LEN};
 pub use faults::ConfigFault;
 pub use keys::Key;
 pub use presets::Preset;
-
-#[cfg(test)]
-mod tests;

@@ -25,6 +25,3 @@ pub use limits::{
 };
 pub use proposer_slashing::ProposerSlashing;
 pub use signed_block::SignedBeaconBlock;
-
-#[cfg(test)]
-mod tests;

@@ -92,6 +92,17 @@ fn no_event<S: EventSource>(source: &S, stop: FrameStop) -> Status
     }
 }
 
+/// Tells the slot of the store's head, where it is asked for.
+fn tell_head<O: Sink>(alloc: Global, store: &Store, out: &O) {
+    if out.asks() {
+        if let Ok(head) = store.head(alloc) {
+            if let Some(block) = store.block(head) {
+                out.hear(block.slot);
+            }
+        }
+    }
+}
+
 /// Takes the next event: hands it to the store, and writes its line. The status where the run is over.
 fn replay_event<S: EventSource, F: Shelf, O: Sink>(
     alloc: Global,
@@ -122,7 +133,10 @@ fn replay_event<S: EventSource, F: Shelf, O: Sink>(
         Err(status) => return Some(status),
     };
     match write_all(out, &line) {
-        Ok(()) => None,
+        Ok(()) => {
+            tell_head(alloc, store, out);
+            None
+        }
         Err(trouble) => Some(unwritten(trouble)),
     }
 }

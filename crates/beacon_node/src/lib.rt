@@ -11,8 +11,6 @@ mod progress;
 mod reading;
 mod replay;
 mod status;
-#[cfg(test)]
-mod tests;
 mod top;
 mod words;
 

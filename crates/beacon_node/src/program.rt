@@ -1,7 +1,7 @@
 //! The program over a runtime: its words, the disk and standard output go to `beacon_main`, and its status to the caller.
 
 use crate::explanation::{Cause, Explanation};
-use crate::progress::{Progress, Watch, WatchedOut, WatchedShelf};
+use crate::progress::{Progress, Watch, WatchedOut, WatchedShelf, WatchedSink};
 use crate::status::Status;
 use crate::top::beacon_main;
 use bc_outside::{DiskShelf, StdSink};
@@ -102,9 +102,10 @@ pub fn run<R: Env + Files + Print + Eprint + Clock + AllocGlobal>(
     };
     let watch = Watch::new(rt, progress);
     let mut shelf = WatchedShelf::new(DiskShelf::new(rt.alloc(), rt), &watch);
-    let mut out = StdSink::new(rt.alloc(), WatchedOut::new(rt, &watch));
+    let written = StdSink::new(rt.alloc(), WatchedOut::new(rt, &watch));
+    let mut out = WatchedSink::new(written, &watch);
     let status = beacon_main(rt.alloc(), &words, &mut shelf, &mut out);
     watch.clear();
-    explain(rt, &status, &words, shelf.shelf(), &out);
+    explain(rt, &status, &words, shelf.shelf(), out.sink());
     status.number()
 }

@@ -1,12 +1,13 @@
 //! The progress of a run, on a terminal beside a file of lines.
 //!
 //! The shelf and the writer of a run are wrapped, and count what passes: the bytes of the record, and the lines, one an
-//! event. No answer depends on it: contracts see both as what they wrap.
+//! event. The sink is wrapped too, and asks for the slot of the head when it is time to show. No answer depends on it:
+//! contracts see each as what it wraps.
 
 ghost use Rattle.std.specs.Prelude.{◌≡◌, ◌<◌, ◌^◌, [], ◌∷◌, length};
-ghost use Rattle.bc_outside.specs.Calls.{FailsOnlyBy, Opens, Reads, ShelfKeeps};
+ghost use Rattle.bc_outside.specs.Calls.{FailsOnlyBy, Opens, Reads, ShelfKeeps, SinkKeeps, Writes};
 
-use bc_outside::{Shelf, Trouble};
+use bc_outside::{Shelf, Sink, Trouble};
 use std::cell::Cell;
 use std::io;
 use std::io::{Eprint, IsTerminal, Print, Write};
@@ -63,23 +64,29 @@ impl<'a, R: Eprint + Clock> Watch<'a, R> {
         }
     }
 
-    /// Shows the progress in place of what was shown before.
-    fn show(&self) {
+    /// Shows the progress in place of what was shown before, with the slot of the head.
+    fn show(&self, slot: u64) {
         let events = self.events.get();
         let bytes = self.bytes.get();
-        let _ = eprint!(self.rt; "\r{events} events, {bytes} bytes of the record");
+        let _ = eprint!(self.rt;
+            "\r{events} events, {bytes} bytes of the record, head at slot {slot}\x1b[K"
+        );
         self.is_dirty.set(true);
     }
 
-    /// Shows the progress where it was not shown for long enough.
-    fn show_again(&self) {
-        let Ok(now) = self.rt.monotonic() else {
-            return;
-        };
-        if now.saturating_sub(self.shown.get()) >= Duration::from_millis(PAUSE) {
-            self.shown.set(now);
-            self.show();
+    /// Whether the progress is shown and was not shown for long enough. It counts as shown from now on.
+    fn is_due(&self) -> bool {
+        if self.progress == Progress::Hidden {
+            return false;
         }
+        let Ok(now) = self.rt.monotonic() else {
+            return false;
+        };
+        let is_due = now.saturating_sub(self.shown.get()) >= Duration::from_millis(PAUSE);
+        if is_due {
+            self.shown.set(now);
+        }
+        is_due
     }
 
     /// Counts bytes that were read of the record.
@@ -90,9 +97,8 @@ impl<'a, R: Eprint + Clock> Watch<'a, R> {
 
     /// Counts a line where it ends in bytes that were written: no write has more than one.
     fn count_lines(&self, bytes: &[u8]) {
-        if self.progress == Progress::Shown && bytes.contains(&b'\n') {
+        if bytes.contains(&b'\n') {
             self.events.set(self.events.get().saturating_add(1));
-            self.show_again();
         }
     }
 
@@ -176,5 +182,49 @@ impl<R: Print + Eprint + Clock> Write for WatchedOut<'_, '_, R> {
 
     fn flush(&mut self) -> io::Result<()> {
         Ok(())
+    }
+}
+
+/// A sink that counts the lines of a run, and hears where its head is.
+#[derive(Drop)]
+pub struct WatchedSink<'a, 'b, S: Sink + Drop, R: Eprint + Clock> {
+    sink: S,
+    watch: &'a Watch<'b, R>,
+}
+
+impl<'a, 'b, S: Sink + Drop, R: Eprint + Clock> WatchedSink<'a, 'b, S, R> {
+    /// The same sink, watched.
+    pub fn new(sink: S, watch: &'a Watch<'b, R>) -> Self
+        ensures { result.sink ≡ sink }
+    {
+        WatchedSink { sink, watch }
+    }
+
+    /// The sink itself.
+    pub fn sink(&self) -> &S
+        ensures { result.now ≡ self.now.sink }
+    {
+        &self.sink
+    }
+}
+
+impl<'a, 'b, S: Sink + Drop, R: Eprint + Clock> Sink for WatchedSink<'a, 'b, S, R> {
+    ghost told = { λ watched. S.told watched.sink };
+
+    fn write(&mut self, piece: &[u8]) -> Result<usize, Trouble>
+        requires { 0 < length piece.now }
+        ensures writes { Writes piece.now result (S.told self.old.sink) (S.told self.new.sink) }
+        ensures causes { FailsOnlyBy result (S.told self.old.sink).faults (S.told self.new.sink).faults }
+        ensures keeps { SinkKeeps (S.told self.old.sink) (S.told self.new.sink) }
+    {
+        self.sink.write(piece)
+    }
+
+    fn asks(&self) -> bool {
+        self.watch.is_due()
+    }
+
+    fn hear(&self, slot: u64) {
+        self.watch.show(slot);
     }
 }

@@ -35,6 +35,3 @@ pub use signed_header::SignedBeaconBlockHeader;
 pub use slashable::{is_slashable_data, same_data_is_equality};
 pub use validator::Validator;
 pub use voluntary_exit::VoluntaryExit;
-
-#[cfg(test)]
-mod tests;

@@ -1,29 +1,32 @@
 //! Measures what has to be fast, each against the hashes that it can't do without or another part of the run, in one run.
 //!
 //! The word behind the program's name says what to measure: `pairs`, `shuffle`, `state`, `registry`, `slot`, `block`,
-//! `attestation`, `operations` or `epoch`. Without a word nothing is measured.
+//! `attestation`, `operations`, `epoch` or `record`. Without a word nothing is measured.
 #![tactic(auto)]
 
 mod attestation;
 mod block;
+mod chain;
 mod epoch;
 mod operations;
 mod pairs;
 mod ratio;
+mod record;
 mod shuffle;
 mod state;
 mod states;
 
 use anyhow::Result;
 use std::env;
+use std::rt::Files;
 use std::time::CpuClock;
 
 /// What is printed where no word names a measurement.
 const USAGE: &str =
-    "name what to measure: pairs, shuffle, state, registry, slot, block, attestation, operations or epoch";
+    "name what to measure: pairs, shuffle, state, registry, slot, block, attestation, operations, epoch or record";
 
 /// Measures what a word names.
-fn measure(rt: &(impl AllocGlobal + Print + CpuClock), word: &str) -> Result<()> {
+fn measure(rt: &(impl AllocGlobal + Print + CpuClock + Files), word: &str) -> Result<()> {
     match word {
         "pairs" => pairs::measure(rt),
         "shuffle" => shuffle::measure(rt),
@@ -35,12 +38,13 @@ fn measure(rt: &(impl AllocGlobal + Print + CpuClock), word: &str) -> Result<()>
 }
 
 /// Measures what a word names among blocks and what they bring, and an epoch's end.
-fn measure_steps(rt: &(impl AllocGlobal + Print + CpuClock), word: &str) -> Result<()> {
+fn measure_steps(rt: &(impl AllocGlobal + Print + CpuClock + Files), word: &str) -> Result<()> {
     match word {
         "block" => block::measure(rt),
         "attestation" => attestation::measure(rt),
         "operations" => operations::measure(rt),
         "epoch" => epoch::measure(rt),
+        "record" => record::measure(rt),
         _ => Ok(println!(rt; "{USAGE}")?),
     }
 }

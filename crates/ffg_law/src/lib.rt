@@ -15,6 +15,3 @@ pub use laws::{
 };
 pub use link::{EpochEnd, Link, VotedLink};
 pub use shared::third_shared;
-
-#[cfg(test)]
-mod tests;

@@ -20,6 +20,3 @@ pub use zero::zero_hash;
 
 /// A chunk, or the root of a tree of chunks (simple-serialize.md, "Merkleization").
 pub type Root = [u8; 32];
-
-#[cfg(test)]
-mod tests;

@@ -13,6 +13,3 @@ mod words;
 
 pub use pairs::{hash_layer, hash_pairs};
 pub use sources::hash_sources;
-
-#[cfg(test)]
-mod tests;

@@ -12,9 +12,6 @@ mod frames;
 mod law;
 mod place;
 mod source;
-#[cfg(test)]
-mod tests;
-
 pub use event::{Event, Payload};
 pub use fault::{FrameStop, RecordFault};
 pub use frames::Frames;

@@ -37,6 +37,3 @@ pub use roots::{list_root, number_list_root, number_vector_root, variable_list_r
 pub use ssz::{FixedSsz, Ssz, one_writing, reads_back};
 pub use variable_list::{VariableList, VariableSsz};
 pub use writer::Writer;
-
-#[cfg(test)]
-mod tests;

@@ -3,7 +3,7 @@
 //! States come from genesis, from files, and from the transition itself.
 #![tactic(auto)]
 
-mod get_beacon_proposer_index;
+pub mod get_beacon_proposer_index;
 pub mod operations_keep_sound;
 mod pending;
 pub mod process_block;

@@ -1,0 +1,71 @@
+//! The root of the default body, and operations copied and compared. Whole blocks, read and damaged, are in block_vectors.
+
+use beacon_body::{Attestation, AttesterSlashing, BeaconBlock, SignedBeaconBlock, empty_body_root};
+use hash_tree::{Leaf, Root};
+use ssz_codec::{Ssz, VariableSsz, one_writing, reads_back};
+use std::test::Fail;
+
+// The roots below were computed beside this code, from simple-serialize.md alone.
+const DEFAULT_BODY: Root = [
+    0xcc, 0xb6, 0x24, 0x60, 0x69, 0x2b, 0xe0, 0xec, 0x81, 0x3b, 0x56, 0xbe, 0x97, 0xf6, 0x8a, 0x82,
+    0xcf, 0x57, 0xab, 0xc1, 0x02, 0xe2, 0x7b, 0xf4, 0x9e, 0xbf, 0x41, 0x90, 0xff, 0x22, 0xee, 0xdd,
+];
+
+// That of the signed block whose fields are all zero or empty.
+const DEFAULT_SIGNED_BLOCK: Root = [
+    0x01, 0x66, 0x23, 0x74, 0x67, 0xe5, 0xce, 0x84, 0x29, 0x98, 0x12, 0x0a, 0xf9, 0x78, 0xd6, 0xbe,
+    0x57, 0xfb, 0xa5, 0xc0, 0xdc, 0xe5, 0x93, 0x34, 0x4a, 0xd7, 0x26, 0x6f, 0x34, 0xe4, 0xac, 0x9c,
+];
+
+#[test]
+fn default_roots(rt: HostRuntime) -> Result<(), Fail> {
+    assert_eq!(rt; empty_body_root(), DEFAULT_BODY);
+    let mut bytes = [0; 404];
+    bytes[0] = 100;
+    bytes[180] = 84;
+    for at in [384, 388, 392, 396, 400] {
+        bytes[at] = 220;
+    }
+    let block = SignedBeaconBlock::read(rt.alloc(), &bytes)?;
+    assert_eq!(rt; block.message.body.root(), DEFAULT_BODY);
+    assert_eq!(rt; block.root(), DEFAULT_SIGNED_BLOCK);
+    assert_eq!(rt; block.write(rt.alloc())?.as_slice(), bytes.as_slice());
+    reads_back::<SignedBeaconBlock>();
+    one_writing::<BeaconBlock>();
+    Ok(())
+}
+
+#[test]
+fn copies_are_equal(rt: HostRuntime) -> Result<(), Fail> {
+    let mut bytes = [0; 229];
+    bytes[0] = 228;
+    bytes[228] = 5;
+    let attestation = Attestation::read(rt.alloc(), &bytes)?;
+    assert!(rt; attestation.equals(&attestation.copy()?));
+    bytes[228] = 7;
+    assert!(rt; !attestation.equals(&Attestation::read(rt.alloc(), &bytes)?));
+    let mut bytes = [0; 464];
+    bytes[0] = 8;
+    bytes[4] = 236;
+    bytes[8] = 228;
+    bytes[236] = 228;
+    let slashing = AttesterSlashing::read(rt.alloc(), &bytes)?;
+    assert!(rt; slashing.equals(&slashing.copy()?));
+    bytes[463] = 1;
+    assert!(rt; !slashing.equals(&AttesterSlashing::read(rt.alloc(), &bytes)?));
+    Ok(())
+}
+
+#[test]
+fn blocks_are_compared(rt: HostRuntime) -> Result<(), Fail> {
+    let mut bytes = [0; 304];
+    bytes[80] = 84;
+    for at in [284, 288, 292, 296, 300] {
+        bytes[at] = 220;
+    }
+    let block = BeaconBlock::read(rt.alloc(), &bytes)?;
+    assert!(rt; block.equals(&BeaconBlock::read(rt.alloc(), &bytes)?));
+    bytes[252] = 1;
+    assert!(rt; !block.equals(&BeaconBlock::read(rt.alloc(), &bytes)?));
+    Ok(())
+}
