@@ -1,6 +1,6 @@
 //! The record of a run: each event is read, handed to the store, and answered by a line.
 
-ghost use Rattle.std.specs.Prelude.{◌≡◌, ◌≢◌, ◌<◌, ◌≤◌, ◌+◌, ◌-◌, ◌^◌, [], ◌∷◌, length, IfSome, IfNone, IfOk, IfErr, Ok};
+ghost use Rattle.std.specs.Prelude.{◌≡◌, ◌≢◌, ◌<◌, ◌≤◌, ◌+◌, ◌-◌, ◌^◌, [], ◌∷◌, length, IfSome, IfNone, IfOk, IfErr, Ok, None};
 ghost use Rattle.bc_outside.specs.Calls.{ShelfKeeps, SinkKeeps};
 ghost use Rattle.spec_replay.specs.Run.{with_record};
 ghost use Rattle.record_file.specs.Sources.{IsOpenedFile};
@@ -92,8 +92,10 @@ fn no_event<S: EventSource>(source: &S, stop: FrameStop) -> Status
     }
 }
 
-/// Tells the slot of the store's head, where it is asked for.
-fn tell_head<O: Sink>(alloc: Global, store: &Store, out: &O) {
+/// Goes on behind a line that was written: tells the slot of the store's head, where it is asked for.
+fn written<O: Sink>(alloc: Global, store: &Store, out: &O) -> Option<Status>
+    ensures { result ≡ None }
+{
     if out.asks() {
         if let Ok(head) = store.head(alloc) {
             if let Some(block) = store.block(head) {
@@ -101,6 +103,7 @@ fn tell_head<O: Sink>(alloc: Global, store: &Store, out: &O) {
             }
         }
     }
+    None
 }
 
 /// Takes the next event: hands it to the store, and writes its line. The status where the run is over.
@@ -133,10 +136,7 @@ fn replay_event<S: EventSource, F: Shelf, O: Sink>(
         Err(status) => return Some(status),
     };
     match write_all(out, &line) {
-        Ok(()) => {
-            tell_head(alloc, store, out);
-            None
-        }
+        Ok(()) => written(alloc, store, out),
         Err(trouble) => Some(unwritten(trouble)),
     }
 }
