@@ -1,5 +1,5 @@
 -- The base reward by its divisor, which is at least 1.
-use Rattle.std.proofs.Common.{◌≡◌, ℕ, ◌/◌, ◌≤◌, ◌*◌, refl, arith}
+use Rattle.std.proofs.Common.{◌≡◌, ℕ, ◌/◌, ◌≤◌, ◌*◌, refl, sym, ◌∙◌, arith}
 use Rattle.bc_words.specs.Outcome.{Outcome, done, refused, limited, bind, checked_mul}
 use Rattle.bc_words.specs.SquareRoot.{integer_squareroot}
 use Rattle.bc_words.proofs.Roots.{root_is_root}
@@ -12,6 +12,8 @@ use Rattle.spec_epochs.specs.GetBaseReward.{get_base_reward}
 use Rattle.spec_epochs.proofs.Each.{bound_done}
 use Rattle.spec_epochs.proofs.Totals.{least_total}
 use Rattle.epoch_rewards.specs.inside.Divisor.{divisor_of}
+use Rattle.epoch_rewards.specs.inside.Stakes.{stake_of, stakes_of}
+use Rattle.epoch_rewards.proofs.Gathered.{by_stake}
 
 over : PlainState → ℕ → ℕ → Outcome ℕ
 over state index root = bind (item_at state.validators index) (λ v. bind (checked_mul v.effective_balance state.preset.base_reward_factor) (λ weighed. done (weighed / root / 4)))
@@ -21,9 +23,15 @@ moved (done t) next = refl
 moved (refused why) next = refl
 moved (limited bound) next = refl
 
-pub by_divisor : (state : PlainState) (index : ℕ) → get_base_reward state index ≡ bind (divisor_of state) (λ root. bind (item_at state.validators index) (λ v. bind (checked_mul v.effective_balance state.preset.base_reward_factor) (λ weighed. done (weighed / root / 4))))
+by_root : (state : PlainState) (index : ℕ) (o : Outcome ℕ) → bind o (over state index) ≡ bind o (λ root. bind (item_at (stakes_of state) index) (λ s. bind (checked_mul s.effective_balance state.preset.base_reward_factor) (λ weighed. done (weighed / root / 4))))
+unfolding over stake_of
+by_root state index (done root) = sym (by_stake state index (λ s. bind (checked_mul s.effective_balance state.preset.base_reward_factor) (λ weighed. done (weighed / root / 4))))
+by_root state index (refused why) = refl
+by_root state index (limited bound) = refl
+
+pub by_divisor : (state : PlainState) (index : ℕ) → get_base_reward state index ≡ bind (divisor_of state) (λ root. bind (item_at (stakes_of state) index) (λ s. bind (checked_mul s.effective_balance state.preset.base_reward_factor) (λ weighed. done (weighed / root / 4))))
 unfolding get_base_reward divisor_of over
-by_divisor state index = moved (get_total_active_balance state) (over state index)
+by_divisor state index = moved (get_total_active_balance state) (over state index) ∙ by_root state index (divisor_of state)
 
 pub divisor_is_some : (state : PlainState) (root : ℕ) → IsPreset state.preset → divisor_of state ≡ done root → 1 ≤ root
 unfolding divisor_of

@@ -1,5 +1,6 @@
-pub mod Divisor
 pub mod Among
+pub mod Gathered
+pub mod Divisor
 pub mod Components
 pub mod Included
 pub mod Nothing

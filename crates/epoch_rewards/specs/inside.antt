@@ -1,4 +1,5 @@
 -- Words of this crate's own contracts.
+pub mod Stakes
 pub mod Divisor
 pub mod Components
 pub mod Inclusions

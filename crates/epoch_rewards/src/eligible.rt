@@ -1,37 +1,60 @@
 //! Whom rewards and penalties reach (beacon-chain.md, "get_eligible_validator_indices").
 
-ghost use Rattle.std.specs.Prelude.{◌≡◌};
+ghost use Rattle.std.specs.Prelude.{◌≡◌, MatchOption};
 ghost use Rattle.spec_epochs.specs.Each.{is_among};
 ghost use Rattle.spec_epochs.specs.RewardHelpers.{get_eligible_validator_indices};
-ghost use Rattle.participation.specs.inside.Marks.{flagged};
+ghost use Rattle.participation.specs.inside.Marks.{flagged, IsPassedOver, IsTaken};
+ghost use Rattle.epoch_rewards.specs.inside.Stakes.{stakes_of};
 
-use balance_totals::{is_active_validator, previous_epoch};
+use crate::stakes::{Stake, find_stake};
 use beacon_state::State;
 use participation::flag_at;
 
-/// Whether a validator is one of those whom rewards and penalties reach: it was active in the previous epoch, or it is
-/// slashed and can't withdraw yet (beacon-chain.md, `get_eligible_validator_indices`).
-#[tactic(auto, unfolding(spec_epochs::specs::RewardHelpers::get_eligible_validator_indices, crate::proofs::Among::found_passes), using(crate::proofs::Among::among_indices))]
-pub(crate) fn is_eligible(state: &State, index: u64) -> bool
+/// Whether a validator is one of those whom rewards and penalties reach. The stakes are the state's.
+#[tactic(auto, using(crate::proofs::Gathered::eligibility))]
+pub(crate) fn is_eligible(state: &State, stakes: &[Stake], index: u64) -> bool
+    requires { stakes.now ≡ stakes_of state.now }
     ensures { result ≡ is_among index (get_eligible_validator_indices state.now) }
 {
-    let previous = previous_epoch(state);
-    match state.validators_at(index) {
-        Some(validator) => {
-            is_active_validator(validator, previous)
-                || (validator.slashed && previous + 1 < validator.withdrawable_epoch)
+    match find_stake(stakes, index) {
+        Some(stake) => stake.eligible,
+        None => false,
+    }
+}
+
+/// Whether a validator is one of those whose flag is set and who aren't slashed. The stakes are the state's.
+#[tactic(auto, using(crate::proofs::Gathered::attestation))]
+pub(crate) fn is_attester(state: &State, stakes: &[Stake], flags: &[bool], index: u64) -> bool
+    requires { stakes.now ≡ stakes_of state.now }
+    ensures { result ≡ is_among index (flagged state.now flags.now) }
+{
+    match find_stake(stakes, index) {
+        Some(stake) => {
+            if stake.slashed {
+                return false;
+            }
+            flag_at(flags, index)
         }
         None => false,
     }
 }
 
-/// Whether a validator is one of those whose flag is set and who aren't slashed.
-#[tactic(auto, unfolding(participation::specs::inside::Marks::flagged, participation::specs::inside::Marks::flagged_from, crate::proofs::Among::found_passes), using(crate::proofs::Among::among_indices, crate::proofs::Among::among_filter))]
-pub(crate) fn is_attester(state: &State, flags: &[bool], index: u64) -> bool
-    ensures { result ≡ is_among index (flagged state.now flags.now) }
+/// The effective balance of a validator, where its flag is set and it isn't slashed. The stakes are the state's.
+#[tactic(auto, using(crate::proofs::Gathered::counting))]
+pub(crate) fn counted(state: &State, stakes: &[Stake], flags: &[bool], index: u64) -> Option<u64>
+    requires { stakes.now ≡ stakes_of state.now }
+    ensures { MatchOption result (IsPassedOver state.now flags.now index) (IsTaken state.now flags.now index) }
 {
-    match state.validators_at(index) {
-        Some(validator) => !validator.slashed && flag_at(flags, index),
-        None => false,
+    match find_stake(stakes, index) {
+        Some(stake) => {
+            if stake.slashed {
+                return None;
+            }
+            if !flag_at(flags, index) {
+                return None;
+            }
+            Some(stake.effective_balance)
+        }
+        None => None,
     }
 }

@@ -1,12 +1,14 @@
 //! The base reward of a validator (beacon-chain.md, "get_base_reward" and "get_proposer_reward").
 
-ghost use Rattle.std.specs.Prelude.{◌≡◌, ◌≤◌, IfOk};
+ghost use Rattle.std.specs.Prelude.{◌≡◌};
 ghost use Rattle.bc_words.specs.Outcome.{GivesExactly};
 ghost use Rattle.spec_epochs.specs.GetBaseReward.{get_base_reward};
 ghost use Rattle.spec_epochs.specs.RewardHelpers.{get_proposer_reward};
 ghost use Rattle.epoch_rewards.specs.inside.Divisor.{divisor_of};
+ghost use Rattle.epoch_rewards.specs.inside.Stakes.{stakes_of};
 
-use balance_totals::{current_epoch, total_active, validator_at};
+use crate::stakes::{Stake, stake_at};
+use balance_totals::{current_epoch, total_active};
 use bc_words::{Stop, checked_mul, isqrt};
 use beacon_state::State;
 
@@ -20,36 +22,38 @@ pub(crate) fn divisor(state: &State) -> Result<u64, Stop>
     Ok(isqrt(total))
 }
 
-/// The base reward of a validator, in Gwei (beacon-chain.md, `get_base_reward`).
+/// The base reward of a validator, in Gwei (beacon-chain.md, `get_base_reward`). The stakes are the state's.
 #[tactic(auto, using(crate::proofs::Divisor::by_divisor, crate::proofs::Divisor::divisor_is_some))]
 pub(crate) fn base_reward(
     state: &State,
+    stakes: &[Stake],
     divisor: Result<u64, Stop>,
     index: u64,
 ) -> Result<u64, Stop>
-    requires { GivesExactly divisor (divisor_of state.now) }
+    requires stakes { stakes.now ≡ stakes_of state.now }
+    requires divisor { GivesExactly divisor (divisor_of state.now) }
     ensures { GivesExactly result (get_base_reward state.now index) }
 {
     let root = divisor?;
-    let validator = validator_at(state, index)?;
+    let stake = stake_at(stakes, index)?;
     let weighed = checked_mul(
-        validator.effective_balance,
+        stake.effective_balance,
         state.preset().base_reward_factor,
     )?;
     Ok(weighed / root / 4)
 }
 
 /// The part of a validator's base reward that goes to the proposer who includes its attestation, in Gwei
-/// (beacon-chain.md, `get_proposer_reward`).
+/// (beacon-chain.md, `get_proposer_reward`), where its base reward is known, or why it has none.
 #[tactic(auto, unfolding(spec_epochs::specs::RewardHelpers::get_proposer_reward), using(bc_preset::proofs::Bounds::preset_bounds))]
 pub(crate) fn proposer_reward(
     state: &State,
-    divisor: Result<u64, Stop>,
+    base: Result<u64, Stop>,
     index: u64,
 ) -> Result<u64, Stop>
-    requires { GivesExactly divisor (divisor_of state.now) }
+    requires { GivesExactly base (get_base_reward state.now index) }
     ensures { GivesExactly result (get_proposer_reward state.now index) }
 {
-    let reward = base_reward(state, divisor, index)?;
+    let reward = base?;
     Ok(reward / state.preset().proposer_reward_quotient)
 }

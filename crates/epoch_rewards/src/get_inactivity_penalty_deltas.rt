@@ -7,15 +7,16 @@ ghost use Rattle.spec_state.specs.Soundness.{IsSoundWithinEpoch};
 ghost use Rattle.spec_epochs.specs.Each.{validator_indices, checked_map, is_among};
 ghost use Rattle.spec_epochs.specs.GetInactivityPenaltyDeltas.{absence_penalty, inactivity_penalty, get_inactivity_penalty_deltas};
 ghost use Rattle.participation.specs.inside.Marks.{flagged};
-ghost use Rattle.epoch_rewards.specs.inside.Divisor.{divisor_of};
+ghost use Rattle.spec_epochs.specs.GetBaseReward.{get_base_reward};
+ghost use Rattle.epoch_rewards.specs.inside.Stakes.{stakes_of};
 ghost use Rattle.epoch_rewards.specs.inside.Leak.{leak_penalty, penalties_of, leak_deltas};
 
 use crate::attested::previous_attesters;
 use crate::eligible::{is_attester, is_eligible};
 use crate::get_base_reward::{base_reward, divisor, proposer_reward};
 use crate::leak::{finality_delay, in_leak};
+use crate::stakes::{Stake, stake_at, stakes};
 use crate::zeros::zeros;
-use balance_totals::validator_at;
 use bc_words::{Stop, checked_add, checked_mul, checked_sub};
 use beacon_state::State;
 use committees::EpochCommittees;
@@ -25,42 +26,46 @@ use ssz_codec::Items;
 use std::alloc::Global;
 
 /// What a validator that didn't attest to the target loses besides, in Gwei.
-#[tactic(auto, unfolding(spec_epochs::specs::GetInactivityPenaltyDeltas::absence_penalty), using(bc_preset::proofs::Bounds::preset_bounds))]
-fn absence_penalty(state: &State, index: u64) -> Result<u64, Stop>
+#[tactic(auto, using(crate::proofs::Gathered::absence_by, bc_preset::proofs::Bounds::preset_bounds))]
+fn absence_penalty(state: &State, stakes: &[Stake], index: u64) -> Result<u64, Stop>
+    requires { stakes.now ≡ stakes_of state.now }
     ensures { GivesExactly result (absence_penalty state.now index) }
 {
-    let validator = validator_at(state, index)?;
+    let stake = stake_at(stakes, index)?;
     let delay = finality_delay(state)?;
-    let weighed = checked_mul(validator.effective_balance, delay)?;
+    let weighed = checked_mul(stake.effective_balance, delay)?;
     Ok(weighed / state.preset().inactivity_penalty_quotient)
 }
 
 /// What a validator loses for its absence, in Gwei: nothing, where it attested to the target.
-fn absence(state: &State, flags: &[bool], index: u64) -> Result<u64, Stop>
+fn absence(state: &State, stakes: &[Stake], flags: &[bool], index: u64) -> Result<u64, Stop>
+    requires { stakes.now ≡ stakes_of state.now }
     ensures { GivesExactly result (if is_among index (flagged state.now flags.now) then done 0 else absence_penalty state.now index) }
 {
-    if is_attester(state, flags, index) {
+    if is_attester(state, stakes, flags, index) {
         return Ok(0);
     }
-    absence_penalty(state, index)
+    absence_penalty(state, stakes, index)
 }
 
 /// What an eligible validator loses in the leak, in Gwei.
 #[tactic(auto, unfolding(spec_epochs::specs::GetInactivityPenaltyDeltas::inactivity_penalty))]
 fn inactivity_penalty(
     state: &State,
-    divisor: Result<u64, Stop>,
+    stakes: &[Stake],
+    base: Result<u64, Stop>,
     flags: &[bool],
     index: u64,
 ) -> Result<u64, Stop>
-    requires { GivesExactly divisor (divisor_of state.now) }
+    requires stakes { stakes.now ≡ stakes_of state.now }
+    requires base { GivesExactly base (get_base_reward state.now index) }
     ensures { GivesExactly result (inactivity_penalty state.now (flagged state.now flags.now) index) }
 {
-    let base = base_reward(state, divisor, index)?;
-    let proposer = proposer_reward(state, divisor, index)?;
-    let all = checked_mul(4, base)?;
+    let whole = base?;
+    let proposer = proposer_reward(state, base, index)?;
+    let all = checked_mul(4, whole)?;
     let penalty = checked_sub(all, proposer)?;
-    let more = absence(state, flags, index)?;
+    let more = absence(state, stakes, flags, index)?;
     checked_add(penalty, more)
 }
 
@@ -68,39 +73,55 @@ fn inactivity_penalty(
 #[tactic(auto, unfolding(crate::specs::inside::Leak::leak_penalty))]
 fn leak_penalty(
     state: &State,
-    divisor: Result<u64, Stop>,
+    stakes: &[Stake],
+    base: Result<u64, Stop>,
     flags: &[bool],
     index: u64,
 ) -> Result<u64, Stop>
-    requires { GivesExactly divisor (divisor_of state.now) }
+    requires stakes { stakes.now ≡ stakes_of state.now }
+    requires base { GivesExactly base (get_base_reward state.now index) }
     ensures { GivesExactly result (leak_penalty state.now (flagged state.now flags.now) index) }
 {
-    if !is_eligible(state, index) {
+    if !is_eligible(state, stakes, index) {
         return Ok(0);
     }
-    inactivity_penalty(state, divisor, flags, index)
+    inactivity_penalty(state, stakes, base, flags, index)
 }
 
 /// What each validator loses in the leak, in Gwei, in order of index.
 #[tactic(auto, unfolding(spec_epochs::specs::Each::validator_indices), using(spec_epochs::proofs::Each::each_made))]
-fn leak_penalties(alloc: Global, state: &State, flags: &[bool]) -> Result<Vec<u64>, Stop>
+fn leak_penalties(
+    alloc: Global,
+    state: &State,
+    stakes: &[Stake],
+    flags: &[bool],
+) -> Result<Vec<u64>, Stop>
+    requires { stakes.now ≡ stakes_of state.now }
     ensures { GivesBy (λ penalties. penalties.items) result (checked_map (leak_penalty state.now (flagged state.now flags.now)) (validator_indices state.now)) }
 {
     let divisor = divisor(state);
     let mut penalties = Vec::new(alloc);
     for index in 0..state.validators_len() {
-        penalties.push(leak_penalty(state, divisor, flags, index)?)?;
+        let base = base_reward(state, stakes, divisor, index);
+        penalties.push(leak_penalty(state, stakes, base, flags, index)?)?;
     }
     Ok(penalties)
 }
 
 /// What each validator loses, in Gwei, in order of index: nothing outside the leak.
 #[tactic(auto, unfolding(crate::specs::inside::Leak::penalties_of))]
-fn penalties_of(alloc: Global, state: &State, leak: bool, flags: &[bool]) -> Result<Vec<u64>, Stop>
+fn penalties_of(
+    alloc: Global,
+    state: &State,
+    stakes: &[Stake],
+    leak: bool,
+    flags: &[bool],
+) -> Result<Vec<u64>, Stop>
+    requires { stakes.now ≡ stakes_of state.now }
     ensures { GivesBy (λ penalties. penalties.items) result (penalties_of state.now leak (flagged state.now flags.now)) }
 {
     if leak {
-        return leak_penalties(alloc, state, flags);
+        return leak_penalties(alloc, state, stakes, flags);
     }
     let penalties = zeros(alloc, state)?;
     Ok(penalties)
@@ -108,11 +129,17 @@ fn penalties_of(alloc: Global, state: &State, leak: bool, flags: &[bool]) -> Res
 
 /// Rewards and penalties where those with a flag, the slashed aside, attested to the target.
 #[tactic(auto, unfolding(crate::specs::inside::Leak::leak_deltas))]
-fn leak_deltas(alloc: Global, state: &State, flags: &[bool]) -> Result<Deltas, Stop>
+fn leak_deltas(
+    alloc: Global,
+    state: &State,
+    stakes: &[Stake],
+    flags: &[bool],
+) -> Result<Deltas, Stop>
+    requires { stakes.now ≡ stakes_of state.now }
     ensures { Gives result (leak_deltas state.now (flagged state.now flags.now)) }
 {
     let leak = in_leak(state)?;
-    let penalties = penalties_of(alloc, state, leak, flags)?;
+    let penalties = penalties_of(alloc, state, stakes, leak, flags)?;
     let rewards = zeros(alloc, state)?;
     Ok(Deltas {
         rewards: Items::from_vec(rewards),
@@ -133,5 +160,6 @@ pub fn inactivity_deltas(
     ensures { Gives result (get_inactivity_penalty_deltas state.now) }
 {
     let flags = previous_attesters(alloc, state, previous, Vote::Target)?;
-    leak_deltas(alloc, state, &flags)
+    let stakes = stakes(alloc, state)?;
+    leak_deltas(alloc, state, &stakes, &flags)
 }

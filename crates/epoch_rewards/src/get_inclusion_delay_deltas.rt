@@ -6,18 +6,21 @@ ghost use Rattle.spec_state.specs.Accessors.{get_previous_epoch, epoch_committee
 ghost use Rattle.spec_state.specs.Soundness.{IsSoundWithinEpoch};
 ghost use Rattle.spec_epochs.specs.GetInclusionDelayDeltas.{get_inclusion_delay_deltas};
 ghost use Rattle.participation.specs.inside.Marks.{flagged};
+ghost use Rattle.spec_epochs.specs.GetBaseReward.{get_base_reward};
 ghost use Rattle.epoch_rewards.specs.inside.Divisor.{divisor_of};
+ghost use Rattle.epoch_rewards.specs.inside.Stakes.{stakes_of};
 ghost use Rattle.epoch_rewards.specs.inside.Inclusions.{entry_at, included, all_gains, delayed_by, own_reward};
 ghost use Rattle.epoch_rewards.specs.inside.Inclusions.{joined_reward, joined_rewards, all_joined, joined_deltas};
 
 use crate::attested::{previous_attesters, previous_inclusions};
-use crate::eligible::is_attester;
+use crate::eligible::{counted, is_attester};
 use crate::get_base_reward::{base_reward, divisor, proposer_reward};
+use crate::stakes::{Stake, stakes};
 use crate::zeros::zeros;
 use bc_words::{Stop, checked_add, checked_sub};
 use beacon_state::State;
 use committees::EpochCommittees;
-use participation::{Inclusion, Vote, counted, inclusion_at};
+use participation::{Inclusion, Vote, inclusion_at};
 use spec_epochs::Deltas;
 use ssz_codec::Items;
 use std::alloc::Global;
@@ -40,21 +43,21 @@ fn add_gain(gains: &mut Vec<u64>, index: u64, reward: u64) -> Result<(), Stop>
     Ok(())
 }
 
-/// Adds the gain of the proposer who included an attester.
+/// Adds the gain of the proposer who included an attester, whose base reward is known, or why it has none.
 #[tactic(auto, unfolding(crate::specs::inside::Inclusions::included))]
 fn include(
     gains: &mut Vec<u64>,
     state: &State,
-    divisor: Result<u64, Stop>,
+    base: Result<u64, Stop>,
     entries: &[Option<Inclusion>],
     attester: u64,
 ) -> Result<(), Stop>
-    requires { GivesExactly divisor (divisor_of state.now) }
+    requires { GivesExactly base (get_base_reward state.now attester) }
     ensures { Moves result gains.new.items (included state.now attester (entry_at entries.now attester) gains.old.items) }
 {
     match inclusion_at(entries, attester) {
         Some(inclusion) => {
-            let reward = proposer_reward(state, divisor, attester)?;
+            let reward = proposer_reward(state, base, attester)?;
             add_gain(gains, inclusion.proposer, reward)
         }
         None => Ok(()),
@@ -63,42 +66,47 @@ fn include(
 
 /// What each validator gains as a proposer, in Gwei, in order of index.
 #[tactic(auto, using(crate::proofs::Included::including))]
-fn proposer_gains(
+pub(crate) fn proposer_gains(
     alloc: Global,
     state: &State,
+    stakes: &[Stake],
     divisor: Result<u64, Stop>,
     flags: &[bool],
     entries: &[Option<Inclusion>],
 ) -> Result<Vec<u64>, Stop>
-    requires { GivesExactly divisor (divisor_of state.now) }
+    requires stakes { stakes.now ≡ stakes_of state.now }
+    requires divisor { GivesExactly divisor (divisor_of state.now) }
     ensures { GivesBy (λ gains. gains.items) result (all_gains state.now entries.now (flagged state.now flags.now)) }
 {
     let mut gains = zeros(alloc, state)?;
     for index in 0..state.validators_len() {
-        match counted(state, flags, index) {
-            Some(_) => include(&mut gains, state, divisor, entries, index)?,
+        match counted(state, stakes, flags, index) {
+            Some(_) => {
+                let base = base_reward(state, stakes, divisor, index);
+                include(&mut gains, state, base, entries, index)?
+            }
             None => {}
         }
     }
     Ok(gains)
 }
 
-/// What an attester gets for an inclusion, in Gwei, after its delay.
+/// What an attester gets for an inclusion, in Gwei, after its delay, where its base reward is known, or why it has none.
 #[tactic(auto, unfolding(crate::specs::inside::Inclusions::delayed_by))]
 fn delayed_reward(
     state: &State,
-    divisor: Result<u64, Stop>,
+    base: Result<u64, Stop>,
     index: u64,
     inclusion: Option<Inclusion>,
 ) -> Result<u64, Stop>
-    requires { GivesExactly divisor (divisor_of state.now) }
+    requires { GivesExactly base (get_base_reward state.now index) }
     ensures { GivesExactly result (delayed_by state.now index inclusion) }
 {
     match inclusion {
         Some(inclusion) => {
-            let base = base_reward(state, divisor, index)?;
-            let proposer = proposer_reward(state, divisor, index)?;
-            let most = checked_sub(base, proposer)?;
+            let whole = base?;
+            let proposer = proposer_reward(state, base, index)?;
+            let most = checked_sub(whole, proposer)?;
             Ok(most.checked_div(inclusion.delay).unwrap_or(0))
         }
         None => Ok(0),
@@ -109,34 +117,38 @@ fn delayed_reward(
 #[tactic(auto, unfolding(crate::specs::inside::Inclusions::own_reward))]
 fn own_reward(
     state: &State,
-    divisor: Result<u64, Stop>,
+    stakes: &[Stake],
+    base: Result<u64, Stop>,
     flags: &[bool],
     entries: &[Option<Inclusion>],
     index: u64,
 ) -> Result<u64, Stop>
-    requires { GivesExactly divisor (divisor_of state.now) }
+    requires stakes { stakes.now ≡ stakes_of state.now }
+    requires base { GivesExactly base (get_base_reward state.now index) }
     ensures { GivesExactly result (own_reward state.now entries.now (flagged state.now flags.now) index) }
 {
-    if !is_attester(state, flags, index) {
+    if !is_attester(state, stakes, flags, index) {
         return Ok(0);
     }
-    delayed_reward(state, divisor, index, inclusion_at(entries, index))
+    delayed_reward(state, base, index, inclusion_at(entries, index))
 }
 
 /// What a validator gets, in Gwei, by its gains as a proposer and as an attester.
 #[tactic(auto, unfolding(crate::specs::inside::Inclusions::joined_reward))]
-fn joined_reward(
+pub(crate) fn joined_reward(
     state: &State,
-    divisor: Result<u64, Stop>,
+    stakes: &[Stake],
+    base: Result<u64, Stop>,
     flags: &[bool],
     entries: &[Option<Inclusion>],
     gains: &[u64],
     index: u64,
 ) -> Result<u64, Stop>
-    requires { GivesExactly divisor (divisor_of state.now) }
+    requires stakes { stakes.now ≡ stakes_of state.now }
+    requires base { GivesExactly base (get_base_reward state.now index) }
     ensures { GivesExactly result (joined_reward state.now entries.now (flagged state.now flags.now) gains.now index) }
 {
-    let own = own_reward(state, divisor, flags, entries, index)?;
+    let own = own_reward(state, stakes, base, flags, entries, index)?;
     checked_add(number_at(gains, index), own)
 }
 
@@ -145,17 +157,22 @@ fn joined_reward(
 fn joined_rewards(
     alloc: Global,
     state: &State,
+    stakes: &[Stake],
     divisor: Result<u64, Stop>,
     flags: &[bool],
     entries: &[Option<Inclusion>],
     gains: &[u64],
 ) -> Result<Vec<u64>, Stop>
-    requires { GivesExactly divisor (divisor_of state.now) }
+    requires stakes { stakes.now ≡ stakes_of state.now }
+    requires divisor { GivesExactly divisor (divisor_of state.now) }
     ensures { GivesBy (λ rewards. rewards.items) result (joined_rewards state.now entries.now (flagged state.now flags.now) gains.now) }
 {
     let mut rewards = Vec::new(alloc);
     for index in 0..state.validators_len() {
-        rewards.push(joined_reward(state, divisor, flags, entries, gains, index)?)?;
+        let base = base_reward(state, stakes, divisor, index);
+        rewards.push(joined_reward(
+            state, stakes, base, flags, entries, gains, index,
+        )?)?;
     }
     Ok(rewards)
 }
@@ -165,14 +182,16 @@ fn joined_rewards(
 fn inclusion_rewards(
     alloc: Global,
     state: &State,
+    stakes: &[Stake],
     flags: &[bool],
     entries: &[Option<Inclusion>],
 ) -> Result<Vec<u64>, Stop>
+    requires stakes { stakes.now ≡ stakes_of state.now }
     ensures { GivesBy (λ rewards. rewards.items) result (all_joined state.now entries.now (flagged state.now flags.now)) }
 {
     let divisor = divisor(state);
-    let gains = proposer_gains(alloc, state, divisor, flags, entries)?;
-    joined_rewards(alloc, state, divisor, flags, entries, &gains)
+    let gains = proposer_gains(alloc, state, stakes, divisor, flags, entries)?;
+    joined_rewards(alloc, state, stakes, divisor, flags, entries, &gains)
 }
 
 /// Rewards and penalties where those with a flag, the slashed aside, attested with these inclusions.
@@ -180,12 +199,14 @@ fn inclusion_rewards(
 fn joined_deltas(
     alloc: Global,
     state: &State,
+    stakes: &[Stake],
     flags: &[bool],
     entries: &[Option<Inclusion>],
 ) -> Result<Deltas, Stop>
+    requires stakes { stakes.now ≡ stakes_of state.now }
     ensures { Gives result (joined_deltas state.now entries.now (flagged state.now flags.now)) }
 {
-    let rewards = inclusion_rewards(alloc, state, flags, entries)?;
+    let rewards = inclusion_rewards(alloc, state, stakes, flags, entries)?;
     let penalties = zeros(alloc, state)?;
     Ok(Deltas {
         rewards: Items::from_vec(rewards),
@@ -208,5 +229,6 @@ pub fn inclusion_deltas(
 {
     let flags = previous_attesters(alloc, state, previous, Vote::Source)?;
     let entries = previous_inclusions(alloc, state, previous)?;
-    joined_deltas(alloc, state, &flags, &entries)
+    let stakes = stakes(alloc, state)?;
+    joined_deltas(alloc, state, &stakes, &flags, &entries)
 }

@@ -1,11 +1,12 @@
 //! Rewards and penalties of an epoch (beacon-chain.md, "Rewards and penalties").
 //!
 //! States come from epoch processing, behind justification, and go on to the registry with their balances changed. Who
-//! attested is found in passes over the pending attestations; each part is then a pass over the registry. A file has the
-//! name of the published function that it holds.
+//! attested is found in passes over the pending attestations, and what is read of the registry is gathered in one pass; each
+//! part is then a pass over what was gathered. A file has the name of the published function that it holds.
 #![tactic(auto)]
 
 mod attested;
+mod attesting_balance;
 mod eligible;
 mod get_attestation_component_deltas;
 mod get_attestation_deltas;
@@ -17,6 +18,7 @@ mod get_source_deltas;
 mod get_target_deltas;
 mod leak;
 mod process_rewards_and_penalties;
+mod stakes;
 mod vote_deltas;
 mod zeros;
 

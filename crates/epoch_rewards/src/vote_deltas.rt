@@ -9,6 +9,7 @@ ghost use Rattle.epoch_rewards.specs.inside.Components.{vote_deltas};
 
 use crate::attested::previous_attesters;
 use crate::get_attestation_component_deltas::component_deltas;
+use crate::stakes::stakes;
 use bc_words::Stop;
 use beacon_state::State;
 use committees::EpochCommittees;
@@ -30,5 +31,6 @@ pub(crate) fn vote_deltas(
     ensures { Gives result (vote_deltas state.now vote) }
 {
     let flags = previous_attesters(alloc, state, previous, vote)?;
-    component_deltas(alloc, state, &flags)
+    let stakes = stakes(alloc, state)?;
+    component_deltas(alloc, state, &stakes, &flags)
 }

@@ -1,5 +1,5 @@
 -- Rewards and penalties of a component of attestation deltas, where the attesters are known.
-use Rattle.std.specs.Prelude.{ℕ, Bool, ◌&&◌, not, List, if◌then◌else◌}
+use Rattle.std.specs.Prelude.{◌≡◌, ℕ, ◌≤◌, ◌/◌, Bool, ◌&&◌, not, List, if◌then◌else◌}
 use Rattle.bc_words.specs.Outcome.{Outcome, done, ◌>>=◌}
 use Rattle.spec_state.specs.declared.plain.PlainState.{PlainState}
 use Rattle.spec_state.specs.Accessors.{get_previous_epoch, get_total_active_balance, get_total_balance}
@@ -10,6 +10,13 @@ use Rattle.spec_epochs.specs.RewardHelpers.{is_in_inactivity_leak, get_eligible_
 use Rattle.spec_epochs.specs.GetAttestationComponentDeltas.{attester_reward, get_attestation_component_deltas}
 use Rattle.participation.specs.declared.matching.Vote.{Vote}
 use Rattle.participation.specs.inside.Votes.{matching}
+use Rattle.epoch_rewards.specs.declared.get_attestation_component_deltas.Weights.{Weights}
+
+-- both balances of a component's weights stand there in whole increments too, and the total has one at least
+pub record AreWeights (state : PlainState) (weights : Weights) : Type 0 where
+  pub attesting : weights.attesting_increments ≡ weights.attesting / state.preset.effective_balance_increment
+  pub total : weights.total_increments ≡ weights.total / state.preset.effective_balance_increment
+  pub some : 1 ≤ weights.total_increments
 
 -- what a validator gains
 unfoldable pub component_reward : PlainState → List ℕ → Bool → ℕ → ℕ → ℕ → Outcome ℕ
