@@ -67,7 +67,7 @@ step_done state attester (Some x) gains more e =
     }
 
 -- where two steps are refused, one of them is
-bound_refused : {A B : Type 0} (o : Outcome A) (next : A → Outcome B) (why : Refusal) → bind o next ≡ refused why → (o ≡ refused why) ⊎ ((x : A) × (o ≡ done x) × (next x ≡ refused why))
+pub bound_refused : {A B : Type 0} (o : Outcome A) (next : A → Outcome B) (why : Refusal) → bind o next ≡ refused why → (o ≡ refused why) ⊎ ((x : A) × (o ≡ done x) × (next x ≡ refused why))
 bound_refused (done x) next why e = inr (x, refl, e)
 bound_refused (refused w) next why e = inl (let same : w ≡ why = cc in ap refused same)
 bound_refused (limited bound) next why e = absurd cc

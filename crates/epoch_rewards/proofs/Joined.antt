@@ -29,7 +29,7 @@ use Rattle.epoch_rewards.proofs.Nothing.{nothing_is}
 
 -- ---- maps over indices
 
-same_map : {B : Type 0} (f g : ℕ → Outcome B) (start n : ℕ) → ((k : ℕ) → start ≤ k → k < start + n → f k ≡ g k) → checked_map f (range_with_len start n) ≡ checked_map g (range_with_len start n)
+pub same_map : {B : Type 0} (f g : ℕ → Outcome B) (start n : ℕ) → ((k : ℕ) → start ≤ k → k < start + n → f k ≡ g k) → checked_map f (range_with_len start n) ≡ checked_map g (range_with_len start n)
 unfolding checked_map
 same_map f g start zero same = refl
 same_map f g start (suc n) same =
@@ -41,7 +41,7 @@ then_refused (done x) next only e = e x
 then_refused (refused why) next only e = ap refused only
 then_refused (limited bound) next only e = absurd only
 
-refused_map : {B : Type 0} (f : ℕ → Outcome B) (start n index : ℕ) → ((k : ℕ) → start ≤ k → k < start + n → OnlyOverflows (f k)) → start ≤ index → index < start + n → f index ≡ refused Overflow → checked_map f (range_with_len start n) ≡ refused Overflow
+pub refused_map : {B : Type 0} (f : ℕ → Outcome B) (start n index : ℕ) → ((k : ℕ) → start ≤ k → k < start + n → OnlyOverflows (f k)) → start ≤ index → index < start + n → f index ≡ refused Overflow → checked_map f (range_with_len start n) ≡ refused Overflow
 unfolding checked_map
 refused_map f start zero index only more less e = absurd (omega arith)
 refused_map f start (suc n) index only more less e = elim (cases_lt start index) as (λ _. bind (f start) (λ first. bind (checked_map f (range_with_len (start + 1) n)) (λ others. done (first ∷ others))) ≡ refused Overflow) [
@@ -56,12 +56,12 @@ either_below : (end : ℕ) (b : Bool) (x : ℕ) (xs : List ℕ) → x < end → 
 either_below end true x xs less all = (less, all)
 either_below end false x xs less all = all
 
-indices_below : (test : Validator → Bool) (start end : ℕ) (vs : List Validator) → end ≡ start + length vs → AllByRecursion (λ a. a < end) (indices_from test start vs)
+pub indices_below : (test : Validator → Bool) (start end : ℕ) (vs : List Validator) → end ≡ start + length vs → AllByRecursion (λ a. a < end) (indices_from test start vs)
 unfolding indices_from
 indices_below test start end [] e = tt
 indices_below test start end (v ∷ vs) e = either_below end (test v) start (indices_from test (suc start) vs) (omega arith) (indices_below test (suc start) end vs (omega arith))
 
-filtered_below : (end : ℕ) (p : ℕ → Bool) (xs : List ℕ) → AllByRecursion (λ a. a < end) xs → AllByRecursion (λ a. a < end) (filter p xs)
+pub filtered_below : (end : ℕ) (p : ℕ → Bool) (xs : List ℕ) → AllByRecursion (λ a. a < end) xs → AllByRecursion (λ a. a < end) (filter p xs)
 filtered_below end p [] all = tt
 filtered_below end p (x ∷ xs) all = either_below end (p x) x (filter p xs) all.0 (filtered_below end p xs all.1)
 

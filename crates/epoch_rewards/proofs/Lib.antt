@@ -8,3 +8,5 @@ pub mod LeakDeltas
 pub mod Overflows
 pub mod Gained
 pub mod Joined
+pub mod Fused
+pub mod Parts

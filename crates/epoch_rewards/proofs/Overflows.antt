@@ -49,16 +49,19 @@ unfolding checked_sum_from
 sum_only count sum [] = tt
 sum_only count sum (x ∷ xs) = bound_only (checked_add sum (count x)) (λ more. checked_sum_from count more xs) (add_only sum (count x)) (λ more. sum_only count more xs)
 
-total_only : (state : PlainState) (indices : List ℕ) → OnlyOverflows (get_total_balance state indices)
+pub total_only : (state : PlainState) (indices : List ℕ) → OnlyOverflows (get_total_balance state indices)
 unfolding get_total_balance checked_sum_by
 total_only state indices = bound_only (checked_sum_from (effective_balance state.validators) 0 indices) _ (sum_only (effective_balance state.validators) 0 indices) (λ sum. tt)
 
-item_only : {A : Type 0} (xs : List A) (i : ℕ) (d : A) → i < length xs → OnlyOverflows (item_at xs i)
+pub item_only : {A : Type 0} (xs : List A) (i : ℕ) (d : A) → i < length xs → OnlyOverflows (item_at xs i)
 item_only xs i d less = subst (λ o. OnlyOverflows (found o)) (sym (slice_get-get_or xs i d less)) tt
 
 some_validator : (vs : List Validator) (i : ℕ) → i < length vs → Validator
 some_validator [] i less = absurd (omega arith)
 some_validator (v ∷ vs) i less = v
+
+pub validator_only : (state : PlainState) (index : ℕ) → index < length state.validators → OnlyOverflows (item_at state.validators index)
+validator_only state index less = item_only state.validators index (some_validator state.validators index less) less
 
 pub base_only : (state : PlainState) (index : ℕ) → index < length state.validators → OnlyOverflows (get_base_reward state index)
 unfolding get_base_reward

@@ -5,3 +5,4 @@ pub mod Components
 pub mod Inclusions
 pub mod Leak
 pub mod Added
+pub mod Paid

@@ -31,7 +31,11 @@ fn sum_flagged(state: &State, stakes: &[Stake], flags: &[bool]) -> Result<u64, S
 /// The total effective balance of those whose flag is set and who aren't slashed, in Gwei: at least one increment
 /// (beacon-chain.md, `get_attesting_balance`). Refused exactly where the sum does not fit. The stakes are the state's.
 #[tactic(auto, unfolding(spec_state::specs::Accessors::get_total_balance))]
-pub(crate) fn attesting_balance(state: &State, stakes: &[Stake], flags: &[bool]) -> Result<u64, Stop>
+pub(crate) fn attesting_balance(
+    state: &State,
+    stakes: &[Stake],
+    flags: &[bool],
+) -> Result<u64, Stop>
     requires { stakes.now ≡ stakes_of state.now }
     ensures { GivesExactly result (get_total_balance state.now (flagged state.now flags.now)) }
 {

@@ -10,6 +10,7 @@ ghost use Rattle.participation.specs.inside.Marks.{flagged};
 ghost use Rattle.epoch_rewards.specs.inside.Divisor.{divisor_of};
 ghost use Rattle.epoch_rewards.specs.inside.Stakes.{stakes_of};
 ghost use Rattle.epoch_rewards.specs.inside.Components.{AreWeights, component_reward, component_rewards, component_penalty, component_penalties};
+ghost use Rattle.epoch_rewards.specs.inside.Paid.{weights_by};
 ghost use Rattle.epoch_rewards.specs.inside.Components.{needed_balance, component_deltas};
 
 use crate::attesting_balance::attesting_balance;
@@ -40,13 +41,11 @@ pub(crate) struct Weights {
 }
 
 /// What rewards and penalties of a component are reckoned by, where the attesters' balance and the total are known.
-#[tactic(auto, using(bc_preset::proofs::Bounds::preset_bounds))]
+#[tactic(auto, unfolding(crate::specs::inside::Paid::weights_by), using(bc_preset::proofs::Bounds::preset_bounds))]
 pub(crate) fn weights_of(state: &State, leak: bool, attesting: u64, total: u64) -> Weights
     requires { state.now.preset.effective_balance_increment ≤ total }
     ensures are { AreWeights state.now result }
-    ensures leak { result.leak ≡ leak }
-    ensures attesting { result.attesting ≡ attesting }
-    ensures total { result.total ≡ total }
+    ensures by { result ≡ weights_by state.now leak attesting total }
 {
     let increment = state.preset().effective_balance_increment;
     Weights {
@@ -136,9 +135,7 @@ fn component_rewards(
     let mut rewards = Vec::new(alloc);
     for index in 0..state.validators_len() {
         let base = base_reward(state, stakes, divisor, index);
-        rewards.push(component_reward(
-            state, stakes, flags, weights, base, index,
-        )?)?;
+        rewards.push(component_reward(state, stakes, flags, weights, base, index)?)?;
     }
     Ok(rewards)
 }
@@ -183,7 +180,7 @@ pub(crate) fn needed_balance(
 
 /// Rewards and penalties for a vote that those with a flag had right, the slashed aside (beacon-chain.md,
 /// `get_attestation_component_deltas`). The stakes are the state's.
-#[tactic(auto, unfolding(crate::specs::inside::Components::component_deltas, crate::specs::inside::Divisor::divisor_of), using(spec_epochs::proofs::Totals::least_total))]
+#[tactic(auto, unfolding(crate::specs::inside::Components::component_deltas, crate::specs::inside::Paid::weights_by, crate::specs::inside::Divisor::divisor_of), using(spec_epochs::proofs::Totals::least_total))]
 pub(crate) fn component_deltas(
     alloc: Global,
     state: &State,

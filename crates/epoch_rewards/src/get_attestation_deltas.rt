@@ -21,7 +21,7 @@ use ssz_codec::Items;
 use std::alloc::Global;
 
 /// A number of a list, or 0 past its end.
-pub(crate) fn item(items: &Items<u64>, index: u64) -> u64
+fn item(items: &Items<u64>, index: u64) -> u64
     ensures { result ≡ slice_index items.now index }
 {
     items.as_slice().get(index as usize).copied().unwrap_or(0)
@@ -100,7 +100,7 @@ fn added(
 /// What each validator gains and loses by the previous epoch's attestations (beacon-chain.md, `get_attestation_deltas`). The
 /// committees are those of the previous epoch. Refused as an overflow exactly where a sum or product does not fit.
 #[tactic(auto, unfolding(spec_epochs::specs::GetAttestationDeltas::get_attestation_deltas, crate::specs::inside::Added::added))]
-pub(crate) fn attestation_deltas(
+pub fn attestation_deltas(
     alloc: Global,
     state: &State,
     previous: &EpochCommittees,

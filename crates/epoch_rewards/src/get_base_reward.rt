@@ -36,10 +36,7 @@ pub(crate) fn base_reward(
 {
     let root = divisor?;
     let stake = stake_at(stakes, index)?;
-    let weighed = checked_mul(
-        stake.effective_balance,
-        state.preset().base_reward_factor,
-    )?;
+    let weighed = checked_mul(stake.effective_balance, state.preset().base_reward_factor)?;
     Ok(weighed / root / 4)
 }
 

@@ -71,7 +71,7 @@ fn inactivity_penalty(
 
 /// What a validator loses in the leak, in Gwei.
 #[tactic(auto, unfolding(crate::specs::inside::Leak::leak_penalty))]
-fn leak_penalty(
+pub(crate) fn leak_penalty(
     state: &State,
     stakes: &[Stake],
     base: Result<u64, Stop>,

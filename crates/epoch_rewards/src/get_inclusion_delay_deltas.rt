@@ -170,9 +170,7 @@ fn joined_rewards(
     let mut rewards = Vec::new(alloc);
     for index in 0..state.validators_len() {
         let base = base_reward(state, stakes, divisor, index);
-        rewards.push(joined_reward(
-            state, stakes, base, flags, entries, gains, index,
-        )?)?;
+        rewards.push(joined_reward(state, stakes, base, flags, entries, gains, index)?)?;
     }
     Ok(rewards)
 }

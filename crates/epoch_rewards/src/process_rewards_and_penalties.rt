@@ -1,41 +1,97 @@
 //! Rewards and penalties of a state (beacon-chain.md, "process_rewards_and_penalties").
 
-ghost use Rattle.std.specs.Prelude.{◌≡◌, ◌≤◌, length, IfOk};
-ghost use Rattle.bc_words.specs.Outcome.{Changes, GivesBy, GivesExactly};
+ghost use Rattle.std.specs.Prelude.{◌≡◌, ◌≤◌, length, IfOk, List, Bool};
+ghost use Rattle.bc_words.specs.Outcome.{Changes, GivesBy, bind, done};
 ghost use Rattle.spec_state.specs.Accessors.{get_previous_epoch, epoch_committees};
 ghost use Rattle.spec_state.specs.Soundness.{IsSoundWithinEpoch};
-ghost use Rattle.spec_epochs.specs.Each.{validator_indices, checked_map};
-ghost use Rattle.spec_epochs.specs.ProcessRewardsAndPenalties.{rewarded_balance, process_rewards_and_penalties};
+ghost use Rattle.spec_epochs.specs.ProcessRewardsAndPenalties.{process_rewards_and_penalties};
+ghost use Rattle.participation.specs.inside.Marks.{flagged};
+ghost use Rattle.epoch_rewards.specs.inside.Stakes.{stakes_of};
+ghost use Rattle.epoch_rewards.specs.inside.Paid.{all_paid, all_rewarded};
 
-use crate::get_attestation_deltas::{attestation_deltas, item};
-use balance_totals::{balance_at, current_epoch};
-use bc_words::{Stop, checked_add};
+use crate::attested::{previous_attesters, previous_inclusions};
+use crate::get_attestation_component_deltas::{needed_balance, weights_of};
+use crate::get_inclusion_delay_deltas::proposer_gains;
+use crate::leak::in_leak;
+use crate::paid::{Voters, paid_balances};
+use crate::stakes::{Stake, stakes};
+use balance_totals::{current_epoch, total_active};
+use bc_words::{Stop, isqrt};
 use beacon_state::State;
 use committees::EpochCommittees;
-use spec_epochs::Deltas;
+use participation::{Inclusion, Vote};
 use std::alloc::Global;
 
-/// The balance of a validator after its rewards were added and then its penalties taken, in Gwei.
-#[tactic(auto, unfolding(spec_epochs::specs::ProcessRewardsAndPenalties::rewarded_balance))]
-fn rewarded_balance(state: &State, deltas: &Deltas, index: u64) -> Result<u64, Stop>
-    ensures { GivesExactly result (rewarded_balance state.now deltas.now index) }
+/// The balances of all validators after their rewards and penalties, in Gwei, by the flags of those who had each vote right
+/// and by their inclusions. The stakes are the state's.
+#[tactic(auto, unfolding(crate::specs::inside::Paid::all_paid, crate::specs::inside::Paid::weights_by, crate::specs::inside::Divisor::divisor_of), using(spec_epochs::proofs::Totals::least_total))]
+fn all_paid(
+    alloc: Global,
+    state: &State,
+    stakes: &[Stake],
+    sources: &[bool],
+    targets: &[bool],
+    heads: &[bool],
+    entries: &[Option<Inclusion>],
+) -> Result<Vec<u64>, Stop>
+    requires { stakes.now ≡ stakes_of state.now }
+    ensures exact { let who = λ (flags : List Bool). flagged state.now flags in
+        GivesBy (λ balances. balances.items) result (all_paid state.now (who sources.now) (who targets.now) (who heads.now) entries.now) }
+    ensures few { IfOk result (λ balances. length balances.items ≤ state.now.preset.validator_registry_limit) }
 {
-    let balance = balance_at(state, index)?;
-    let increased = checked_add(balance, item(&deltas.rewards, index))?;
-    Ok(increased.saturating_sub(item(&deltas.penalties, index)))
+    let total = total_active(state, current_epoch(state))?;
+    let leak = in_leak(state)?;
+    let source = needed_balance(state, stakes, sources, leak)?;
+    let target = needed_balance(state, stakes, targets, leak)?;
+    let head = needed_balance(state, stakes, heads, leak)?;
+    let divisor = Ok(isqrt(total));
+    let gains = proposer_gains(alloc, state, stakes, divisor, sources, entries)?;
+    let by_source = Voters {
+        flags: sources,
+        weights: weights_of(state, leak, source, total),
+    };
+    let by_target = Voters {
+        flags: targets,
+        weights: weights_of(state, leak, target, total),
+    };
+    let by_head = Voters {
+        flags: heads,
+        weights: weights_of(state, leak, head, total),
+    };
+    paid_balances(
+        alloc, state, stakes, &by_source, &by_target, &by_head, entries, &gains, divisor,
+    )
 }
 
 /// The balances of all validators after their rewards and penalties, in Gwei.
-#[tactic(auto, unfolding(spec_epochs::specs::Each::validator_indices), using(spec_epochs::proofs::Each::each_made, spec_epochs::proofs::Each::made_few))]
-fn rewarded_balances(alloc: Global, state: &State, deltas: &Deltas) -> Result<Vec<u64>, Stop>
-    ensures exact { GivesBy (λ balances. balances.items) result (checked_map (rewarded_balance state.now deltas.now) (validator_indices state.now)) }
+#[tactic(auto, unfolding(participation::specs::inside::Votes::matching), using(crate::proofs::Parts::one_pass))]
+fn rewarded_balances(
+    alloc: Global,
+    state: &State,
+    previous: &EpochCommittees,
+) -> Result<Vec<u64>, Stop>
+    requires sound { IsSoundWithinEpoch state.now }
+    requires committees { previous.now ≡ epoch_committees state.now (get_previous_epoch state.now) }
+    ensures exact { GivesBy (λ balances. balances.items) result (all_rewarded state.now) }
     ensures few { IfOk result (λ balances. length balances.items ≤ state.now.preset.validator_registry_limit) }
 {
-    let mut balances = Vec::new(alloc);
-    for index in 0..state.validators_len() {
-        balances.push(rewarded_balance(state, deltas, index)?)?;
-    }
-    Ok(balances)
+    let sources = previous_attesters(alloc, state, previous, Vote::Source)?;
+    let targets = previous_attesters(alloc, state, previous, Vote::Target)?;
+    let heads = previous_attesters(alloc, state, previous, Vote::Head)?;
+    let entries = previous_inclusions(alloc, state, previous)?;
+    let stakes = stakes(alloc, state)?;
+    all_paid(alloc, state, &stakes, &sources, &targets, &heads, &entries)
+}
+
+/// Writes the balances of all validators after their rewards and penalties.
+fn pay(alloc: Global, state: &mut State, previous: &EpochCommittees) -> Result<(), Stop>
+    requires sound { IsSoundWithinEpoch state.old }
+    requires committees { previous.now ≡ epoch_committees state.old (get_previous_epoch state.old) }
+    ensures { Changes result state.old state.new (bind (all_rewarded state.old) (λ balances. done (record state.old { balances = balances }))) }
+{
+    let balances = rewarded_balances(alloc, state, previous)?;
+    state.set_balances(balances)?;
+    Ok(())
 }
 
 /// Adds to each balance what the previous epoch's attestations bring its validator, and takes what they cost it
@@ -43,7 +99,7 @@ fn rewarded_balances(alloc: Global, state: &State, deltas: &Deltas) -> Result<Ve
 /// previous epoch.
 ///
 /// Refused as an overflow exactly where a sum or product does not fit; the state is then as before.
-#[tactic(auto, unfolding(spec_epochs::specs::ProcessRewardsAndPenalties::process_rewards_and_penalties))]
+#[tactic(auto, using(crate::proofs::Parts::processed))]
 pub fn process_rewards(
     alloc: Global,
     state: &mut State,
@@ -56,8 +112,5 @@ pub fn process_rewards(
     if current_epoch(state) == 0 {
         return Ok(());
     }
-    let deltas = attestation_deltas(alloc, state, previous)?;
-    let balances = rewarded_balances(alloc, state, &deltas)?;
-    state.set_balances(balances)?;
-    Ok(())
+    pay(alloc, state, previous)
 }
