@@ -1,8 +1,9 @@
 //! Rewards and penalties of an epoch (beacon-chain.md, "Rewards and penalties").
 //!
 //! States come from epoch processing, behind justification, and go on to the registry with their balances changed. Who
-//! attested is found in passes over the pending attestations, and what is read of the registry is gathered in one pass; each
-//! part is then a pass over what was gathered. A file has the name of the published function that it holds.
+//! attested is found in passes over the pending attestations, and what is read of the registry is gathered in one pass. All
+//! five parts are then paid in one pass over what was gathered; each is a call of its own too. A file has the name of the
+//! published function that it holds.
 #![tactic(auto)]
 
 mod attested;
