@@ -81,7 +81,7 @@ fn join(
 ///
 /// Refused, in this order: `DpBranch` where the branch doesn't lead to the deposit root, `Overflow` where the deposit index
 /// doesn't fit, `ListFull` where the registry is full and the key new, `Overflow` where the balance doesn't fit. After a stop
-/// the state and the map are as before. A new key copies the state's lists today.
+/// the state and the map are as before.
 #[tactic(auto, unfolding(spec_blocks::specs::ProcessDeposit::process_deposit))]
 pub fn process_deposit(
     state: &mut State,

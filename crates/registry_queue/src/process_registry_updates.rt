@@ -26,7 +26,7 @@ fn with_registry_updates(alloc: Global, state: &State, config: &Config) -> Resul
 /// since which they wait and then by index (beacon-chain.md, `process_registry_updates`).
 ///
 /// Refused as an overflow exactly where the epoch of an ejection does not fit; the state is then as before. Its lists are
-/// shared first, which copies them today.
+/// shared first, which copies none.
 pub fn process_registry(alloc: Global, state: &mut State, config: &Config) -> Result<(), Stop>
     ensures { Changes result state.old state.new (process_registry_updates state.old config.now) }
 {

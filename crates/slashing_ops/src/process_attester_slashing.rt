@@ -98,7 +98,7 @@ fn slash_in_both(
 ///
 /// Refused, in this order: `AsData`; `AsIndices` and `IndexRange` of the first attestation and then of the second; `AsNone`;
 /// and `Overflow` where a sum on the way doesn't fit. After a stop the state is as before: its lists are shared first, once
-/// for all validators, which copies them today.
+/// for all validators, which copies none.
 #[tactic(auto, unfolding(spec_blocks::specs::ProcessAttesterSlashing::process_attester_slashing, crate::specs::inside::Slashed::slash_in_both))]
 pub fn process_attester_slashing(
     state: &mut State,

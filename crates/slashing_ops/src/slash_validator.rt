@@ -70,7 +70,7 @@ pub(crate) fn slash_in_place(
 /// one (beacon-chain.md, `slash_validator`).
 ///
 /// Refused as an overflow exactly where a sum doesn't fit, and for an index past the registry. After a stop the state is as
-/// before: its lists are shared first, which copies them today.
+/// before: its lists are shared first, which copies none.
 pub fn slash(state: &mut State, index: u64, proposer: u64, config: &Config) -> Result<(), Stop>
     ensures { Changes result state.old state.new (slash_validator state.old index proposer config.now) }
 {
