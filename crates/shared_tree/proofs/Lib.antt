@@ -4,3 +4,4 @@ pub mod Keeps
 pub mod Changes
 pub mod Packing
 pub mod Packs
+pub mod Many

@@ -3,12 +3,11 @@ use Rattle.std.proofs.Common.{◌≡◌, ℕ, zero, suc, ◌+◌, ◌-◌, ◌<�
 use Rattle.std.proofs.lemmas.List.{append-nil, take_all, drop_all, length-map, map-append, length-take, take-append-drop}
 use Rattle.hash_tree.specs.Merkle.{hash, merkle_root}
 use Rattle.hash_tree.proofs.Halves.{merkle_root-halves}
+use Rattle.std.proofs.Math.Pow.{pow_mono}
 use Rattle.std.proofs.lemmas.Bool.{cases_lt}
-use Rattle.shared_tree.specs.declared.node.Kind.{Kind}
-use Rattle.shared_tree.specs.declared.node.Kind.TheVariants.{Absent, Item, Pair}
-use Rattle.shared_tree.specs.inside.Nodes.{AreHalves, seen}
+use Rattle.shared_tree.specs.inside.Nodes.{AreHalves}
 use Rattle.shared_tree.specs.inside.Puts.{put_at}
-use Rattle.shared_tree.proofs.Puts.{put_left, put_right, length_put}
+use Rattle.shared_tree.proofs.Puts.{put_left, put_right, put_push, length_put}
 
 module _ {A : Type 0} where
   pub front : (xs ys : List A) (n : ℕ) → length xs ≤ n → (0 < length ys → length xs ≡ n) → take n (xs ++ ys) ≡ xs
@@ -144,18 +143,6 @@ build_pair from depth half items middle left right inner width twice room m l r 
       built_value from (depth - 1) half items middle left right m l r ∙ ap (λ (k : ℕ). (k, drop from items)) d,
     )
 
-no_front : {A : Type 0} (xs ys : List A) → length (xs ++ ys) ≡ 0 → xs ≡ []
-no_front [] ys h = refl
-no_front (x ∷ xs) ys h = absurd (omega arith)
-
--- the left half of a tree without items
-pub lower_absent : {A : Type 0} (depth : ℕ) (node left right : ℕ × List A) → node ≡ (depth, []) → node ≡ (suc left.0, left.1 ++ right.1) → (0 < depth) × (left ≡ (depth - 1, []))
-lower_absent depth node left right without view =
-    let both = sym without ∙ view in
-    let d : depth ≡ suc left.0 = ap (λ (v : ℕ × List _). v.0) both in
-    let none : length (left.1 ++ right.1) ≡ 0 = sym (ap (λ (v : ℕ × List _). length v.1) both) in
-    (omega arith, ap (λ (items : List _). (left.0, items)) (no_front left.1 right.1 none) ∙ ap (λ (k : ℕ). (k, [])) (omega arith))
-
 -- what a call puts into a half it puts into the whole
 pub put_into_left : {A : Type 0} (node left right sub new other : ℕ × List A) (depth half at : ℕ) (item : A) → AreHalves left right → node ≡ (suc left.0, left.1 ++ right.1) → depth ≡ node.0 → ((lower : ℕ) → depth ≡ suc lower → half ≡ 2 ^ lower) → at < half → at ≤ length node.1 → sub ≡ left → new ≡ (depth - 1, put_at sub.1 at item) → other ≡ right → AreHalves new other × (◌≡◌ {A = ℕ × List A} (suc new.0, new.1 ++ other.1) (depth, put_at node.1 at item))
 put_into_left node left right sub new other depth half at item h view same lower low within sub_is new_is other_is =
@@ -182,10 +169,39 @@ put_into_right node left right sub new other depth half at item h view same lowe
           ∙ (ap (λ (k : ℕ). (k, put_at (left.1 ++ right.1) at item)) (sym d) ∙ ap (λ (v : ℕ × List _). (depth, put_at v.1 at item)) (sym view))),
     )
 
--- what is put into a leaf is the leaf's item
-pub put_into_leaf : {A : Type 0} (kind : Kind A) (at : ℕ) (item : A) → ((x y : _) → kind ≡ Pair x y → ⊥) → at < 2 ^ (seen kind).0 → ◌≡◌ {A = ℕ × List A} (0, item ∷ []) ((seen kind).0, put_at (seen kind).1 at item)
+-- what is put into a leaf is its item
+alone : {A : Type 0} (xs : List A) (at : ℕ) (item : A) → length xs ≤ 1 → at < 1 → item ∷ [] ≡ put_at xs at item
 unfolding put_at
-put_into_leaf Absent at item leaf low = refl
-put_into_leaf (Item x) zero item leaf low = refl
-put_into_leaf (Item x) (suc at) item leaf low = absurd (omega arith)
-put_into_leaf (Pair x y) at item leaf low = absurd (leaf x y refl)
+alone [] at item long low = refl
+alone (x ∷ []) zero item long low = refl
+alone (x ∷ []) (suc at) item long low = absurd (omega arith)
+alone (x ∷ y ∷ xs) at item long low = absurd (omega arith)
+
+pub put_into_leaf : {A : Type 0} (xs : List A) (depth at : ℕ) (item : A) → depth ≡ 0 → length xs ≤ 2 ^ depth → at < 2 ^ depth → ◌≡◌ {A = ℕ × List A} (0, item ∷ []) (depth, put_at xs at item)
+put_into_leaf xs depth at item leaf fits low =
+    let one : 2 ^ depth ≡ 1 = ap (λ (d : ℕ). 2 ^ d) leaf in
+    ap (λ (items : List _). (0, items)) (alone xs at item (omega arith) (omega arith)) ∙ ap (λ (d : ℕ). (d, put_at xs at item)) (sym leaf)
+
+-- a full tree as the left half of a deeper one, whose right half has one item
+pub grown : {A : Type 0} (node shared right : ℕ × List A) (depth at : ℕ) (item : A) → depth ≡ node.0 → length node.1 ≤ 2 ^ depth → 2 ^ depth ≤ at → at ≤ length node.1 → shared ≡ node → right ≡ (depth, item ∷ []) → AreHalves shared right × (◌≡◌ {A = ℕ × List A} (suc shared.0, shared.1 ++ right.1) (depth + 1, put_at node.1 at item))
+grown node shared right depth at item same fits full place shared_is right_is =
+    let one : 2 ^ 0 ≤ 2 ^ depth = pow_mono {i = 0} {j = depth} (omega arith) in
+    let width : 2 ^ shared.0 ≡ 2 ^ depth = ap (λ (v : ℕ × List _). 2 ^ v.0) shared_is ∙ ap (λ (d : ℕ). 2 ^ d) (sym same) in
+    let right_width : 2 ^ right.0 ≡ 2 ^ depth = ap (λ (v : ℕ × List _). 2 ^ v.0) right_is in
+    let long : length shared.1 ≡ length node.1 = ap (λ (v : ℕ × List _). length v.1) shared_is in
+    let right_long : length right.1 ≡ 1 = ap (λ (v : ℕ × List _). length v.1) right_is in (
+      record {
+        same_depth = ap (λ (v : ℕ × List _). v.0) shared_is ∙ (sym same ∙ sym (ap (λ (v : ℕ × List _). v.0) right_is));
+        left_fits = omega arith;
+        right_fits = omega arith;
+        left_first = λ some. omega arith;
+      },
+      ap (λ (v : ℕ × List _). (suc v.0, v.1 ++ right.1)) shared_is
+          ∙ (ap (λ (v : ℕ × List _). (suc node.0, node.1 ++ v.1)) right_is
+          ∙ (ap (λ (items : List _). (suc node.0, items)) (sym (put_push node.1 at item (omega arith)))
+          ∙ ap (λ (d : ℕ). (d, put_at node.1 at item)) (omega arith))),
+    )
+
+pub put_into_none : {A : Type 0} (depth : ℕ) (none new : ℕ × List A) (item : A) → none ≡ (depth, []) → new ≡ (depth, put_at none.1 0 item) → new ≡ (depth, item ∷ [])
+unfolding put_at
+put_into_none depth none new item empty is = is ∙ ap (λ (v : ℕ × List _). (depth, put_at v.1 0 item)) empty

@@ -1,4 +1,5 @@
 pub mod Fours
 pub mod Kept
+pub mod Lifts
 pub mod Nodes
 pub mod Puts

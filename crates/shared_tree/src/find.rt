@@ -13,14 +13,14 @@ pub(crate) fn find<T: Leaf + Drop>(node: &Node<T>, depth: u32, at: u64) -> Optio
     ensures { option_map (λ x. x.now) result ≡ slice_get node.now.1 at }
 {
     match &node.kind {
-        Kind::Absent => None,
-        Kind::Item(item) => { if at == 0 { Some(item) } else { None } }
-        Kind::Pair(left, right) => {
+        Kind::Absent(_) => None,
+        Kind::Item(leaf) => { if at == 0 { Some(&leaf.item) } else { None } }
+        Kind::Pair(pair) => {
             let half = half_width(depth);
             if at < half {
-                find(left, depth - 1, at)
+                find(&pair.left, depth - 1, at)
             } else {
-                find(right, depth - 1, at - half)
+                find(&pair.right, depth - 1, at - half)
             }
         }
     }

@@ -3,15 +3,15 @@
 //! The nodes of one path are made anew, and all others are shared.
 
 ghost use Rattle.std.specs.Prelude.{◌≡◌, ◌+◌, ◌*◌, ◌<◌, ◌≤◌, ◌^◌, length, IfOk, OnOk};
-ghost use Rattle.shared_tree.specs.Lists.{AreChanges, changed};
-ghost use Rattle.shared_tree.specs.inside.Puts.{put_at};
+ghost use Rattle.shared_tree.specs.Lists.{AreChanges};
+ghost use Rattle.shared_tree.specs.inside.Puts.{put_at, Grows, before, changed_in, Reaches};
 
-use crate::node::{Kind, Node, half_width};
+use crate::build::leaves_of;
+use crate::node::{Node, half_width};
 use crate::work::pair_step;
 use bc_words::{NoMemory, Steps};
 use hash_tree::Leaf;
 use std::alloc::Global;
-use std::rc::Rc;
 use std::sync::ledger::Ledger;
 
 /// The tree with the item at a place: in the place of the one that is there, or behind the last. A step for each level.
@@ -22,48 +22,100 @@ pub(crate) fn put<T: Leaf + Drop, L: Ledger>(
     item: T,
     alloc: Global,
     steps: &mut Steps<L>,
-) -> Result<Rc<Node<T>>, NoMemory>
+) -> Result<Node<T>, NoMemory>
     requires same { depth ≡ node.now.0 }
     requires low { depth ≤ 40 }
+    requires fits { length node.now.1 ≤ 2 ^ depth }
     requires room { at < 2 ^ depth }
     requires place { at ≤ length node.now.1 }
-    ensures put { IfOk result (λ new. new.value ≡ (depth, put_at node.now.1 at item)) }
+    ensures put { IfOk result (λ new. new ≡ (depth, put_at node.now.1 at item)) }
     ensures steps { OnOk result (steps.new ≡ steps.old + depth) }
     ensures at_most { steps.new ≤ steps.old + depth }
 {
-    let Kind::Pair(left, right) = &node.kind else {
-        return Ok(Rc::new(alloc, Node::item(item))?);
-    };
+    if depth == 0 {
+        return Node::item(item, alloc);
+    }
+    let (left, right) = node.halves()?;
     let half = half_width(depth);
     if at < half {
-        let left = put(left, depth - 1, at, item, alloc, steps)?;
-        let right = right.clone()?;
-        return Ok(Rc::new(alloc, pair_step(left, right, steps))?);
+        let left = put(&left, depth - 1, at, item, alloc, steps)?;
+        return pair_step(left, right, alloc, steps);
     }
-    let right = put(right, depth - 1, at - half, item, alloc, steps)?;
-    let left = left.clone()?;
-    Ok(Rc::new(alloc, pair_step(left, right, steps))?)
+    let right = put(&right, depth - 1, at - half, item, alloc, steps)?;
+    pair_step(left, right, alloc, steps)
 }
 
-/// The tree with each change made, the last one first. At most a step for each level and change.
-pub(crate) fn put_each<T: Leaf + Drop, L: Ledger>(
-    tree: &Rc<Node<T>>,
+/// The same for a place behind the last of a full tree too, which becomes the left half of one that is a level deeper. The
+/// depth of the tree goes with it, and is how many steps there were.
+pub(crate) fn put_or_grow<T: Leaf + Drop, L: Ledger>(
+    node: &Node<T>,
     depth: u32,
-    changes: Vec<(u64, T)>,
+    at: u64,
+    item: T,
     alloc: Global,
     steps: &mut Steps<L>,
-) -> Result<Rc<Node<T>>, NoMemory>
-    requires same { depth ≡ tree.now.value.0 }
+) -> Result<(Node<T>, u32), NoMemory>
+    requires same { depth ≡ node.now.0 }
+    requires fits { length node.now.1 ≤ 2 ^ depth }
+    requires place { at ≤ length node.now.1 }
     requires low { depth ≤ 40 }
-    requires room { length tree.now.value.1 ≤ 2 ^ depth }
-    requires places { AreChanges 0 (length tree.now.value.1) changes.items }
-    ensures put { IfOk result (λ new. new.value ≡ (depth, changed tree.now.value.1 changes.items)) }
-    ensures at_most { steps.new ≤ steps.old + length changes.items * depth }
+    requires grown { 2 ^ depth ≤ at → depth < 40 }
+    ensures put { IfOk result (λ new. new.0 ≡ (new.1, put_at node.now.1 at item)) }
+    ensures grows { IfOk result (λ new. Grows depth at new.1) }
+    ensures steps { IfOk result (λ new. steps.new ≡ steps.old + new.1) }
+    ensures at_most { steps.new ≤ steps.old + depth + 1 }
+    ensures within { at < 2 ^ depth → steps.new ≤ steps.old + depth }
 {
-    let mut changes = changes;
-    let mut next = tree.clone()?;
-    'each: while let Some((at, item)) = changes.pop() {
-        next = put(&next, depth, at, item, alloc, steps)?;
+    if at < leaves_of(depth) {
+        return Ok((put(node, depth, at, item, alloc, steps)?, depth));
     }
-    Ok(next)
+    let right = put(&Node::absent(depth), depth, 0, item, alloc, steps)?;
+    let whole = pair_step(node.share()?, right, alloc, steps)?;
+    Ok((whole, depth + 1))
+}
+
+/// The tree, whose first place is `from`, with the changes made that are there or behind. They are taken off the list, whose
+/// last ones they are. Each node is made anew once: at most a step for each level and change, and no more than there are
+/// inner nodes.
+pub(crate) fn put_many<T: Leaf + Drop, L: Ledger>(
+    node: &Node<T>,
+    depth: u32,
+    from: u64,
+    changes: &mut Vec<(u64, T)>,
+    alloc: Global,
+    steps: &mut Steps<L>,
+) -> Result<Node<T>, NoMemory>
+    requires same { depth ≡ node.now.0 }
+    requires low { depth ≤ 40 }
+    requires fits { length node.now.1 ≤ 2 ^ depth }
+    requires within { from + 2 ^ depth ≤ 2 ^ 40 }
+    requires places { AreChanges 0 (from + length node.now.1) changes.old.items }
+    ensures put { IfOk result (λ new. new ≡ (depth, changed_in from node.now.1 changes.old.items)) }
+    ensures rest { OnOk result (changes.new.items ≡ before from changes.old.items) }
+    ensures fewer { length changes.new.items ≤ length changes.old.items }
+    ensures work { steps.new + length changes.new.items * depth ≤ steps.old + length changes.old.items * depth }
+    ensures nodes { steps.new + 1 ≤ steps.old + 2 ^ depth }
+{
+    if !reaches(changes, from) {
+        return node.share();
+    }
+    if depth == 0 {
+        return match changes.pop() {
+            Some((_at, item)) => Node::item(item, alloc),
+            None => unreachable!(),
+        };
+    }
+    let (left, right) = node.halves()?;
+    let middle = from + half_width(depth);
+    let right = put_many(&right, depth - 1, middle, changes, alloc, steps)?;
+    let left = put_many(&left, depth - 1, from, changes, alloc, steps)?;
+    pair_step(left, right, alloc, steps)
+}
+
+/// Whether the last change is at this place or behind.
+fn reaches<T>(changes: &[(u64, T)], from: u64) -> bool
+    ensures { Reaches from changes.now result }
+{
+    let count = changes.len();
+    count > 0 && changes[count - 1].0 >= from
 }

@@ -100,8 +100,9 @@ impl<T: Leaf + Drop> SharedList<T> {
         Ok(())
     }
 
-    /// Other items at many places. At most a step for each level of the tree and change, and one for the length. Where
-    /// memory is refused, the list is as before and the items are dropped.
+    /// Other items at many places. Each node is made anew once: at most a step for each level of the tree and change, and
+    /// one for the length, and no more than the tree over the items has nodes, and one for each level above. Where memory is
+    /// refused, the list is as before and the items are dropped.
     pub fn set_many<L: Ledger>(
         &mut self,
         changes: Vec<(u64, T)>,
@@ -110,6 +111,7 @@ impl<T: Leaf + Drop> SharedList<T> {
         requires places { AreChanges 0 (length self.old.items) changes.items }
         ensures set { Becomes result self.old self.new (record self.old { items = changed self.old.items changes.items }) }
         ensures at_most { steps.new ≤ steps.old + (length changes.items * depth_for self.old.limit + 1) }
+        ensures nodes { steps.new ≤ steps.old + (2 * length self.old.items + depth_for self.old.limit + 1) }
     {
         self.tree.put_many(changes, steps)?;
         self.root = mix_step(&self.tree.top(), self.tree.len(), steps);

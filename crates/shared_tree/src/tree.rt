@@ -1,6 +1,8 @@
 //! A tree over the items in its first leaves, which grows by one item at a time.
 //!
-//! Both lists keep one: that of values has an item in each leaf, and that of numbers a chunk of four.
+//! Both lists keep one: that of values has an item in each leaf, and that of numbers a chunk of four. Nodes are kept for the
+//! smallest tree that has room for the items, so that an item is found by few steps; the root of the whole tree, whose
+//! depth is that of the list's limit, is kept beside it.
 
 ghost use Rattle.std.specs.Prelude.{◌≡◌, ◌+◌, ◌*◌, ◌<◌, ◌≤◌, ◌^◌, [], ◌∷◌, length, map, slice_get, IfOk, OnOk};
 ghost use Rattle.std.specs.Option.{option_map};
@@ -9,23 +11,25 @@ ghost use Rattle.hash_tree.specs.Merkle.{merkle_root};
 ghost use Rattle.shared_tree.specs.Lists.{AreChanges, changed};
 ghost use Rattle.shared_tree.specs.inside.Puts.{put_at};
 
-use crate::build::{absent, build};
+use crate::build::{build, depth_over};
 use crate::find::find;
 use crate::node::Node;
-use crate::put::{put, put_each};
+use crate::put::{put_many, put_or_grow};
+use crate::work::{lift, lift_steps};
 use bc_words::{NoMemory, Steps};
 use hash_tree::{Leaf, Root};
 use std::alloc::Global;
 use std::marker::Model;
-use std::rc::Rc;
 use std::sync::ledger::Ledger;
 
 /// Contracts see a tree as its depth and its items.
 #[derive(Drop)]
 pub(crate) struct Tree<T: Leaf + Drop> {
-    node: Rc<Node<T>>,
+    node: Node<T>,
+    low: u32,
     depth: u32,
     len: u64,
+    top: Root,
     alloc: Global,
 }
 
@@ -36,9 +40,9 @@ impl<T: Leaf + Drop> Model for Tree<T> {
 
     ghost use Rattle.shared_tree.specs.inside.Kept.{IsTree};
 
-    ghost view = { λ tree. (tree.depth, tree.node.value.1) };
+    ghost view = { λ tree. (tree.depth, tree.node.1) };
 
-    ghost invariant = { λ tree. IsTree tree.node.value tree.depth tree.len };
+    ghost invariant = { λ tree. IsTree T.root_of tree.node tree.low tree.depth tree.len tree.top };
 }
 
 impl<T: Leaf + Drop> Tree<T> {
@@ -51,12 +55,15 @@ impl<T: Leaf + Drop> Tree<T> {
         let mut items = items;
         let alloc = *items.allocator();
         let len = items.len() as u64;
-        let without = absent(alloc, depth)?;
-        let node = build(alloc, &mut items, 0, depth, &without)?;
+        let low = depth_over(len, depth);
+        let node = build(&mut items, 0, low, alloc)?;
+        let top = lift(node.root(), low, depth);
         Ok(Tree {
             node,
+            low,
             depth,
             len,
+            top,
             alloc,
         })
     }
@@ -74,14 +81,14 @@ impl<T: Leaf + Drop> Tree<T> {
     pub(crate) fn get(&self, at: u64) -> Option<&T>
         ensures { option_map (λ x. x.now) result ≡ slice_get self.now.1 at }
     {
-        find(&self.node, self.depth, at)
+        find(&self.node, self.low, at)
     }
 
     /// The root. It is kept.
     pub(crate) fn top(&self) -> Root
         ensures { result ≡ merkle_root self.now.0 (map T.root_of self.now.1) }
     {
-        self.node.root()
+        self.top
     }
 
     /// The item at a place: in the place of the one that is there, or behind the last. A step for each level. Where memory
@@ -98,8 +105,10 @@ impl<T: Leaf + Drop> Tree<T> {
         ensures steps { OnOk result (steps.new ≡ steps.old + self.old.0) }
         ensures at_most { steps.new ≤ steps.old + self.old.0 }
     {
-        let node = put(&self.node, self.depth, at, item, self.alloc, steps)?;
+        let (node, low) = put_or_grow(&self.node, self.low, at, item, self.alloc, steps)?;
+        self.top = lift_steps(node.root(), low, self.depth, steps);
         self.node = node;
+        self.low = low;
         if at == self.len {
             self.len += 1;
         }
@@ -116,8 +125,15 @@ impl<T: Leaf + Drop> Tree<T> {
         requires places { AreChanges 0 (length self.old.1) changes.items }
         ensures put { Becomes result self.old self.new (self.old.0, changed self.old.1 changes.items) }
         ensures at_most { steps.new ≤ steps.old + length changes.items * self.old.0 }
+        ensures nodes { steps.new ≤ steps.old + (2 * length self.old.1 + self.old.0) }
     {
-        let node = put_each(&self.node, self.depth, changes, self.alloc, steps)?;
+        let count = changes.len();
+        if count == 0 {
+            return Ok(());
+        }
+        let mut changes = changes;
+        let node = put_many(&self.node, self.low, 0, &mut changes, self.alloc, steps)?;
+        self.top = lift_steps(node.root(), self.low, self.depth, steps);
         self.node = node;
         Ok(())
     }
@@ -127,9 +143,11 @@ impl<T: Leaf + Drop> Tree<T> {
         ensures { IfOk result (λ tree. tree ≡ self.now) }
     {
         Ok(Tree {
-            node: self.node.clone()?,
+            node: self.node.share()?,
+            low: self.low,
             depth: self.depth,
             len: self.len,
+            top: self.top,
             alloc: self.alloc,
         })
     }

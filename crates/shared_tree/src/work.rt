@@ -1,27 +1,57 @@
 //! Hash steps: the hash of two nodes, or the mixing of a length, each of which is counted.
 
-ghost use Rattle.std.specs.Prelude.{◌≡◌, suc, ◌+◌, ◌++◌};
-ghost use Rattle.hash_tree.specs.Merkle.{mix_in_length as mixed_in};
+ghost use Rattle.std.specs.Prelude.{◌≡◌, ℕ, suc, ◌+◌, ◌-◌, ◌≤◌, ◌^◌, List, ◌++◌, length, IfOk};
+ghost use Rattle.hash_tree.specs.Merkle.{merkle_root, mix_in_length as mixed_in};
 ghost use Rattle.shared_tree.specs.inside.Nodes.{AreHalves};
+ghost use Rattle.shared_tree.specs.inside.Lifts.{Lifts};
 
 use crate::node::Node;
-use bc_words::Steps;
-use hash_tree::{Leaf, Root, mix_in_length};
-use std::rc::Rc;
+use bc_words::{NoMemory, Steps};
+use hash_tree::{Leaf, Root, hash_pair, mix_in_length, zero_hash};
+use std::alloc::Global;
 use std::sync::ledger::Ledger;
 
 /// The tree over two halves.
 pub(crate) fn pair_step<T: Leaf + Drop, L: Ledger>(
-    left: Rc<Node<T>>,
-    right: Rc<Node<T>>,
+    left: Node<T>,
+    right: Node<T>,
+    alloc: Global,
     steps: &mut Steps<L>,
-) -> Node<T>
-    requires { AreHalves left.value right.value }
-    ensures pair { result ≡ (suc left.value.0, left.value.1 ++ right.value.1) }
+) -> Result<Node<T>, NoMemory>
+    requires { AreHalves left right }
+    ensures pair { IfOk result (λ node. node ≡ (suc left.0, left.1 ++ right.1)) }
     ensures steps { steps.new ≡ steps.old + 1 }
 {
     steps.tick();
-    Node::pair(left, right)
+    Node::pair(left, right, alloc)
+}
+
+/// The root of a tree of a greater depth over the same items.
+pub(crate) fn lift_steps<L: Ledger>(root: Root, low: u32, depth: u32, steps: &mut Steps<L>) -> Root
+    requires order { low ≤ depth }
+    requires deep { depth ≤ 40 }
+    ensures lifts { Lifts low depth root result }
+    ensures steps { steps.new ≡ steps.old + (depth - low) }
+{
+    let mut top = root;
+    'levels: for level in low..depth {
+        steps.tick();
+        top = hash_pair(&top, &zero_hash(level));
+    }
+    top
+}
+
+/// The same, where nothing is counted.
+pub(crate) fn lift(root: Root, low: u32, depth: u32) -> Root
+    requires order { low ≤ depth }
+    requires deep { depth ≤ 40 }
+    ensures { Lifts low depth root result }
+{
+    let mut top = root;
+    'levels: for level in low..depth {
+        top = hash_pair(&top, &zero_hash(level));
+    }
+    top
 }
 
 /// The root of a list, from that of its tree.

@@ -4,4 +4,8 @@ use Rattle.shared_tree.proofs.Keeps.{width_low}
 use Rattle.shared_tree.proofs.tree.Tree.of.Goals as goal
 
 pub build-requires-clause-within : goal.build-requires-clause-within
-build-requires-clause-within g c = let w = width_low c.args.depth c.requires.low in omega arith
+build-requires-clause-within g c =
+    let low = c.depth_over-low.ensures.low in
+    let deep = c.requires.low in
+    let w = width_low c.depth_over-low.result (omega arith) in
+    omega arith
