@@ -6,7 +6,7 @@ ghost use Rattle.committees.specs.Committees.{IsWithoutRepeats};
 ghost use Rattle.spec_state.specs.Misc.{effective_balance};
 ghost use Rattle.spec_state.specs.Accessors.{get_active_validator_indices, get_total_balance};
 
-use crate::validators::{effective_at, is_active_at};
+use crate::validators::{active_balance, effective_at, is_active_at};
 use bc_words::{NoMemory, Stop, checked_add};
 use beacon_state::State;
 use committees::Lookup;
@@ -84,10 +84,10 @@ fn sum_active(state: &State, epoch: u64) -> Result<u64, Stop>
 {
     let mut sum = 0;
     for index in 0..state.validators_len() {
-        if !is_active_at(state, index, epoch) {
-            continue;
+        match active_balance(state, index, epoch) {
+            Some(balance) => sum = checked_add(sum, balance)?,
+            None => {}
         }
-        sum = checked_add(sum, effective_at(state, index))?;
     }
     Ok(sum)
 }
