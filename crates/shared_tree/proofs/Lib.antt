@@ -5,3 +5,4 @@ pub mod Changes
 pub mod Packing
 pub mod Packs
 pub mod Many
+pub mod Walks

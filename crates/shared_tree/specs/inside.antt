@@ -3,3 +3,4 @@ pub mod Kept
 pub mod Lifts
 pub mod Nodes
 pub mod Puts
+pub mod Walks

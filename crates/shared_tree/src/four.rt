@@ -8,6 +8,7 @@ ghost use Rattle.hash_tree.specs.Merkle.{merkle_root, u64_chunks};
 ghost use Rattle.ssz_codec.specs.Basic.{uint64};
 ghost use Rattle.shared_tree.specs.inside.Fours.{first_four, packed};
 
+use crate::tree::Tree;
 use bc_words::NoMemory;
 use hash_tree::{Leaf, Root, merkle_u64};
 use std::alloc::Global;
@@ -79,4 +80,15 @@ pub(crate) fn pack(alloc: Global, numbers: &[u64]) -> Result<Vec<Four>, NoMemory
         fours.push(Four::first(&numbers[4 * k..]))?;
     }
     Ok(fours)
+}
+
+/// The chunk at a place.
+pub(crate) fn chunk_at(tree: &Tree<Four>, at: u64) -> Four
+    requires { at < length tree.now.1 }
+    ensures { slice_get tree.now.1 at ≡ Some result }
+{
+    match tree.get(at) {
+        Some(four) => *four,
+        None => unreachable!(),
+    }
 }

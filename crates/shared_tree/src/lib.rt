@@ -7,15 +7,19 @@
 mod build;
 mod find;
 mod four;
+mod iter;
 mod laws;
 mod node;
+mod numbers;
 mod packed_list;
 mod put;
 mod shared_list;
 mod tree;
 mod work;
 
+pub use iter::Iter;
 pub use laws::set_after_share;
+pub use numbers::Numbers;
 pub use packed_list::PackedList;
 pub use shared_list::SharedList;
 

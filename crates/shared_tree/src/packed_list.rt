@@ -13,7 +13,8 @@ ghost use Rattle.shared_tree.specs.Lists.{AreChanges, changed};
 ghost use Rattle.shared_tree.specs.inside.Fours.{packed, numbers_in};
 ghost use Rattle.shared_tree.specs.inside.Puts.{put_at};
 
-use crate::four::{Four, pack};
+use crate::four::{Four, chunk_at, pack};
+use crate::numbers::Numbers;
 use crate::tree::Tree;
 use crate::work::mix_step;
 use bc_words::{NoMemory, PushStop, Steps};
@@ -52,17 +53,6 @@ fn chunk_limit(limit: u64) -> u64
     ensures enough { (limit + 3) / 4 ≡ result }
 {
     (8 * limit + 31) / 32
-}
-
-/// The chunk at a place.
-fn chunk_at(tree: &Tree<Four>, at: u64) -> Four
-    requires { at < length tree.now.1 }
-    ensures { slice_get tree.now.1 at ≡ Some result }
-{
-    match tree.get(at) {
-        Some(four) => *four,
-        None => unreachable!(),
-    }
 }
 
 /// The number at a place: in the place of the one that is there, or behind the last. Where memory is refused, the tree is
@@ -206,6 +196,13 @@ impl PackedList {
         self.len += 1;
         self.root = mix_step(&self.tree.top(), self.len, steps);
         Ok(())
+    }
+
+    /// The numbers in order. An iterator is seen as what is left of them.
+    pub fn iter(&self) -> Numbers<'_>
+        ensures { result ≡ self.now.items }
+    {
+        Numbers::over(&self.tree, self.len)
     }
 
     /// An equal list, whose nodes are those of this one.

@@ -9,6 +9,7 @@ ghost use Rattle.bc_words.specs.Outcome.{Pushes, Becomes, checked_push};
 ghost use Rattle.hash_tree.specs.Merkle.{merkleize, mix_in_length as mixed_in, depth_of as depth_for};
 ghost use Rattle.shared_tree.specs.Lists.{AreChanges, changed};
 
+use crate::iter::Iter;
 use crate::tree::Tree;
 use crate::work::mix_step;
 use bc_words::{NoMemory, PushStop, Steps};
@@ -133,6 +134,13 @@ impl<T: Leaf + Drop> SharedList<T> {
         self.tree.put(len, value, steps)?;
         self.root = mix_step(&self.tree.top(), len + 1, steps);
         Ok(())
+    }
+
+    /// The items in order. An iterator is seen as what is left of them.
+    pub fn iter(&self) -> Iter<'_, T>
+        ensures { result ≡ self.now.items }
+    {
+        self.tree.iter()
     }
 
     /// An equal list, whose nodes are those of this one.

@@ -13,6 +13,7 @@ ghost use Rattle.shared_tree.specs.inside.Puts.{put_at};
 
 use crate::build::{build, depth_over};
 use crate::find::find;
+use crate::iter::Iter;
 use crate::node::Node;
 use crate::put::{put_many, put_or_grow};
 use crate::work::{lift, lift_steps};
@@ -136,6 +137,13 @@ impl<T: Leaf + Drop> Tree<T> {
         self.top = lift_steps(node.root(), self.low, self.depth, steps);
         self.node = node;
         Ok(())
+    }
+
+    /// The items in order.
+    pub(crate) fn iter(&self) -> Iter<'_, T>
+        ensures { result ≡ self.now.1 }
+    {
+        Iter::over(&self.node, self.low, self.len)
     }
 
     /// An equal tree, whose nodes are those of this one.
