@@ -1,0 +1,12 @@
+pub mod Bests
+pub mod Boosts
+pub mod Chains
+pub mod Counting
+pub mod Holding
+pub mod Items
+pub mod Messages
+pub mod Noting
+pub mod Ranks
+pub mod Walks
+pub mod Weights
+pub mod Whole

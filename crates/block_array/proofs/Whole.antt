@@ -1,0 +1,287 @@
+-- The array stays whole.
+use Rattle.std.proofs.Common.{◌≡◌, ℕ, zero, suc, ◌+◌, ◌<◌, ◌≤◌, ◌⊎◌, inl, inr, Bool, true, false, cond, List, [], ◌∷◌, ◌++◌, length, Option, Some, None, Result, Ok, Err, OnErr, is_ok, refl, sym, ap, ◌∙◌, subst, arith, length-append}
+use Rattle.std.specs.Option.{option_map_or}
+use Rattle.std.proofs.lemmas.Bool.{cases_lt}
+use Rattle.std.proofs.lemmas.List.{get_or_past}
+use Rattle.std.proofs.lemmas.List.Sums.{sum_by-cons}
+use Rattle.beacon_types.specs.declared.checkpoint.Checkpoint.{Checkpoint}
+use Rattle.block_array.specs.declared.facts.Facts.{Facts}
+use Rattle.block_array.specs.declared.node.Node.{Node}
+use Rattle.block_array.specs.declared.node.Message.{Message}
+use Rattle.block_array.specs.declared.rank.Rank.{Rank}
+use Rattle.block_array.specs.declared.tally.Counted.{Counted}
+use Rattle.block_array.specs.PlainArray.{PlainArray, message_of, balance_of}
+use Rattle.block_array.specs.UpdateLatestMessages.{is_listed, voted}
+use Rattle.block_array.specs.Calls.{new_array, with_node, with_balances, with_checkpoints, with_boost, made}
+use Rattle.block_array.specs.GetHead.{goes_before, best_of, children_of, next_head, head_within, get_head}
+use Rattle.block_array.specs.FilterBlockTree.{agrees, is_viable, with_viable, filter_block_tree, get_filtered_block_tree}
+use Rattle.block_array.specs.GetLatestAttestingBalance.{votes_for, validators_of, attestation_score, proposer_score, is_boosted, get_latest_attesting_balance}
+use Rattle.block_array.specs.inside.Counts.{Counts, nothing, counted_of}
+use Rattle.block_array.specs.inside.Held.{due}
+use Rattle.block_array.specs.inside.Ranks.{rank_at, IsCounted, IsMade, IsHeadFrom}
+use Rattle.block_array.proofs.Noting.{due_none}
+use Rattle.block_array.specs.inside.Noted.{count_changed, IsNoted, IsUnchanged, IsArray}
+
+-- ---- weights and head don't depend on what changed, nor on what is spare
+
+module _ (array : PlainArray) (changed : List ℕ) (set any : Bool) (nodes validators : ℕ) where
+  abbrev other : PlainArray
+  other = record array { changed_validators = changed; balances_set = set; anything_changed = any; spare_nodes = nodes; spare_validators = validators }
+
+  weight_same : (j : ℕ) → get_latest_attesting_balance other j ≡ get_latest_attesting_balance array j
+  unfolding get_latest_attesting_balance is_boosted attestation_score votes_for validators_of balance_of message_of proposer_score
+  weight_same j = refl
+
+  before_same : (a b : ℕ) → goes_before other a b ≡ goes_before array a b
+  unfolding goes_before get_latest_attesting_balance is_boosted attestation_score votes_for validators_of balance_of message_of proposer_score
+  before_same a b = refl
+
+  best_same : (x : ℕ) (xs : List ℕ) → best_of other x xs ≡ best_of array x xs
+  unfolding best_of
+  best_same x [] = refl
+  best_same x (y ∷ xs) = ap (λ b. cond b (best_of other y xs) (best_of other x xs)) (before_same y x) ∙ by (best_same y xs) (best_same x xs) (goes_before array y x)
+    where
+      by : best_of other y xs ≡ best_of array y xs → best_of other x xs ≡ best_of array x xs → (b : Bool) → cond b (best_of other y xs) (best_of other x xs) ≡ cond b (best_of array y xs) (best_of array x xs)
+      by second first true = second
+      by second first false = first
+
+  next_same : (j : ℕ) (xs : List ℕ) → next_head other j xs ≡ next_head array j xs
+  unfolding next_head
+  next_same j [] = refl
+  next_same j (x ∷ xs) = best_same x xs
+
+  children_same : (tree : List ℕ) (j : ℕ) → children_of other tree j ≡ children_of array tree j
+  unfolding children_of
+  children_same tree j = refl
+
+  head_same : (steps : ℕ) (tree : List ℕ) (j : ℕ) → head_within steps other tree j ≡ head_within steps array tree j
+  unfolding head_within
+  head_same zero tree j = refl
+  head_same (suc steps) tree j =
+      ap (head_within steps other tree) (ap (next_head other j) (children_same tree j) ∙ next_same j (children_of array tree j))
+      ∙ head_same steps tree (next_head array j (children_of array tree j))
+
+  with_same : (number : ℕ) (node : Node) (later : List Node) (viable : List ℕ) → with_viable other number node later viable ≡ with_viable array number node later viable
+  unfolding with_viable is_viable agrees
+  with_same number node later viable = refl
+
+  tree_same : (number : ℕ) (later : List Node) → filter_block_tree other number later ≡ filter_block_tree array number later
+  unfolding filter_block_tree
+  tree_same number [] = refl
+  tree_same number (node ∷ later) = ap (with_viable other number node later) (tree_same (suc number) later) ∙ with_same number node later (filter_block_tree array (suc number) later)
+
+  filtered_same : get_filtered_block_tree other ≡ get_filtered_block_tree array
+  unfolding get_filtered_block_tree
+  filtered_same = tree_same 0 array.nodes
+
+  pub made_same : (ranks : List Rank) → IsMade array ranks → IsMade other ranks
+  unfolding IsHeadFrom
+  made_same ranks m = record {
+    weights = λ j h. m.weights j h ∙ sym (weight_same j);
+    heads = λ j h steps enough. head_same steps (get_filtered_block_tree other) j ∙ ap (λ tree. head_within steps array tree j) filtered_same ∙ m.heads j h steps enough;
+  }
+
+-- ---- each call
+
+module _ (array : PlainArray) (counts : Counts) (ranks : List Rank) (rank_room : ℕ) (a : IsArray array counts ranks rank_room) (told : PlainArray) where
+  pub kept_boost : (boosted : Option ℕ) → told ≡ with_boost array boosted → IsArray told counts ranks rank_room
+  unfolding message_of balance_of due
+  kept_boost boosted is = subst (λ (t : PlainArray). IsArray t counts ranks rank_room) (sym is) (record {
+    noted = record { nodes = a.noted.nodes; length_is = a.noted.length_is; listed = a.noted.listed; many = a.noted.many; idle = a.noted.idle; current = a.noted.current };
+    length_is = a.length_is;
+    unchanged = λ e. absurd cc;
+    tally_nodes = a.tally_nodes;
+    rank_nodes = a.rank_nodes;
+    tally_validators = a.tally_validators;
+  })
+
+  pub kept_checkpoints : (node : ℕ) (justified finalized : Checkpoint) → told ≡ with_checkpoints array node justified finalized → IsArray told counts ranks rank_room
+  unfolding message_of balance_of due
+  kept_checkpoints node justified finalized is = subst (λ (t : PlainArray). IsArray t counts ranks rank_room) (sym is) (record {
+    noted = record { nodes = a.noted.nodes; length_is = a.noted.length_is; listed = a.noted.listed; many = a.noted.many; idle = a.noted.idle; current = a.noted.current };
+    length_is = a.length_is;
+    unchanged = λ e. absurd cc;
+    tally_nodes = a.tally_nodes;
+    rank_nodes = a.rank_nodes;
+    tally_validators = a.tally_validators;
+  })
+
+  pub kept_balances : (balances : List ℕ) (count total : ℕ) → told ≡ with_balances array balances count total → IsArray told counts ranks rank_room
+  unfolding message_of
+  kept_balances balances count total is = subst (λ (t : PlainArray). IsArray t counts ranks rank_room) (sym is) (record {
+    noted = record { nodes = a.noted.nodes; length_is = a.noted.length_is; listed = a.noted.listed; many = a.noted.many; idle = a.noted.idle; current = λ e. absurd cc };
+    length_is = a.length_is;
+    unchanged = λ e. absurd cc;
+    tally_nodes = a.tally_nodes;
+    rank_nodes = a.rank_nodes;
+    tally_validators = a.tally_validators;
+  })
+
+  pub kept_vote : (v : ℕ) (message : Message) (after : Counts) → told ≡ voted array v message → IsNoted told after → after.node_room ≡ counts.node_room → counts.validator_room ≤ after.validator_room → IsArray told after ranks rank_room
+  unfolding voted
+  kept_vote v message after is noted room more =
+      let t = a.tally_nodes in let v = a.tally_validators in
+      subst (λ (t : PlainArray). IsNoted t after → IsArray t after ranks rank_room) (sym is)
+      (λ n. record {
+        noted = n;
+        length_is = a.length_is;
+        unchanged = λ e. absurd cc;
+        tally_nodes = omega arith;
+        rank_nodes = a.rank_nodes;
+        tally_validators = omega arith;
+      })
+      noted
+
+-- rooms alone change
+pub kept_rooms : (array : PlainArray) (counts after : Counts) (ranks ranks₁ : List Rank) (rank_room rank_room₁ : ℕ) → IsArray array counts ranks rank_room → ranks₁ ≡ ranks → after.validators ≡ counts.validators → after.nodes ≡ counts.nodes → counts.node_room ≤ after.node_room → counts.validator_room ≤ after.validator_room → rank_room ≤ rank_room₁ → IsArray array after ranks₁ rank_room₁
+kept_rooms array counts after ranks ranks₁ rank_room rank_room₁ a same vs ns nodes validators room =
+    let t = a.tally_nodes in let v = a.tally_validators in let r = a.rank_nodes in
+    subst (λ (rs : List Rank). IsArray array after rs rank_room₁) (sym same)
+    (record {
+      noted = record {
+        nodes = ns ∙ a.noted.nodes;
+        length_is = ap length vs ∙ a.noted.length_is;
+        listed = λ k. ap (λ ws. (counted_of ws k).changed) vs ∙ a.noted.listed k;
+        many = ap count_changed vs ∙ a.noted.many;
+        idle = λ k e. ap (λ ws. counted_of ws k) vs ∙ a.noted.idle k e;
+        current = λ e k f. ap (λ ws. counted_of ws k) vs ∙ a.noted.current e k (sym (ap (λ ws. (counted_of ws k).changed) vs) ∙ f);
+      };
+      length_is = a.length_is;
+      unchanged = a.unchanged;
+      tally_nodes = omega arith;
+      rank_nodes = omega arith;
+      tally_validators = omega arith;
+    })
+
+-- what is spare alone changes, where there is room for it
+pub kept_spare : (array : PlainArray) (counts : Counts) (ranks : List Rank) (rank_room nodes validators : ℕ) → IsArray array counts ranks rank_room → length array.nodes + nodes ≤ counts.node_room → length array.nodes + nodes ≤ rank_room → validators ≤ counts.validator_room → IsArray (record array { spare_nodes = nodes; spare_validators = validators }) counts ranks rank_room
+unfolding message_of balance_of due
+kept_spare array counts ranks rank_room nodes validators a t r v = record {
+  noted = record { nodes = a.noted.nodes; length_is = a.noted.length_is; listed = a.noted.listed; many = a.noted.many; idle = a.noted.idle; current = a.noted.current };
+  length_is = a.length_is;
+  unchanged = λ e. same (a.unchanged e);
+  tally_nodes = t;
+  rank_nodes = r;
+  tally_validators = v;
+}
+  where
+    same : IsUnchanged array ranks → IsUnchanged (record array { spare_nodes = nodes; spare_validators = validators }) ranks
+    same u = record { made = made_same array array.changed_validators array.balances_set array.anything_changed nodes validators ranks u.made; changed = u.changed; balances = u.balances }
+
+-- ---- a node more
+
+pub kept_node : (array : PlainArray) (counts after : Counts) (ranks ranks₁ : List Rank) (rank_room rank_room₁ : ℕ) (told : PlainArray) (parent slot : ℕ) (root : List ℕ) (facts : Facts) (rank : Rank) (b : Bool) → IsArray array counts ranks rank_room
+    → told ≡ with_node array parent slot root facts → after ≡ record counts { nodes = counts.nodes + 1; node_room = after.node_room } → ranks₁ ≡ cond b (ranks ++ rank ∷ []) ranks → b ≡ true
+    → counts.node_room ≤ after.node_room → length array.nodes + 1 ≤ after.node_room → rank_room ≤ rank_room₁ → length array.nodes + 1 ≤ rank_room₁ → IsArray told after ranks₁ rank_room₁
+unfolding message_of balance_of due
+kept_node array counts after ranks ranks₁ rank_room rank_room₁ told parent slot root facts rank b a is tally more ok nodes node room rank_in =
+    let vr : after.validator_room ≡ counts.validator_room = ap (λ (c : Counts). c.validator_room) tally in
+    let t = a.tally_nodes in let v = a.tally_validators in let r = a.rank_nodes in
+    let node₁ : Node = record { parent = Some parent; slot = slot; root = root; facts = facts } in
+    let l : length (array.nodes ++ node₁ ∷ []) ≡ length array.nodes + 1 = length-append array.nodes (node₁ ∷ []) in
+    let k : length (ranks ++ rank ∷ []) ≡ length ranks + 1 = length-append ranks (rank ∷ []) in
+    let c : counts.nodes ≡ length array.nodes = a.noted.nodes in
+    let d : length ranks ≡ length array.nodes = a.length_is in
+    subst (λ (t : PlainArray). IsArray t after ranks₁ rank_room₁) (sym is)
+    (record {
+      noted = subst (λ (c : Counts). IsNoted (with_node array parent slot root facts) c) (sym tally) (record { nodes = omega arith; length_is = a.noted.length_is; listed = a.noted.listed; many = a.noted.many; idle = a.noted.idle; current = a.noted.current });
+      length_is = ap length (more ∙ ap (λ x. cond x (ranks ++ rank ∷ []) ranks) ok) ∙ (let e : length (ranks ++ rank ∷ []) ≡ length (array.nodes ++ node₁ ∷ []) = omega arith in e);
+      unchanged = λ e. absurd cc;
+      tally_nodes = omega arith;
+      rank_nodes = omega arith;
+      tally_validators = omega arith;
+    })
+
+-- ---- a new array
+
+pub new_whole : (slots percent slot : ℕ) (root : List ℕ) (facts : Facts) (array : PlainArray) (counts : Counts) (ranks : List Rank) (rank_room : ℕ) → array ≡ new_array slots percent slot root facts → counts.validators ≡ [] → counts.nodes ≡ 1 → 1 ≤ counts.node_room → length ranks ≡ 1 → 1 ≤ rank_room → IsArray array counts ranks rank_room
+unfolding is_listed count_changed counted_of message_of
+new_whole slots percent slot root facts array counts ranks rank_room is validators nodes room len rank_in =
+    subst (λ (a : PlainArray). IsArray a counts ranks rank_room) (sym is)
+    (record {
+      noted = record {
+        nodes = nodes;
+        length_is = ap length validators;
+        listed = λ v. ap (λ vs. (counted_of vs v).changed) validators;
+        many = ap count_changed validators;
+        idle = λ v e. ap (λ vs. counted_of vs v) validators;
+        current = λ e v f. ap (λ vs. counted_of vs v) validators ∙ sym (due_none (new_array slots percent slot root facts) v (none v));
+      };
+      length_is = len;
+      unchanged = λ e. absurd cc;
+      tally_nodes = omega arith;
+      rank_nodes = omega arith;
+      tally_validators = omega arith;
+    })
+  where
+    none : (v : ℕ) → message_of (new_array slots percent slot root facts) v ≡ None
+    none v = get_or_past [] v None (omega arith)
+
+-- ---- after the pass
+
+due_unmarked : (array : PlainArray) (v : ℕ) → (due array v).changed ≡ false
+unfolding due
+due_unmarked array v = by (message_of array v)
+  where
+    by : (o : Option Message) → (option_map_or (λ message. record { node = message.node; balance = balance_of array v; changed = false }) o nothing).changed ≡ false
+    by None = refl
+    by (Some message) = refl
+
+none_marked : (validators : List Counted) → ((v : ℕ) → (counted_of validators v).changed ≡ false) → count_changed validators ≡ 0
+unfolding count_changed counted_of
+none_marked [] unmarked = refl
+none_marked (c ∷ validators) unmarked =
+    let s : count_changed (c ∷ validators) ≡ cond c.changed 1 0 + count_changed validators = sum_by-cons (λ (c : Counted). cond c.changed 1 0) c validators in
+    let z : cond c.changed 1 0 ≡ (let z : ℕ = 0 in z) = ap (λ b. cond b 1 0) (unmarked 0) in
+    let r : count_changed validators ≡ 0 = none_marked validators (λ v. unmarked (suc v)) in
+    omega arith
+
+module _ (array : PlainArray) (counts after : Counts) (counted : IsCounted array after) where
+  beyond : (v : ℕ) → length after.validators ≤ v → message_of array v ≡ None
+  unfolding message_of
+  beyond v past = get_or_past array.latest_messages v None (let l : length after.validators ≡ length array.latest_messages = counted.length_is in omega arith)
+
+  all_due : (v : ℕ) → (v < length after.validators) ⊎ (length after.validators ≤ v) → counted_of after.validators v ≡ due array v
+  unfolding counted_of
+  all_due v (inl inside) = counted.validators v inside
+  all_due v (inr past) = get_or_past after.validators v nothing past ∙ sym (due_none array v (beyond v past))
+
+  unmarked : (v : ℕ) → (counted_of after.validators v).changed ≡ false
+  unmarked v = ap (λ (c : Counted). c.changed) (all_due v (cases_lt v (length after.validators))) ∙ due_unmarked array v
+
+  pub made_noted : IsNoted (made array) after
+  unfolding message_of balance_of due is_listed
+  made_noted = record {
+    nodes = counted.nodes;
+    length_is = counted.length_is;
+    listed = λ v. unmarked v;
+    many = none_marked after.validators unmarked;
+    idle = λ v none. all_due v (cases_lt v (length after.validators)) ∙ due_none array v none;
+    current = λ e v f. all_due v (cases_lt v (length after.validators));
+  }
+
+pub kept_made : (array : PlainArray) (counts after : Counts) (ranks ranks₁ : List Rank) (rank_room rank_room₁ : ℕ) (told : PlainArray) → IsArray array counts ranks rank_room → told ≡ made array → IsCounted array after → after ≡ record counts { validators = after.validators; boost = after.boost } → length ranks₁ ≡ length array.nodes → IsMade array ranks₁ → rank_room ≤ rank_room₁ → IsArray told after ranks₁ rank_room₁
+kept_made array counts after ranks ranks₁ rank_room rank_room₁ told a is counted same len m room =
+    let t = a.tally_nodes in let v = a.tally_validators in let r = a.rank_nodes in
+    let nr : after.node_room ≡ counts.node_room = ap (λ (c : Counts). c.node_room) same in
+    let vr : after.validator_room ≡ counts.validator_room = ap (λ (c : Counts). c.validator_room) same in
+    subst (λ (t : PlainArray). IsArray t after ranks₁ rank_room₁) (sym is)
+    (record {
+      noted = made_noted array counts after counted;
+      length_is = len;
+      unchanged = λ e. record { made = made_same array [] false false array.spare_nodes array.spare_validators ranks₁ m; changed = refl; balances = refl };
+      tally_nodes = omega arith;
+      rank_nodes = omega arith;
+      tally_validators = omega arith;
+    })
+
+module _ (array : PlainArray) (ranks : List Rank) (m : IsMade array ranks) where
+  pub head_made : array.justified_node < length array.nodes → (rank_at ranks array.justified_node).descendant ≡ get_head array
+  unfolding get_head IsHeadFrom
+  head_made inside = sym (m.heads array.justified_node inside (length array.nodes) (omega arith))
+
+-- ---- a push into room
+
+pub pushed_ok : {A B : Type 0} (r : Result A B) (P : Type 0) → OnErr r P → (P → ⊥) → is_ok r ≡ true
+pushed_ok (Ok x) P h n = refl
+pushed_ok (Err e) P h n = absurd (n h)

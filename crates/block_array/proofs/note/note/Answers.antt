@@ -1,0 +1,33 @@
+use Rattle.std.proofs.Common.{◌≡◌, ℕ, ◌+◌, ◌≤◌, true, Option, List, length, max, ap, ◌∙◌, sym, subst, arith}
+use Rattle.block_array.specs.declared.node.Message.{Message}
+use Rattle.block_array.specs.PlainArray.{PlainArray}
+use Rattle.block_array.specs.UpdateLatestMessages.{with_message, with_changed, voted}
+use Rattle.block_array.specs.inside.Held.{Held}
+use Rattle.block_array.specs.inside.Counts.{Counts}
+use Rattle.block_array.specs.inside.Noted.{IsNoted}
+use Rattle.block_array.proofs.Noting.{noted_vote, with_length}
+use Rattle.block_array.proofs.note.note.Goals as goal
+
+pub mark_changed-requires-clause-room : goal.mark_changed-requires-clause-room
+mark_changed-requires-clause-room c =
+    let e : length c.pad.new.tally.validators ≡ max (length c.args.tally.now.validators) (c.args.validator + 1) = c.pad.ensures.length_is in
+    let p : c.put_message.new.self.array.latest_messages ≡ with_message c.args.inputs.now.array.latest_messages c.args.validator c.args.message = ap (λ (h : Held). h.array.latest_messages) c.put_message.ensures.put in
+    let l : length c.put_message.new.self.array.latest_messages ≡ max (length c.args.inputs.now.array.latest_messages) (c.args.validator + 1) = ap length p ∙ with_length c.args.inputs.now.array.latest_messages c.args.validator c.args.message in
+    let n : length c.args.tally.now.validators ≡ length c.args.inputs.now.array.latest_messages = c.requires.noted.length_is in
+    let r : length c.put_message.new.self.array.latest_messages ≤ c.put_message.new.self.changed_room = c.validators-places.ensures.room in
+    omega arith
+
+array_is : (inputs : Held) (after before : Held) (v : ℕ) (messages : List (Option Message)) (changed_room message_room : ℕ) → after ≡ record before { array = record before.array { changed_validators = with_changed before.array.changed_validators v }; changed_room = changed_room } → before ≡ record inputs { array = record inputs.array { latest_messages = messages; anything_changed = true }; message_room = message_room } → after.array ≡ record inputs.array { latest_messages = messages; changed_validators = with_changed inputs.array.changed_validators v; anything_changed = true }
+array_is inputs after before v messages changed_room message_room e f = ap (λ (h : Held). h.array) e ∙ ap (λ (h : Held). record h.array { changed_validators = with_changed h.array.changed_validators v }) f
+
+pub returns-clause-array : goal.returns-clause-array
+unfolding voted
+returns-clause-array c = array_is c.args.inputs.now c.mark_changed.new.inputs c.put_message.new.self c.args.validator _ _ _ c.mark_changed.ensures.inputs c.put_message.ensures.put
+
+pub returns-clause-noted : goal.returns-clause-noted
+unfolding voted
+returns-clause-noted c =
+    subst (λ (a : PlainArray). IsNoted a c.mark_changed.new.tally) (sym (array_is c.args.inputs.now c.mark_changed.new.inputs c.put_message.new.self c.args.validator _ _ _ c.mark_changed.ensures.inputs c.put_message.ensures.put))
+    (noted_vote c.args.inputs.now.array c.args.tally.now c.requires.noted c.args.validator c.args.message c.mark_changed.new.tally c.pad.new.tally.validators c.pad.ensures.counted c.pad.ensures.many c.pad.ensures.length_is
+    (ap (λ (x : Counts). x.nodes) c.mark_changed.ensures.tally ∙ ap (λ (x : Counts). x.nodes) c.pad.ensures.same)
+    (ap (λ (x : Counts). x.validators) c.mark_changed.ensures.tally))

@@ -1,0 +1,22 @@
+use Rattle.std.proofs.Common.{◌≡◌, ℕ, ◌+◌, ◌<◌, List, length, set, sym, subst, ap, ◌∙◌, arith}
+use Rattle.std.proofs.Math.ListN.{length-set}
+use Rattle.block_array.specs.declared.tally.Counted.{Counted}
+use Rattle.block_array.specs.inside.Counts.{counted_of, Counts}
+use Rattle.block_array.specs.inside.Held.{due}
+use Rattle.block_array.specs.inside.Noted.{AreDue}
+use Rattle.block_array.proofs.Noting.{same_step, counts_more, due_more, counted_other}
+use Rattle.block_array.proofs.recount.recount_all.Goals as goal
+
+pub loop-validator-preserved : goal.loop-validator-preserved
+loop-validator-preserved g c =
+    let n : ℕ = c.loop-validator.validator in
+    let len : length c.loop-validator.tally.validators ≡ length c.args.tally.now.validators = c.loop-validator.invariant.length_is in
+    let inside : c.loop-validator.validator < length c.loop-validator.tally.validators = (let t = c.loop-validator-test.true in let e = c.validators-validator-end.ensures.same in omega arith) in
+    let vs : c.recount_voter.new.tally.validators ≡ set c.loop-validator.tally.validators c.loop-validator.validator (due c.args.inputs.now.array c.loop-validator.validator) = ap (λ (x : Counts). x.validators) c.recount_voter.ensures.counted in
+    record {
+      same = same_step c.args.tally.now c.loop-validator.tally c.recount_voter.new.tally _ c.loop-validator.invariant.same c.recount_voter.ensures.counted;
+      length_is = ap length vs ∙ length-set c.loop-validator.tally.validators _ _ ∙ c.loop-validator.invariant.length_is;
+      made = subst (λ (ws : List Counted). AreDue c.args.inputs.now.array ws (c.loop-validator.validator + 1)) (sym vs) (due_more c.args.inputs.now.array c.loop-validator.tally.validators c.loop-validator.validator inside c.loop-validator.invariant.made);
+      rest = λ v h. subst (λ (ws : List Counted). counted_of ws v ≡ counted_of c.args.tally.now.validators v) (sym vs) (counted_other c.loop-validator.tally.validators c.loop-validator.validator v _ (λ e. omega arith) ∙ c.loop-validator.invariant.rest v (omega arith));
+      steps = (let s = c.recount_voter.ensures.steps in let i = c.loop-validator.invariant.steps in let m = counts_more c.args.inputs.now.array c.loop-validator.validator (let r : length c.args.tally.now.validators ≡ length c.args.inputs.now.array.latest_messages = c.requires.length_is in omega arith) in omega arith);
+    }

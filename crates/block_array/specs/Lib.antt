@@ -1,0 +1,9 @@
+pub mod Calls
+pub mod FilterBlockTree
+pub mod GetAncestor
+pub mod GetHead
+pub mod GetLatestAttestingBalance
+pub mod PlainArray
+pub mod UpdateLatestMessages
+pub mod Work
+pub mod inside

@@ -1,0 +1,51 @@
+-- What is counted, where some messages changed since.
+use Rattle.std.specs.Prelude.{◌≡◌, ℕ, ◌+◌, ◌<◌, ◌≤◌, false, List, [], length, true, slice_set, None, if◌then◌else◌}
+use Rattle.std.specs.List.{count_by}
+use Rattle.block_array.specs.declared.rank.Rank.{Rank}
+use Rattle.block_array.specs.declared.tally.Counted.{Counted}
+use Rattle.block_array.specs.PlainArray.{PlainArray, message_of}
+use Rattle.block_array.specs.UpdateLatestMessages.{is_listed}
+use Rattle.block_array.specs.inside.Counts.{Counts, nothing, counted_of}
+use Rattle.block_array.specs.inside.Held.{due}
+use Rattle.block_array.specs.inside.Ranks.{IsMade}
+
+-- how many are marked as changed
+unfoldable pub count_changed : List Counted → ℕ
+count_changed validators = count_by (λ c. c.changed) validators
+
+-- The marked validators are the changed ones. Of the others, what is due is counted, unless balances were set; and nothing of
+-- who has no message
+pub record IsNoted (array : PlainArray) (counts : Counts) : Type 0 where
+  pub nodes : counts.nodes ≡ length array.nodes
+  pub length_is : length counts.validators ≡ length array.latest_messages
+  pub listed : (v : ℕ) → (counted_of counts.validators v).changed ≡ is_listed array.changed_validators v
+  pub many : count_changed counts.validators ≡ length array.changed_validators
+  pub idle : (v : ℕ) → message_of array v ≡ None → counted_of counts.validators v ≡ nothing
+  pub current : array.balances_set ≡ false → (v : ℕ) → (counted_of counts.validators v).changed ≡ false → counted_of counts.validators v ≡ due array v
+
+-- what is left as it was where nothing changed
+pub record IsUnchanged (array : PlainArray) (ranks : List Rank) : Type 0 where
+  pub made : IsMade array ranks
+  pub changed : array.changed_validators ≡ []
+  pub balances : array.balances_set ≡ false
+
+-- the whole array
+pub record IsArray (array : PlainArray) (counts : Counts) (ranks : List Rank) (rank_room : ℕ) : Type 0 where
+  pub noted : IsNoted array counts
+  pub length_is : length ranks ≡ length array.nodes
+  pub unchanged : array.anything_changed ≡ false → IsUnchanged array ranks
+  pub tally_nodes : length array.nodes + array.spare_nodes ≤ counts.node_room
+  pub rank_nodes : length array.nodes + array.spare_nodes ≤ rank_room
+  pub tally_validators : array.spare_validators ≤ counts.validator_room
+
+-- the deltas of some validators are made
+unfoldable pub AreMade : PlainArray → List Counted → List Counted → List ℕ → Type 0
+AreMade array before after validators = (v : ℕ) → counted_of after v ≡ (if is_listed validators v then due array v else counted_of before v)
+
+-- those of all validators below one are
+unfoldable pub AreDue : PlainArray → List Counted → ℕ → Type 0
+AreDue array after count = (v : ℕ) → v < count → counted_of after v ≡ due array v
+
+-- the validators where one is marked as changed
+unfoldable pub marked : List Counted → ℕ → List Counted
+marked validators v = if (counted_of validators v).changed then validators else slice_set validators v (record (counted_of validators v) { changed = true })

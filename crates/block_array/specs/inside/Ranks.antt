@@ -1,0 +1,88 @@
+-- What is made of each node, where the nodes from a lowest one on are done.
+use Rattle.std.specs.Prelude.{◌≡◌, ℕ, ◌+◌, ◌-◌, ◌<◌, ◌≤◌, ◌^◌, Bool, true, false, if◌then◌else◌, IfSome, List, [], ◌∷◌, drop, length, slice_index_or, Option, Some, None}
+use Rattle.std.specs.List.{list_any}
+use Rattle.block_array.specs.declared.rank.Rank.{Rank}
+use Rattle.block_array.specs.PlainArray.{PlainArray}
+use Rattle.block_array.specs.FilterBlockTree.{is_child, filter_block_tree, get_filtered_block_tree}
+use Rattle.block_array.specs.GetHead.{goes_before, best_of, children_of, head_within}
+use Rattle.block_array.specs.GetLatestAttestingBalance.{get_latest_attesting_balance}
+use Rattle.block_array.specs.inside.Counts.{Counts, nothing, own_at, weight_from}
+use Rattle.block_array.specs.inside.Held.{due, boost_due}
+
+abbrev pub no_rank : Rank
+no_rank = record { weight = 0; has_child = false; child = None; descendant = 0 }
+
+unfoldable pub rank_at : List Rank → ℕ → Rank
+rank_at ranks number = slice_index_or ranks number no_rank
+
+-- all that is counted is what is due
+pub record IsCounted (array : PlainArray) (counts : Counts) : Type 0 where
+  pub nodes : counts.nodes ≡ length array.nodes
+  pub length_is : length counts.validators ≡ length array.latest_messages
+  pub validators : (v : ℕ) → v < length counts.validators → slice_index_or counts.validators v nothing ≡ due array v
+  pub boost : counts.boost ≡ boost_due array
+
+-- the viable nodes among those from a lowest one on
+unfoldable pub viable_from : PlainArray → ℕ → List ℕ
+viable_from array low = filter_block_tree array low (drop low array.nodes)
+
+-- the best of some nodes, if there is one
+unfoldable pub best_among : PlainArray → List ℕ → Option ℕ
+best_among array [] = None
+best_among array (number ∷ others) = Some (best_of array number others)
+
+-- the best of the viable children of a node, among those from a lowest one on
+unfoldable pub best_child : PlainArray → ℕ → ℕ → Option ℕ
+best_child array low number = best_among array (children_of array (viable_from array low) number)
+
+-- the better one of two nodes: the first, unless the second goes before it
+unfoldable pub better : PlainArray → ℕ → ℕ → ℕ
+better array a b = if goes_before array b a then b else a
+
+-- the better one of a child and the best so far, if there is one
+unfoldable pub better_child : PlainArray → ℕ → Option ℕ → ℕ
+better_child array number None = number
+better_child array number (Some best) = better array number best
+
+-- the head from a node on
+unfoldable pub IsHeadFrom : PlainArray → ℕ → ℕ → Type 0
+IsHeadFrom array number head = (steps : ℕ) → length array.nodes - number ≤ steps → head_within steps array (get_filtered_block_tree array) number ≡ head
+
+pub record IsRanked (array : PlainArray) (counts : Counts) (ranks : List Rank) (low : ℕ) : Type 0 where
+  pub length_is : length ranks ≡ length array.nodes
+  pub weight : (j : ℕ) → j < length array.nodes → (rank_at ranks j).weight ≡ weight_from array.nodes counts low j
+  pub has_child : (j : ℕ) → j < length array.nodes → (rank_at ranks j).has_child ≡ list_any (is_child j) (drop low array.nodes)
+  pub child : (j : ℕ) → j < length array.nodes → (rank_at ranks j).child ≡ best_child array low j
+  pub descendant : (j : ℕ) → low ≤ j → j < length array.nodes → IsHeadFrom array j (rank_at ranks j).descendant
+
+-- weights and head are made
+pub record IsMade (array : PlainArray) (ranks : List Rank) : Type 0 where
+  pub weights : (j : ℕ) → j < length array.nodes → (rank_at ranks j).weight ≡ get_latest_attesting_balance array j
+  pub heads : (j : ℕ) → j < length array.nodes → IsHeadFrom array j (rank_at ranks j).descendant
+
+-- the weight of a node is made
+unfoldable pub IsWeighed : PlainArray → List Rank → ℕ → Type 0
+IsWeighed array ranks number = (rank_at ranks number).weight ≡ get_latest_attesting_balance array number
+
+-- so many nodes are as they are before their children are looked at
+unfoldable pub AreFresh : Counts → List Rank → ℕ → Type 0
+AreFresh counts ranks count = (j : ℕ) → j < count → rank_at ranks j ≡ record { weight = own_at counts j; has_child = false; child = None; descendant = 0 }
+
+-- a node can give its weight to its parent, and offer itself as its best child
+pub record CanGive (array : PlainArray) (ranks : List Rank) (number parent : ℕ) : Type 0 where
+  pub length_is : length ranks ≡ length array.nodes
+  pub number_in : number < length ranks
+  pub parent_in : parent < length ranks
+  pub fits : (rank_at ranks parent).weight + (rank_at ranks number).weight < 2 ^ 128
+  pub weighed : IsWeighed array ranks number
+  pub child_in : IfSome (rank_at ranks parent).child (λ child. child < length ranks)
+  pub child_weighed : IfSome (rank_at ranks parent).child (λ child. IsWeighed array ranks child)
+
+-- what a parent is made then
+unfoldable pub given : PlainArray → List Rank → ℕ → ℕ → Bool → Rank
+given array ranks number parent viable = record {
+  weight = (rank_at ranks parent).weight + (rank_at ranks number).weight;
+  has_child = true;
+  child = if viable then Some (better_child array number (rank_at ranks parent).child) else (rank_at ranks parent).child;
+  descendant = (rank_at ranks parent).descendant;
+}

@@ -1,0 +1,22 @@
+//! The nodes of fork choice in order of arrival, with the votes for them.
+//!
+//! Nodes, votes, balances, checkpoints and the boost come from the store above; weights and the head go back to it. Balances
+//! are counted at the nodes that they are voted for, and only what changed is counted anew; then one pass from the last node
+//! to the first makes all weights and the head.
+#![tactic(auto)]
+
+mod block_array;
+mod facts;
+mod get_ancestor;
+mod inputs;
+mod node;
+mod note;
+mod rank;
+mod recount;
+mod room;
+mod settle;
+mod tally;
+
+pub use block_array::BlockArray;
+pub use facts::Facts;
+pub use node::{Message, Node};

@@ -1,0 +1,120 @@
+//! Room for nodes and for votes, in all lists that grow with them.
+
+ghost use Rattle.std.specs.Prelude.{◌≡◌, ◌+◌, ◌<◌, ◌≤◌, ◌^◌, length, vec_capacity, OnOk, IsOk};
+
+use crate::inputs::Inputs;
+use crate::rank::Rank;
+use crate::tally::Tally;
+use bc_words::NoMemory;
+
+/// The greatest number of validators, that of a registry. No memory holds the votes of more.
+const VALIDATOR_LIMIT: u64 = 1 << 40;
+
+/// Makes room for one node more.
+pub(crate) fn grow_nodes(
+    inputs: &mut Inputs,
+    tally: &mut Tally,
+    ranks: &mut Vec<Rank>,
+) -> Result<(), NoMemory>
+    ensures inputs { inputs.new ≡ record inputs.old { node_room = inputs.new.node_room } }
+    ensures tally { tally.new ≡ record tally.old { node_room = tally.new.node_room } }
+    ensures ranks { ranks.new.items ≡ ranks.old.items }
+    ensures inputs_more { inputs.old.node_room ≤ inputs.new.node_room }
+    ensures tally_more { tally.old.node_room ≤ tally.new.node_room }
+    ensures ranks_more { vec_capacity ranks.old ≤ vec_capacity ranks.new }
+    ensures inputs_room { OnOk result (length inputs.old.array.nodes + 1 ≤ inputs.new.node_room) }
+    ensures tally_room { OnOk result (tally.old.nodes + 1 ≤ tally.new.node_room) }
+    ensures ranks_room { OnOk result (length ranks.old.items + 1 ≤ vec_capacity ranks.new) }
+{
+    inputs.reserve_nodes(1)?;
+    tally.reserve_nodes(1)?;
+    ranks.reserve(1)?;
+    Ok(())
+}
+
+/// Makes room for one node more, where none is spare.
+pub(crate) fn room_for_node(
+    inputs: &mut Inputs,
+    tally: &mut Tally,
+    ranks: &mut Vec<Rank>,
+) -> Result<(), NoMemory>
+    requires tally_nodes { tally.old.nodes + inputs.old.array.spare_nodes ≤ tally.old.node_room }
+    requires ranks_nodes { length ranks.old.items + inputs.old.array.spare_nodes ≤ vec_capacity ranks.old }
+    ensures inputs { inputs.new ≡ record inputs.old { node_room = inputs.new.node_room } }
+    ensures tally { tally.new ≡ record tally.old { node_room = tally.new.node_room } }
+    ensures ranks { ranks.new.items ≡ ranks.old.items }
+    ensures tally_more { tally.old.node_room ≤ tally.new.node_room }
+    ensures ranks_more { vec_capacity ranks.old ≤ vec_capacity ranks.new }
+    ensures inputs_room { OnOk result (length inputs.old.array.nodes + 1 ≤ inputs.new.node_room) }
+    ensures tally_room { OnOk result (tally.old.nodes + 1 ≤ tally.new.node_room) }
+    ensures ranks_room { OnOk result (length ranks.old.items + 1 ≤ vec_capacity ranks.new) }
+    ensures spare { 0 < inputs.old.array.spare_nodes → IsOk result }
+{
+    if inputs.spare_nodes() == 0 {
+        grow_nodes(inputs, tally, ranks)
+    } else {
+        Ok(())
+    }
+}
+
+/// Makes room for the validators of a tally, so many in all.
+fn grow_tally(tally: &mut Tally, places: usize) -> Result<(), NoMemory>
+    ensures same { tally.new ≡ record tally.old { validator_room = tally.new.validator_room } }
+    ensures more { tally.old.validator_room ≤ tally.new.validator_room }
+    ensures room { OnOk result (places ≤ tally.new.validator_room) }
+{
+    let len = tally.validators();
+    if len < places {
+        tally.reserve_validators(places - len)
+    } else {
+        Ok(())
+    }
+}
+
+/// Makes room for so many validators in all.
+pub(crate) fn grow_validators(
+    inputs: &mut Inputs,
+    tally: &mut Tally,
+    places: u64,
+) -> Result<(), NoMemory>
+    ensures inputs { inputs.new ≡ record inputs.old { message_room = inputs.new.message_room; changed_room = inputs.new.changed_room } }
+    ensures tally { tally.new ≡ record tally.old { validator_room = tally.new.validator_room } }
+    ensures tally_more { tally.old.validator_room ≤ tally.new.validator_room }
+    ensures messages_more { inputs.old.message_room ≤ inputs.new.message_room }
+    ensures changed_more { inputs.old.changed_room ≤ inputs.new.changed_room }
+    ensures message_room { OnOk result (places ≤ inputs.new.message_room) }
+    ensures changed_room { OnOk result (places ≤ inputs.new.changed_room) }
+    ensures tally_room { OnOk result (places ≤ tally.new.validator_room) }
+    ensures few { OnOk result (places ≤ 2 ^ 40) }
+{
+    if places > VALIDATOR_LIMIT {
+        return Err(NoMemory);
+    }
+    inputs.reserve_validators(places as usize)?;
+    grow_tally(tally, places as usize)
+}
+
+/// Makes room for the vote of a validator, where its isn't spare.
+pub(crate) fn room_for_vote(
+    inputs: &mut Inputs,
+    tally: &mut Tally,
+    validator: u64,
+) -> Result<(), NoMemory>
+    requires tally { inputs.old.array.spare_validators ≤ tally.old.validator_room }
+    ensures inputs { inputs.new ≡ record inputs.old { message_room = inputs.new.message_room; changed_room = inputs.new.changed_room } }
+    ensures tally { tally.new ≡ record tally.old { validator_room = tally.new.validator_room } }
+    ensures tally_more { tally.old.validator_room ≤ tally.new.validator_room }
+    ensures message_room { OnOk result (validator < inputs.new.message_room) }
+    ensures changed_room { OnOk result (validator < inputs.new.changed_room) }
+    ensures tally_room { OnOk result (validator < tally.new.validator_room) }
+    ensures few { OnOk result (validator < 2 ^ 40) }
+    ensures spare { validator < inputs.old.array.spare_validators → IsOk result }
+{
+    if validator < inputs.spare_validators() {
+        return Ok(());
+    }
+    if validator >= VALIDATOR_LIMIT {
+        return Err(NoMemory);
+    }
+    grow_validators(inputs, tally, validator + 1)
+}

@@ -1,0 +1,241 @@
+//! One pass from the last node to the first makes all weights and the head.
+//!
+//! What is counted at the nodes comes from the tally. Each node gives its weight to its parent and offers itself as the
+//! parent's best child, if it is viable; the head from it on is that from its own best child on.
+
+ghost use Rattle.std.specs.Prelude.{◌≡◌, ℕ, suc, ◌+◌, ◌*◌, ◌<◌, ◌≤◌, ◌^◌, false, true, Some, None, is_some, IfSome, length, vec_capacity, slice_get, slice_set, if◌then◌else◌};
+ghost use Rattle.block_array.specs.PlainArray.{root_at};
+ghost use Rattle.block_array.specs.FilterBlockTree.{agrees};
+ghost use Rattle.block_array.specs.GetHead.{is_greater_root, goes_before};
+ghost use Rattle.block_array.specs.GetLatestAttestingBalance.{get_latest_attesting_balance};
+ghost use Rattle.beacon_types.specs.Equality.{same_checkpoint};
+ghost use Rattle.block_array.specs.inside.Counts.{own_at};
+ghost use Rattle.block_array.specs.inside.Ranks.{rank_at, best_child, better_child, IsHeadFrom, IsCounted, IsRanked, IsMade, IsWeighed, AreFresh, CanGive, given};
+
+use crate::inputs::Inputs;
+use crate::node::Node;
+use crate::rank::{Rank, rank_at};
+use crate::tally::Tally;
+use bc_words::Steps;
+use beacon_types::Checkpoint;
+use hash_tree::Root;
+use std::sync::ledger::Ledger;
+
+/// Makes of a node what it is before its children are looked at. One visit.
+#[tactic(auto, using(crate::proofs::Ranks::ranking))]
+fn begin_one<L: Ledger>(tally: &Tally, ranks: &mut Vec<Rank>, number: usize, steps: &mut Steps<L>)
+    requires inside { number < length ranks.old.items }
+    requires node { number < tally.now.nodes }
+    requires few { number < 2 ^ 32 }
+    ensures set { ranks.new.items ≡ slice_set ranks.old.items number (record { weight = own_at tally.now number; has_child = false; child = None; descendant = 0 }) }
+    ensures room { vec_capacity ranks.new ≡ vec_capacity ranks.old }
+    ensures steps { steps.new ≡ steps.old + 1 }
+{
+    steps.tick();
+    ranks[number] = Rank {
+        weight: tally.own(number),
+        has_child: false,
+        child: None,
+        descendant: 0,
+    };
+}
+
+/// Makes of each node what it is before its children are looked at. One visit of each.
+#[tactic(auto, using(crate::proofs::Ranks::beginning))]
+fn begin<L: Ledger>(tally: &Tally, ranks: &mut Vec<Rank>, steps: &mut Steps<L>)
+    requires nodes { length ranks.old.items ≡ tally.now.nodes }
+    requires few { length ranks.old.items < 2 ^ 32 }
+    ensures length_is { length ranks.new.items ≡ tally.now.nodes }
+    ensures fresh { AreFresh tally.now ranks.new.items (length ranks.new.items) }
+    ensures room { vec_capacity ranks.new ≡ vec_capacity ranks.old }
+    ensures steps { steps.new ≡ steps.old + length ranks.old.items }
+{
+    for number in 0..ranks.len() {
+        begin_one(tally, ranks, number, steps);
+    }
+}
+
+/// The node at a number.
+#[tactic(auto, using(crate::proofs::Items::getting))]
+fn node_at(nodes: &[Node], number: usize) -> Node
+    requires { number < length nodes.now }
+    ensures { slice_get nodes.now number ≡ Some result }
+{
+    nodes[number]
+}
+
+/// The root of a node.
+#[tactic(auto, unfolding(crate::specs::PlainArray::root_at), using(crate::proofs::Items::getting))]
+fn root_of(nodes: &[Node], number: usize) -> Root
+    requires { number < length nodes.now }
+    ensures { result ≡ root_at nodes.now number }
+{
+    nodes[number].root
+}
+
+/// Whether a root is greater than another one, byte by byte from the first.
+#[tactic(auto, unfolding(crate::specs::GetHead::is_greater_root))]
+fn is_greater_root(a: Root, b: Root) -> bool
+    ensures { result ≡ is_greater_root a b }
+{
+    a.cmp(&b).is_gt()
+}
+
+/// Whether a node goes before another one: it weighs more, or as much and has the greater root.
+#[tactic(auto, unfolding(crate::specs::GetHead::goes_before, crate::specs::inside::Ranks::IsWeighed))]
+fn goes_before(inputs: &Inputs, ranks: &[Rank], a: usize, b: usize) -> bool
+    requires ranks { length ranks.now ≡ length inputs.now.array.nodes }
+    requires a_in { a < length ranks.now }
+    requires b_in { b < length ranks.now }
+    requires a_weighed { IsWeighed inputs.now.array ranks.now a }
+    requires b_weighed { IsWeighed inputs.now.array ranks.now b }
+    ensures { result ≡ goes_before inputs.now.array a b }
+{
+    let weight = rank_at(ranks, a).weight;
+    let other = rank_at(ranks, b).weight;
+    let nodes = inputs.nodes();
+    other < weight || (other == weight && is_greater_root(root_of(nodes, a), root_of(nodes, b)))
+}
+
+/// The better one of a child and the best so far, if there is one.
+#[tactic(auto, unfolding(crate::specs::inside::Ranks::better_child, crate::specs::inside::Ranks::better))]
+fn better_child(inputs: &Inputs, ranks: &[Rank], number: u32, best: Option<u32>) -> u32
+    requires ranks { length ranks.now ≡ length inputs.now.array.nodes }
+    requires inside { number < length ranks.now }
+    requires weighed { IsWeighed inputs.now.array ranks.now number }
+    requires best_in { IfSome best (λ b. b < length ranks.now) }
+    requires best_weighed { IfSome best (λ b. IsWeighed inputs.now.array ranks.now b) }
+    ensures { result ≡ better_child inputs.now.array number best }
+{
+    match best {
+        Some(other) => {
+            if goes_before(inputs, ranks, other as usize, number as usize) {
+                other
+            } else {
+                number
+            }
+        }
+        None => number,
+    }
+}
+
+/// Whether the two are equal.
+fn same_checkpoint(a: &Checkpoint, b: &Checkpoint) -> bool
+    ensures { result ≡ same_checkpoint a.now b.now }
+{
+    a.epoch == b.epoch && a.root == b.root
+}
+
+/// Whether the state behind a node agrees on the justified and on the finalized checkpoint.
+#[tactic(auto, unfolding(crate::specs::FilterBlockTree::agrees))]
+fn agrees(inputs: &Inputs, node: &Node) -> bool
+    ensures { result ≡ agrees inputs.now.array node.now }
+{
+    let justified = inputs.justified();
+    let finalized = inputs.finalized();
+    (justified.epoch == 0 || same_checkpoint(&node.facts.justified, &justified))
+        && (finalized.epoch == 0 || same_checkpoint(&node.facts.finalized, &finalized))
+}
+
+/// Whether a node is viable: where it has children, a child is; and else its own state agrees.
+fn is_viable(inputs: &Inputs, node: &Node, rank: Rank) -> bool
+    ensures { result ≡ (if rank.has_child then is_some rank.child else agrees inputs.now.array node.now) }
+{
+    if rank.has_child {
+        rank.child.is_some()
+    } else {
+        agrees(inputs, node)
+    }
+}
+
+/// The head from a node on, where those behind it are done.
+#[tactic(auto, using(crate::proofs::Ranks::heading))]
+fn head_from(inputs: &Inputs, tally: &Tally, ranks: &[Rank], number: usize) -> u32
+    requires inside { number < length inputs.now.array.nodes }
+    requires ranked { IsRanked inputs.now.array tally.now ranks.now (suc number) }
+    ensures { IsHeadFrom inputs.now.array number result }
+{
+    let _nodes = inputs.nodes();
+    match rank_at(ranks, number).child {
+        Some(child) => rank_at(ranks, child as usize).descendant,
+        None => number as u32,
+    }
+}
+
+/// Gives a node's weight to its parent, and offers it as the parent's best child where it is viable.
+#[tactic(auto, unfolding(crate::specs::inside::Ranks::given))]
+fn give(inputs: &Inputs, ranks: &mut Vec<Rank>, number: u32, parent: u32, viable: bool)
+    requires { CanGive inputs.now.array ranks.old.items number parent }
+    ensures room { vec_capacity ranks.new ≡ vec_capacity ranks.old }
+    ensures gave { ranks.new.items ≡ slice_set ranks.old.items parent (given inputs.now.array ranks.old.items number parent viable) }
+{
+    let mine = rank_at(ranks, number as usize);
+    let theirs = rank_at(ranks, parent as usize);
+    let child = if viable {
+        Some(better_child(inputs, ranks, number, theirs.child))
+    } else {
+        theirs.child
+    };
+    ranks[parent as usize] = Rank {
+        weight: theirs.weight + mine.weight,
+        has_child: true,
+        child,
+        descendant: theirs.descendant,
+    };
+}
+
+/// Makes a node, where those behind it are done. One visit.
+fn settle_one<L: Ledger>(
+    inputs: &Inputs,
+    tally: &Tally,
+    ranks: &mut Vec<Rank>,
+    number: usize,
+    steps: &mut Steps<L>,
+)
+    requires inside { number < length inputs.now.array.nodes }
+    requires counted { IsCounted inputs.now.array tally.now }
+    requires ranked { IsRanked inputs.now.array tally.now ranks.old.items (suc number) }
+    ensures ranked { IsRanked inputs.now.array tally.now ranks.new.items number }
+    ensures room { vec_capacity ranks.new ≡ vec_capacity ranks.old }
+    ensures steps { steps.new ≡ steps.old + 1 }
+{
+    steps.tick();
+    tally.bounds();
+    let node = node_at(inputs.nodes(), number);
+    let mine = rank_at(ranks, number);
+    let viable = is_viable(inputs, &node, mine);
+    let descendant = head_from(inputs, tally, ranks, number);
+    ranks[number] = Rank {
+        weight: mine.weight,
+        has_child: mine.has_child,
+        child: mine.child,
+        descendant,
+    };
+    match node.parent {
+        Some(parent) => give(inputs, ranks, number as u32, parent, viable),
+        None => {}
+    }
+}
+
+/// Makes all weights and the head, where all that is due is counted. Two visits of each node.
+#[tactic(auto, using(crate::proofs::Ranks::settling))]
+pub(crate) fn settle<L: Ledger>(
+    inputs: &Inputs,
+    tally: &Tally,
+    ranks: &mut Vec<Rank>,
+    steps: &mut Steps<L>,
+)
+    requires length_is { length ranks.old.items ≡ length inputs.now.array.nodes }
+    requires counted { IsCounted inputs.now.array tally.now }
+    ensures length_is { length ranks.new.items ≡ length inputs.now.array.nodes }
+    ensures made { IsMade inputs.now.array ranks.new.items }
+    ensures room { vec_capacity ranks.new ≡ vec_capacity ranks.old }
+    ensures steps { steps.new ≡ steps.old + 2 * length inputs.now.array.nodes }
+{
+    let count = inputs.nodes().len();
+    tally.bounds();
+    begin(tally, ranks, steps);
+    for done in 0..count {
+        settle_one(inputs, tally, ranks, count - 1 - done, steps);
+    }
+}
