@@ -1,6 +1,7 @@
 //! Rows of a chain of 21 nodes with three votes, and of forks.
 
-ghost use Rattle.std.specs.Prelude.{◌≡◌, ◌<◌};
+ghost use Rattle.std.specs.Prelude.{◌≡◌, ◌+◌, ◌<◌, ◌≤◌, ◌^◌, false, length, is_some};
+ghost use Rattle.std.specs.List.{count_by};
 
 use super::BlockArray;
 use crate::facts::Facts;
@@ -43,6 +44,36 @@ fn vote(array: &mut BlockArray, validator: u64, node: u32, epoch: u64) -> Result
         return Err(NoMemory);
     }
     array.vote(validator, node, epoch)
+}
+
+/// Three votes in a chain of 21 nodes: the `apply` behind them takes at most 45 steps.
+#[tactic(auto, unfolding(crate::specs::Work::steps_of, crate::specs::Work::deltas_of), using(crate::proofs::Votes::voting))]
+fn steps_of_three_votes<L: Ledger>(
+    array: &mut BlockArray,
+    steps: &mut Steps<L>,
+) -> Result<(), NoMemory>
+    requires nodes { length array.old.nodes ≡ 21 }
+    requires changed { length array.old.changed_validators ≡ 0 }
+    requires balances { array.old.balances_set ≡ false }
+    ensures { steps.new ≤ steps.old + 45 }
+{
+    array.vote(2, 20, 1)?;
+    array.vote(5, 10, 1)?;
+    array.vote(7, 3, 1)?;
+    array.apply(steps);
+    Ok(())
+}
+
+/// Balances where at most 64 validators of a chain of 21 nodes have a message: the `apply` behind them takes at most 106 steps.
+#[tactic(auto, unfolding(crate::specs::Work::steps_of, crate::specs::Work::deltas_of))]
+fn steps_of_balances<L: Ledger>(array: &mut BlockArray, list: Vec<u64>, steps: &mut Steps<L>)
+    requires nodes { length array.old.nodes ≡ 21 }
+    requires voters { count_by is_some array.old.latest_messages ≤ 64 }
+    requires few { length list.items ≤ 2 ^ 40 }
+    ensures { steps.new ≤ steps.old + 106 }
+{
+    array.set_balances(list, 64, 2048);
+    array.apply(steps);
 }
 
 /// The head, and the weight of a node that is there.
