@@ -87,8 +87,8 @@ fn set_items<T: Leaf + Drop, L: Ledger>(
     list.set_many(changes, &mut steps)
 }
 
-/// Makes a list of these items. Where there are as many as before and at most one in eight differs, the rest of the tree is
-/// kept, and else it is built anew.
+/// Makes a list of these items. Where there are as many as before, the nodes over those that are the same are kept, and else
+/// the tree is built anew.
 fn replace_items<T: InRange>(
     list: &mut SharedList<T>,
     items: Vec<T>,
@@ -99,9 +99,7 @@ fn replace_items<T: InRange>(
 {
     if items.len() as u64 == list.len() {
         let changes = differences(alloc, list, &items)?;
-        if changes.len() <= items.len() / 8 {
-            return set_items::<T, Brand>(list, changes, Blank::new(1));
-        }
+        return set_items::<T, Brand>(list, changes, Blank::new(1));
     }
     let limit = list.limit();
     *list = SharedList::from_vec(items, limit)?;
@@ -167,8 +165,8 @@ impl<T: InRange> Values<T> {
         pushed
     }
 
-    /// Writes other values in the place of all of them. Where few differ, only the paths to them are made anew. Where memory
-    /// is refused, they are as before.
+    /// Writes other values in the place of all of them. Where there are as many, only the paths to those that differ are made
+    /// anew. Where memory is refused, they are as before.
     pub(crate) fn replace(&mut self, values: Vec<T>) -> Result<(), NoMemory>
         requires { length values.items ≤ self.old.limit }
         ensures { Becomes result self.old self.new (record self.old { items = values.items }) }
