@@ -92,25 +92,23 @@ impl State {
             current_justified_checkpoint,
             finalized_checkpoint,
         } = plain;
-        let (block_roots, state_roots, randao_mixes) = vectors_built(
-            &preset,
-            block_roots,
-            state_roots,
-            randao_mixes,
-        )?;
-        let (historical_roots, eth1_data_votes) = lists_built(
-            &preset,
-            historical_roots,
-            eth1_data_votes,
-        )?;
-        let (validators, balances, slashings) = registry_built(
-            &preset, validators, balances, slashings,
-        )?;
-        let (previous_epoch_attestations, current_epoch_attestations) = pending_built(
+        let vectors = vectors_built(&preset, block_roots, state_roots, randao_mixes);
+        let lists = lists_built(&preset, historical_roots, eth1_data_votes);
+        let registry = registry_built(&preset, validators, balances, slashings);
+        let pending = pending_built(
             &preset,
             previous_epoch_attestations,
             current_epoch_attestations,
-        )?;
+        );
+        let (Ok(vectors), Ok(lists), Ok(registry), Ok(pending)) = (
+            vectors, lists, registry, pending,
+        ) else {
+            return Err(NoMemory);
+        };
+        let (block_roots, state_roots, randao_mixes) = vectors;
+        let (historical_roots, eth1_data_votes) = lists;
+        let (validators, balances, slashings) = registry;
+        let (previous_epoch_attestations, current_epoch_attestations) = pending;
         Ok(State {
             preset,
             genesis_time,
@@ -141,10 +139,15 @@ impl State {
     pub fn share(&self) -> Result<State, NoMemory>
         ensures { IfOk result (λ state. state ≡ self.now) }
     {
-        let (block_roots, state_roots, historical_roots, randao_mixes) = self.share_roots()?;
-        let (validators, balances, slashings) = self.share_registry()?;
-        let (eth1_data_votes, previous_epoch_attestations, current_epoch_attestations) =
-            self.share_pending()?;
+        let roots = self.share_roots();
+        let registry = self.share_registry();
+        let pending = self.share_pending();
+        let (Ok(roots), Ok(registry), Ok(pending)) = (roots, registry, pending) else {
+            return Err(NoMemory);
+        };
+        let (block_roots, state_roots, historical_roots, randao_mixes) = roots;
+        let (validators, balances, slashings) = registry;
+        let (eth1_data_votes, previous_epoch_attestations, current_epoch_attestations) = pending;
         let genesis_validators_root = self.genesis_validators_root;
         let justification_bits = self.justification_bits;
         Ok(State {
