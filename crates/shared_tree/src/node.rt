@@ -89,6 +89,14 @@ impl<T: Leaf + Drop> Node<T> {
         ensures { IfOk result (λ node. node ≡ (0, item ∷ [])) }
     {
         let root = item.root();
+        Node::known(item, root, alloc)
+    }
+
+    /// A leaf that is an item, where its root is known.
+    pub(crate) fn known(item: T, root: Root, alloc: Global) -> Result<Node<T>, NoMemory>
+        requires { root ≡ T.root_of item }
+        ensures { IfOk result (λ node. node ≡ (0, item ∷ [])) }
+    {
         let leaf = Rc::new(alloc, Item { root, item })?;
         Ok(Node {
             kind: Kind::Item(leaf),

@@ -47,7 +47,7 @@ impl<T: Leaf + Drop> Model for Tree<T> {
 }
 
 impl<T: Leaf + Drop> Tree<T> {
-    /// The tree of this depth over the items.
+    /// The tree of this depth over the items, whose roots are taken side by side.
     pub(crate) fn of(items: Vec<T>, depth: u32) -> Result<Tree<T>, NoMemory>
         requires low { depth ≤ 40 }
         requires fits { length items.items ≤ 2 ^ depth }
@@ -57,7 +57,9 @@ impl<T: Leaf + Drop> Tree<T> {
         let alloc = *items.allocator();
         let len = items.len() as u64;
         let low = depth_over(len, depth);
-        let node = build(&mut items, 0, low, alloc)?;
+        let mut roots = vec![in alloc; [0u8; 32]; items.len()]?;
+        T::write_roots(&items, &mut roots);
+        let node = build(&mut items, &mut roots, 0, low, alloc)?;
         let top = lift(node.root(), low, depth);
         Ok(Tree {
             node,
