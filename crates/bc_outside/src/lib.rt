@@ -13,7 +13,8 @@ mod names;
 mod patience;
 mod seen;
 mod shelf;
-mod sink;mod trouble;
+mod sink;
+mod trouble;
 mod whole;
 
 pub use disk::{DiskShelf, StdSink};

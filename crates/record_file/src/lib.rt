@@ -12,6 +12,7 @@ mod frames;
 mod law;
 mod place;
 mod source;
+
 pub use event::{Event, Payload};
 pub use fault::{FrameStop, RecordFault};
 pub use frames::Frames;
