@@ -1,13 +1,14 @@
 //! Measures what has to be fast, each against the hashes that it can't do without or another part of the run, in one run.
 //!
-//! The word behind the program's name says what to measure: `pairs`, `shuffle`, `state`, `registry`, `slot`, `block`,
-//! `attestation`, `operations`, `epoch` or `record`. Without a word nothing is measured.
+//! The word behind the program's name says what to measure: `pairs`, `shuffle`, `state`, `registry`, `block`,
+//! `attestation`, `operations`, `epoch`, `record` or `kept`. Without a word nothing is measured.
 #![tactic(auto)]
 
 mod attestation;
 mod block;
 mod chain;
 mod epoch;
+mod kept;
 mod operations;
 mod pairs;
 mod ratio;
@@ -23,7 +24,7 @@ use std::time::CpuClock;
 
 /// What is printed where no word names a measurement.
 const USAGE: &str =
-    "name what to measure: pairs, shuffle, state, registry, slot, block, attestation, operations, epoch or record";
+    "name what to measure: pairs, shuffle, state, registry, block, attestation, operations, epoch, record or kept";
 
 /// Measures what a word names.
 fn measure(rt: &(impl AllocGlobal + Print + CpuClock + Files), word: &str) -> Result<()> {
@@ -32,7 +33,6 @@ fn measure(rt: &(impl AllocGlobal + Print + CpuClock + Files), word: &str) -> Re
         "shuffle" => shuffle::measure(rt),
         "state" => state::measure(rt, 16_384),
         "registry" => state::measure(rt, 262_144),
-        "slot" => state::measure_slot(rt),
         _ => measure_steps(rt, word),
     }
 }
@@ -45,6 +45,7 @@ fn measure_steps(rt: &(impl AllocGlobal + Print + CpuClock + Files), word: &str)
         "operations" => operations::measure(rt),
         "epoch" => epoch::measure(rt),
         "record" => record::measure(rt),
+        "kept" => kept::measure(rt),
         _ => Ok(println!(rt; "{USAGE}")?),
     }
 }
