@@ -1,4 +1,4 @@
-//! The root of the default body, and operations copied and compared. Whole blocks, read and damaged, are in block_vectors.
+//! The root of the default body, and operations copied and compared. Whole blocks, read and damaged, are in call_vectors.
 
 use beacon_body::{Attestation, AttesterSlashing, BeaconBlock, SignedBeaconBlock, empty_body_root};
 use hash_tree::{Leaf, Root};

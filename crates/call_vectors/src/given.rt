@@ -1,0 +1,74 @@
+//! What a case holds.
+
+use anyhow::{Context, Result};
+use bc_preset::Config;
+use std::alloc::Global;
+use std::rt::Files;
+use std::{fs, io};
+
+/// A recorded call and what it takes.
+#[derive(Drop)]
+pub struct Given {
+    /// The call's name.
+    pub name: String,
+    /// The word behind it, or none.
+    pub word: String,
+    state: Option<Vec<u8>>,
+    input: Option<Vec<u8>>,
+    config: Option<Vec<u8>>,
+}
+
+/// A file of a case. None where there is no such file.
+fn read_file<R: Files + AllocGlobal>(rt: &R, case: &str, name: &str) -> Result<Option<Vec<u8>>> {
+    let path = format!(in rt.alloc(); "{case}/{name}")?;
+    match fs::read(rt, path.as_str()) {
+        Ok(bytes) => Ok(Some(bytes)),
+        Err(error) if error.kind() == io::ErrorKind::NotFound => Ok(None),
+        Err(error) => Err(error.into()),
+    }
+}
+
+/// The name and the word behind it that a line holds.
+fn name_and_word(alloc: Global, line: &str) -> Result<(String, String)> {
+    let (name, word) = line.split_once(' ').unwrap_or((line, ""));
+    Ok((
+        String::from_str(alloc, name)?,
+        String::from_str(alloc, word)?,
+    ))
+}
+
+impl Given {
+    /// Reads the case in this folder.
+    pub fn load<R: Files + AllocGlobal>(rt: &R, case: &str) -> Result<Given> {
+        let alloc = rt.alloc();
+        let line = fs::read_to_string(rt, format!(in alloc; "{case}/call")?.as_str())?;
+        let (name, word) = name_and_word(alloc, line.trim())?;
+        Ok(Given {
+            name,
+            word,
+            state: read_file(rt, case, "pre.ssz")?,
+            input: read_file(rt, case, "input.ssz")?,
+            config: read_file(rt, case, "config.yaml")?,
+        })
+    }
+
+    /// The number behind the call's name.
+    pub fn number(&self) -> Result<u64> {
+        Ok(self.word.as_str().parse::<u64>()?)
+    }
+
+    /// The bytes of the state before the call.
+    pub fn state(&self) -> Result<&Vec<u8>> {
+        self.state.as_ref().context("no state")
+    }
+
+    /// The bytes of what the call takes beside the state.
+    pub fn input(&self) -> Result<&Vec<u8>> {
+        self.input.as_ref().context("no input")
+    }
+
+    /// The configuration.
+    pub fn config(&self) -> Result<Config> {
+        Ok(Config::read(self.config.as_ref().context("no configuration")?)?)
+    }
+}

@@ -1,0 +1,18 @@
+//! The registry at the end of an epoch.
+
+use crate::given::Given;
+use anyhow::Result;
+use bc_words::Stop;
+use beacon_state::State;
+use registry_queue::process_registry_updates;
+use std::alloc::Global;
+
+/// Lets in those that are due, and ejects those of too little balance.
+pub fn process_registry(
+    alloc: Global,
+    state: &mut State,
+    given: &Given,
+) -> Result<Result<(), Stop>> {
+    let config = given.config()?;
+    Ok(process_registry_updates::process_registry(alloc, state, &config))
+}

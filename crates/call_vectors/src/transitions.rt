@@ -1,0 +1,60 @@
+//! Slots and whole blocks. Many go over ends of epochs.
+
+use crate::answers::{done_line, stop_line};
+use crate::given::Given;
+use anyhow::{Result, bail};
+use bc_words::Stop;
+use beacon_body::SignedBeaconBlock;
+use beacon_state::State;
+use ssz_codec::Ssz;
+use std::alloc::Global;
+use transition::process_slots::process_slots;
+use transition::state_transition::state_transition;
+use transition::{Step, is_sound};
+
+/// The line of a state on which epoch processing was entered.
+fn entered_line(alloc: Global, state: &State) -> Result<String> {
+    let slot = state.slot();
+    let root = hex::encode(alloc, &state.root())?;
+    Ok(format!(in alloc; "entered {slot} 0x{root}")?)
+}
+
+/// The lines of a step: the state's root, and then each state that was entered.
+fn step_lines(alloc: Global, step: &Step) -> Result<String> {
+    let mut lines = done_line(alloc, &step.state)?;
+    for index in 0..step.entered.len() {
+        if let Some(state) = step.entered.get(index) {
+            let line = entered_line(alloc, state)?;
+            lines = format!(in alloc; "{lines}\n{line}")?;
+        }
+    }
+    Ok(lines)
+}
+
+/// The lines of a step or of its stop.
+fn lines_of(alloc: Global, outcome: &Result<Step, Stop>) -> Result<String> {
+    match outcome {
+        Ok(step) => step_lines(alloc, step),
+        Err(stop) => stop_line(alloc, *stop),
+    }
+}
+
+/// The lines of the step through slots, up to that of the number.
+pub fn slots_lines(alloc: Global, state: &State, given: &Given) -> Result<String> {
+    let slot = given.number()?;
+    let config = given.config()?;
+    match is_sound(alloc, state) {
+        Ok(true) => lines_of(alloc, &process_slots(alloc, state, slot, &config)),
+        _ => bail!("the state isn't sound"),
+    }
+}
+
+/// Reads a signed block. The lines of the step by it.
+pub fn block_lines(alloc: Global, state: &State, given: &Given) -> Result<String> {
+    let block = SignedBeaconBlock::read(alloc, given.input()?)?;
+    let config = given.config()?;
+    match is_sound(alloc, state) {
+        Ok(true) => lines_of(alloc, &state_transition(alloc, state, &block, &config)),
+        _ => bail!("the state isn't sound"),
+    }
+}
