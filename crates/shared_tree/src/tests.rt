@@ -1,6 +1,7 @@
 //! Lists against the roots of their items.
 
-ghost use Rattle.std.specs.Prelude.{◌≡◌, ◌<◌};
+ghost use Rattle.std.specs.Prelude.{◌≡◌, ◌<◌, length};
+ghost use Rattle.shared_tree.specs.Lists.{AreChanges};
 
 use crate::{PackedList, SharedList, set_after_share};
 use bc_words::{NoMemory, PushStop, Steps};
@@ -10,20 +11,17 @@ use std::marker::Brand;
 use std::sync::ledger::{Blank, Ledger};
 use std::test::Fail;
 
-/// What stands after three pushes to a list of at most two: the roots after each, and whether the third is full.
-fn three_pushes<L: Ledger>(alloc: Global, blank: Blank) -> Result<([Root; 4], bool), PushStop>
-    requires name { blank.name ≡ L.name }
-    requires parts { blank.parts ≡ L.parts }
-    requires some { 0 < blank.parts }
-{
-    let mut steps = Steps::<L>::new(blank);
-    let mut list = SharedList::<u64>::from_vec(Vec::new(alloc), 2)?;
+/// What stands after three pushes to an empty list of at most two: the roots after each, and whether the third is full.
+fn push_three<L: Ledger>(
+    list: &mut SharedList<u64>,
+    steps: &mut Steps<L>,
+) -> Result<([Root; 4], bool), PushStop> {
     let none = list.root();
-    list.push(7, &mut steps)?;
+    list.push(7, steps)?;
     let one = list.root();
-    list.push(8, &mut steps)?;
+    list.push(8, steps)?;
     let two = list.root();
-    let third = list.push(9, &mut steps);
+    let third = list.push(9, steps);
     let full = match third {
         Err(PushStop::Full) => true,
         _ => false,
@@ -31,27 +29,44 @@ fn three_pushes<L: Ledger>(alloc: Global, blank: Blank) -> Result<([Root; 4], bo
     Ok(([none, one, two, list.root()], full))
 }
 
-/// The roots of a list of three and of the list that it shares with, after one of its items was set, and that item in both.
-fn shared_and_set<L: Ledger>(
-    alloc: Global,
-    blank: Blank,
-) -> Result<(Root, Root, Option<u64>, Option<u64>), PushStop>
+fn three_pushes<L: Ledger>(alloc: Global, blank: Blank) -> Result<([Root; 4], bool), PushStop>
     requires name { blank.name ≡ L.name }
     requires parts { blank.parts ≡ L.parts }
     requires some { 0 < blank.parts }
 {
+    let mut list = SharedList::<u64>::from_vec(Vec::new(alloc), 2)?;
     let mut steps = Steps::<L>::new(blank);
-    let mut list = SharedList::<u64>::from_vec(vec![in alloc; 1, 2, 3]?, 1 << 40)?;
-    if list.len() != 3 {
-        return Err(PushStop::Full);
-    }
-    let (other, root) = set_after_share(&mut list, 1, 5, &mut steps)?;
+    push_three(&mut list, &mut steps)
+}
+
+/// The roots of a list of three and of the list that it shares with, after one of its items was set, and that item in both.
+fn set_shared<L: Ledger>(
+    list: &mut SharedList<u64>,
+    steps: &mut Steps<L>,
+) -> Result<(Root, Root, Option<u64>, Option<u64>), NoMemory>
+    requires { length list.old.items ≡ 3 }
+{
+    let (other, root) = set_after_share(list, 1, 5, steps)?;
     Ok((
         list.root(),
         root,
         list.get(1).copied(),
         other.get(1).copied(),
     ))
+}
+
+fn shared_and_set<L: Ledger>(
+    alloc: Global,
+    blank: Blank,
+) -> Result<(Root, Root, Option<u64>, Option<u64>), NoMemory>
+    requires name { blank.name ≡ L.name }
+    requires parts { blank.parts ≡ L.parts }
+    requires some { 0 < blank.parts }
+{
+    let items = vec![in alloc; 1, 2, 3]?;
+    let mut list = SharedList::<u64>::from_vec(items, 1 << 40)?;
+    let mut steps = Steps::<L>::new(blank);
+    set_shared(&mut list, &mut steps)
 }
 
 #[test]
@@ -76,36 +91,59 @@ fn a_shared_list_stays(rt: HostRuntime) -> Result<(), Fail> {
     Ok(())
 }
 
+/// The roots of an empty list, and its length.
+fn nothing(alloc: Global) -> Result<(Root, u64), NoMemory> {
+    let none = SharedList::<u64>::from_vec(Vec::new(alloc), 1 << 40)?;
+    Ok((none.root(), none.len()))
+}
+
+/// The top and the limit of a list of five, and its items at places 4 and 5.
+fn five(alloc: Global) -> Result<(Root, u64, Option<u64>, Option<u64>), NoMemory> {
+    let items = vec![in alloc; 1, 2, 3, 4, 5]?;
+    let list = SharedList::<u64>::from_vec(items, 11)?;
+    Ok((
+        list.top(),
+        list.limit(),
+        list.get(4).copied(),
+        list.get(5).copied(),
+    ))
+}
+
 #[test]
 fn lists_of_any_length(rt: HostRuntime) -> Result<(), Fail> {
-    let alloc = rt.alloc();
-    let list = SharedList::<u64>::from_vec(vec![in alloc; 1, 2, 3, 4, 5]?, 11)?;
-    assert_eq!(rt; list.top(), merkle_leaves(&[1u64, 2, 3, 4, 5], 4));
-    assert_eq!(rt; list.limit(), 11);
-    assert_eq!(rt; list.get(4), Some(&5));
-    assert_eq!(rt; list.get(5), None);
-    let whole = SharedList::<u64>::from_vec(vec![in alloc; 1, 2]?, 2)?;
-    assert_eq!(rt;
-        whole.root(),
-        mix_in_length(&merkle_leaves(&[1u64, 2], 1), 2)
-    );
-    assert_eq!(rt; whole.share()?.root(), whole.root());
-    let none = SharedList::<u64>::from_vec(Vec::new(alloc), 1 << 40)?;
-    assert_eq!(rt; none.root(), mix_in_length(&zero_hash(40), 0));
-    assert_eq!(rt; none.len(), 0);
+    let (root, len) = nothing(rt.alloc())?;
+    assert_eq!(rt; root, mix_in_length(&zero_hash(40), 0));
+    assert_eq!(rt; len, 0);
+    let (top, limit, last, behind) = five(rt.alloc())?;
+    assert_eq!(rt; top, merkle_leaves(&[1u64, 2, 3, 4, 5], 4));
+    assert_eq!(rt; limit, 11);
+    assert_eq!(rt; last, Some(5));
+    assert_eq!(rt; behind, None);
     Ok(())
 }
 
 /// The root of a list of five after three of its items were set at once.
+fn set_three<L: Ledger>(
+    list: &mut SharedList<u64>,
+    changes: Vec<(u64, u64)>,
+    steps: &mut Steps<L>,
+) -> Result<Root, NoMemory>
+    requires { AreChanges 0 (length list.old.items) changes.items }
+{
+    list.set_many(changes, steps)?;
+    Ok(list.root())
+}
+
 fn many_set<L: Ledger>(alloc: Global, blank: Blank) -> Result<Root, NoMemory>
     requires name { blank.name ≡ L.name }
     requires parts { blank.parts ≡ L.parts }
     requires some { 0 < blank.parts }
 {
+    let changes = vec![in alloc; (0, 6), (3, 7), (4, 8)]?;
+    let items = vec![in alloc; 1, 2, 3, 4, 5]?;
+    let mut list = SharedList::<u64>::from_vec(items, 1 << 40)?;
     let mut steps = Steps::<L>::new(blank);
-    let mut list = SharedList::<u64>::from_vec(vec![in alloc; 1, 2, 3, 4, 5]?, 1 << 40)?;
-    list.set_many(vec![in alloc; (0, 6), (3, 7), (4, 8)]?, &mut steps)?;
-    Ok(list.root())
+    set_three(&mut list, changes, &mut steps)
 }
 
 #[test]
@@ -118,56 +156,55 @@ fn many_items_are_set(rt: HostRuntime) -> Result<(), Fail> {
     Ok(())
 }
 
-/// The roots of a list of three numbers, after two were set at once, one set and two pushed; and of the list that it was
-/// shared with at first, with the second number of both.
-fn numbers_changed<L: Ledger>(
-    alloc: Global,
-    blank: Blank,
-) -> Result<([Root; 4], Option<u64>, Option<u64>), PushStop>
-    requires name { blank.name ≡ L.name }
-    requires parts { blank.parts ≡ L.parts }
-    requires some { 0 < blank.parts }
+/// The roots of a list of three numbers, after two were set at once, one set and two pushed, and its second number. One more
+/// is too many.
+fn change_numbers<L: Ledger>(
+    list: &mut PackedList,
+    changes: Vec<(u64, u64)>,
+    steps: &mut Steps<L>,
+) -> Result<([Root; 3], Option<u64>), PushStop>
+    requires three { length list.old.items ≡ 3 }
+    requires changes { AreChanges 0 3 changes.items }
 {
-    let mut steps = Steps::<L>::new(blank);
-    let mut list = PackedList::from_vec(vec![in alloc; 1, 2, 3]?, 5)?;
-    let other = list.share()?;
-    list.set_many(vec![in alloc; (0, 6), (2, 7)]?, &mut steps)?;
+    list.set_many(changes, steps)?;
     let many = list.root();
     if list.len() != 3 {
         return Err(PushStop::NoMemory);
     }
-    list.set(1, u64::MAX, &mut steps)?;
+    list.set(1, u64::MAX, steps)?;
     let set = list.root();
-    list.push(4, &mut steps)?;
-    list.push(5, &mut steps)?;
-    match list.push(8, &mut steps) {
-        Err(PushStop::Full) => {}
-        _ => return Err(PushStop::NoMemory),
+    list.push(4, steps)?;
+    list.push(5, steps)?;
+    match list.push(8, steps) {
+        Err(PushStop::Full) => Ok(([many, set, list.root()], list.get(1))),
+        _ => Err(PushStop::NoMemory),
     }
-    Ok((
-        [many, set, list.root(), other.root()],
-        list.get(1),
-        other.get(1),
-    ))
+}
+
+fn numbers_changed<L: Ledger>(
+    alloc: Global,
+    blank: Blank,
+) -> Result<([Root; 3], Option<u64>), PushStop>
+    requires name { blank.name ≡ L.name }
+    requires parts { blank.parts ≡ L.parts }
+    requires some { 0 < blank.parts }
+{
+    let changes = vec![in alloc; (0, 6), (2, 7)]?;
+    let numbers = vec![in alloc; 1, 2, 3]?;
+    let mut list = PackedList::from_vec(numbers, 5)?;
+    let mut steps = Steps::<L>::new(blank);
+    change_numbers(&mut list, changes, &mut steps)
 }
 
 #[test]
 fn numbers_are_packed(rt: HostRuntime) -> Result<(), Fail> {
-    let alloc = rt.alloc();
-    let ([many, set, pushed, other], there, here) = numbers_changed::<Brand>(alloc, Blank::new(1))?;
+    let ([many, set, pushed], there) = numbers_changed::<Brand>(rt.alloc(), Blank::new(1))?;
     assert_eq!(rt; many, mix_in_length(&merkle_u64(&[6, 2, 7], 1), 3));
     assert_eq!(rt; set, mix_in_length(&merkle_u64(&[6, u64::MAX, 7], 1), 3));
     assert_eq!(rt;
         pushed,
         mix_in_length(&merkle_u64(&[6, u64::MAX, 7, 4, 5], 1), 5)
     );
-    assert_eq!(rt; other, mix_in_length(&merkle_u64(&[1, 2, 3], 1), 3));
     assert_eq!(rt; there, Some(u64::MAX));
-    assert_eq!(rt; here, Some(2));
-    let list = PackedList::from_vec(vec![in alloc; 1, 2, 3, 4, 5]?, 1 << 40)?;
-    assert_eq!(rt; list.top(), merkle_u64(&[1, 2, 3, 4, 5], 38));
-    assert_eq!(rt; list.limit(), 1 << 40);
-    assert_eq!(rt; list.len(), 5);
-    assert_eq!(rt; list.get(5), None);
     Ok(())
 }
