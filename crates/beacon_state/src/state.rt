@@ -23,7 +23,6 @@ use spec_state::PlainState;
 use std::marker::Model;
 
 /// A state of the beacon chain (beacon-chain.md, "BeaconState"), whose lists are within the limits of its preset.
-#[derive(Drop)]
 pub struct State {
     preset: Preset,
     genesis_time: u64,
@@ -47,6 +46,46 @@ pub struct State {
     previous_justified_checkpoint: Checkpoint,
     current_justified_checkpoint: Checkpoint,
     finalized_checkpoint: Checkpoint,
+}
+
+// Written by hand, so that a call that lets a state go is one call, and not one for each of its lists.
+impl Drop for State {
+    fn drop(self) {
+        let State {
+            preset: _,
+            genesis_time: _,
+            genesis_validators_root: _,
+            slot: _,
+            fork: _,
+            latest_block_header: _,
+            block_roots,
+            state_roots,
+            historical_roots,
+            eth1_data: _,
+            eth1_data_votes,
+            eth1_deposit_index: _,
+            validators,
+            balances,
+            randao_mixes,
+            slashings,
+            previous_epoch_attestations,
+            current_epoch_attestations,
+            justification_bits: _,
+            previous_justified_checkpoint: _,
+            current_justified_checkpoint: _,
+            finalized_checkpoint: _,
+        } = self;
+        drop(block_roots);
+        drop(state_roots);
+        drop(historical_roots);
+        drop(eth1_data_votes);
+        drop(validators);
+        drop(balances);
+        drop(randao_mixes);
+        drop(slashings);
+        drop(previous_epoch_attestations);
+        drop(current_epoch_attestations);
+    }
 }
 
 impl Model for State {
