@@ -1,0 +1,5 @@
+pub mod Ancestors
+pub mod Caches
+pub mod Chains
+pub mod Items
+pub mod Keeps

@@ -1,0 +1,36 @@
+-- What is found is the state of the block.
+use Rattle.std.proofs.Common.{◌≡◌, ◌<◌, nat_eq, IfOk, IfSome, Option, length, map, refl, sym, subst, arith}
+use Rattle.std.proofs.lemmas.List.{length-map}
+use Rattle.std.proofs.lemmas.Option.{slice_get_read}
+use Rattle.std.proofs.lemmas.Result.{IfOk-weaker}
+use Rattle.std.specs.Map.{lookup}
+use Rattle.spec_state.specs.declared.plain.PlainState.{PlainState}
+use Rattle.state_keeper.specs.Chain.{Kept, HasState}
+use Rattle.state_keeper.specs.inside.Entries.{IsCache, plain_of}
+use Rattle.state_keeper.proofs.Caches.{promoted_cache, found_has}
+use Rattle.state_keeper.proofs.Chains.{has_state}
+use Rattle.state_keeper.proofs.Keeps.{kept_stands}
+use Rattle.state_keeper.proofs.keeper.Keeper.held.Goals as goal
+
+pub invariant_of-self : goal.invariant_of-self
+invariant_of-self g c = record {
+  some = c.self.invariant.some;
+  each = c.self.invariant.each;
+  cached = subst (λ pairs. IsCache c.self.inside.entries.items pairs) (sym c.recall.ensures.entries) (promoted_cache c.self.inside.entries.items c.self.inside.cache.entries c.args.n c.self.invariant.cached);
+}
+
+pub returns-in_ok-share-in-Some-clause-state : goal.returns-in_ok-share-in-Some-clause-state
+returns-in_ok-share-in-Some-clause-state g c =
+    let within : c.args.n < length (map plain_of c.self.inside.entries.items) = subst (λ (kept : Kept _ _). c.args.n < length kept.blocks) (sym c.self.view_is) c.requires in
+    let less : c.args.n < length c.self.inside.entries.items = omega (arith, length-map c.self.inside.entries.items plain_of) in
+    let there = slice_get_read c.self.inside.entries.items (length c.self.inside.entries.items) c.args.n c.index.result.now refl less c.index.ensures in
+    let stands = kept_stands (g.P.Stepper.can_step c.self.inside.stepper) (g.P.Stepper.plain_step c.self.inside.stepper) c.self.inside.entries.items c.self.invariant.each c.args.n c.index.result.now c.in-Some.state there c.in-Some.is in
+    subst (λ s. HasState c.args.self.now.blocks c.args.n s) (sym c.in_ok-share-in-Some.ensures)
+    (subst (λ (kept : Kept _ _). HasState kept.blocks c.args.n c.in-Some.state) c.self.view_is (has_state c.self.inside.entries.items c.args.n c.in-Some.state stands))
+
+pub returns-in-None-clause-state : goal.returns-in-None-clause-state
+returns-in-None-clause-state g c =
+    subst (λ (kept : Kept _ _). IfOk c.recall.result (λ found. IfSome found (λ state. HasState kept.blocks c.args.n state))) c.self.view_is
+    (IfOk-weaker c.recall.result (λ found. found ≡ lookup (nat_eq c.args.n) c.self.inside.cache.entries) (λ found. IfSome found (λ state. HasState (map plain_of c.self.inside.entries.items) c.args.n state))
+    (λ found is. subst (λ (o : Option PlainState). IfSome o (λ state. HasState (map plain_of c.self.inside.entries.items) c.args.n state)) (sym is) (found_has c.self.inside.entries.items c.self.inside.cache.entries c.args.n c.self.invariant.cached))
+    c.recall.ensures.found)

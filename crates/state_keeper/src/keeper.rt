@@ -1,0 +1,197 @@
+//! The keeper of states.
+//!
+//! Blocks come with the states behind them. Where a block is some multiple of eight steps from genesis its state is kept; the
+//! cache has the states that were used last, and what neither has is made again.
+
+ghost use Rattle.std.specs.Prelude.{◌≡◌, ℕ, ◌+◌, ◌-◌, ◌%◌, ◌<◌, ◌≤◌, ◌^◌, [], ◌∷◌, ◌++◌, Some, length, option_map, slice_get, IfOk, IfSome, OnOk, IsOk};
+ghost use Rattle.bc_words.specs.Outcome.{Becomes, done};
+ghost use Rattle.spec_state.specs.declared.plain.PlainState.{PlainState};
+ghost use Rattle.state_keeper.specs.Chain.{HasState, state_at, distance_of, kept_every};
+ghost use Rattle.state_keeper.specs.inside.Entries.{kept_of};
+
+use crate::cache::{recall, remember};
+use crate::entry::Entry;
+use crate::remade::{KEPT_EVERY, distance_at, remade};
+use crate::stepper::Stepper;
+use bc_words::{NoMemory, Steps};
+use beacon_state::State;
+use lru::LruCache;
+use std::alloc::Global;
+use std::marker::Model;
+use std::num::NonZeroUsize;
+use std::snapshot::Snapshot;
+use std::sync::ledger::Ledger;
+
+/// How many states the cache has at most.
+const CACHED: usize = 32;
+
+/// The states behind kept blocks, each of which is behind its parent by a step. Contracts see the list of blocks, each with its
+/// parent's number and the state that it stands for, whichever states are held.
+#[derive(Drop)]
+pub struct Keeper<P: Stepper> {
+    stepper: P,
+    entries: Vec<Entry<P::Block>>,
+    cache: LruCache<u32, State>,
+    alloc: Global,
+}
+
+impl<P: Stepper> Model for Keeper<P> {
+    ghost use Rattle.std.specs.Prelude.{map, ◌-◌};
+    ghost use Rattle.state_keeper.specs.Chain.{Kept};
+
+    ghost Value = { Kept P P.Block };
+
+    ghost use Rattle.state_keeper.specs.inside.Entries.{plain_of, IsKeeper};
+
+    ghost view = { λ keeper. record { stepper = keeper.stepper; blocks = map plain_of keeper.entries.items; spare = keeper.entries.cap - keeper.entries.len } };
+
+    ghost invariant = { λ keeper. IsKeeper (P.can_step keeper.stepper) (P.plain_step keeper.stepper) keeper.entries.items keeper.cache.entries };
+}
+
+/// The state to keep of a block so far from genesis, and else the one for the cache.
+#[tactic(auto, unfolding(crate::specs::inside::Entries::kept_of))]
+fn kept_or_cached(distance: u32, state: State) -> (Option<State>, Option<State>)
+    ensures kept { result.0 ≡ kept_of distance state }
+    ensures cached { IfSome result.1 (λ other. other ≡ state) }
+{
+    if distance % KEPT_EVERY == 0 {
+        (Some(state), None)
+    } else {
+        (None, Some(state))
+    }
+}
+
+impl<P: Stepper> Keeper<P> {
+    /// The keeper of one block, number 0, and the state behind it.
+    pub fn new(
+        alloc: Global,
+        stepper: P,
+        block: P::Block,
+        state: State,
+    ) -> Result<Keeper<P>, NoMemory>
+        ensures stepper { IfOk result (λ keeper. keeper.stepper ≡ stepper) }
+        ensures blocks { IfOk result (λ keeper. keeper.blocks ≡ record { block = block; parent = 0; state = state } ∷ []) }
+    {
+        let cache = LruCache::new(alloc, NonZeroUsize::new(CACHED).unwrap())?;
+        let seen = Snapshot::of(&state);
+        let mut entries = Vec::new(alloc);
+        entries.push(Entry {
+            block,
+            parent: 0,
+            distance: 0,
+            kept: Some(state),
+            state: seen,
+        })?;
+        Ok(Keeper {
+            stepper,
+            entries,
+            cache,
+            alloc,
+        })
+    }
+
+    /// Makes room, so that the next `add` can't fail.
+    pub fn reserve(&mut self) -> Result<(), NoMemory>
+        ensures stepper { self.new.stepper ≡ self.old.stepper }
+        ensures blocks { self.new.blocks ≡ self.old.blocks }
+        ensures room { OnOk result (0 < self.new.spare) }
+    {
+        Ok(self.entries.reserve(1)?)
+    }
+
+    /// Adds the block behind the parent of that number, with the state that the plain step from the parent's gives, and answers
+    /// its number. Where memory is refused, which needs that no room was made, the blocks are as before.
+    pub fn add(&mut self, parent: u32, block: P::Block, state: State) -> Result<u32, NoMemory>
+        requires few { length self.old.blocks < 2 ^ 32 - 1 }
+        requires parent { parent < length self.old.blocks }
+        requires can { IfSome (slice_get self.old.blocks parent) (λ before. P.can_step self.old.stepper before.state block) }
+        requires step { IfSome (slice_get self.old.blocks parent) (λ before. P.plain_step self.old.stepper before.state block ≡ done state) }
+        ensures number { IfOk result (λ number. number ≡ length self.old.blocks) }
+        ensures stepper { self.new.stepper ≡ self.old.stepper }
+        ensures blocks { Becomes result self.old.blocks self.new.blocks (self.old.blocks ++ record { block = block; parent = parent; state = state } ∷ []) }
+        ensures succeeds { 0 < self.old.spare → IsOk result }
+    {
+        let number = self.entries.len() as u32;
+        let distance = distance_at(self.entries.as_slice(), parent) + 1;
+        let seen = Snapshot::of(&state);
+        let (kept, other) = kept_or_cached(distance, state);
+        self.entries.push(Entry {
+            block,
+            parent,
+            distance,
+            kept,
+            state: seen,
+        })?;
+        match other {
+            Some(state) => self.cache_state(number, state),
+            None => {}
+        }
+        Ok(number)
+    }
+
+    /// The block of a number.
+    pub fn block(&self, n: u32) -> &P::Block
+        requires { n < length self.now.blocks }
+        ensures { option_map (λ b. b.block) (slice_get self.now.blocks n) ≡ Some result.now }
+    {
+        &self.entries[n as usize].block
+    }
+
+    /// The state behind the block of a number, whichever states were dropped: it is that of the chain of plain steps from genesis. It
+    /// takes one counted step for each block behind the nearest ancestor at a multiple of eight steps from genesis, never more, so at
+    /// most seven. Whether memory is refused or not, the keeper is as before.
+    pub fn state_of<L: Ledger>(&mut self, n: u32, steps: &mut Steps<L>) -> Result<State, NoMemory>
+        requires { n < length self.old.blocks }
+        ensures state { IfOk result (λ state. HasState self.old.blocks n state) }
+        ensures chain { IfOk result (λ state. state_at (P.plain_step self.old.stepper) self.old.blocks n ≡ Some (done state)) }
+        ensures steps { steps.new ≤ steps.old + distance_of self.old.blocks n % kept_every }
+        ensures at_most { steps.new ≤ steps.old + 7 }
+        ensures same { self.new ≡ self.old }
+    {
+        self.states_are_of_the_chain();
+        match self.held(n)? {
+            Some(state) => Ok(state),
+            None => {
+                let state = self.made_again(n, steps)?;
+                self.cache_state(n, state.share()?);
+                Ok(state)
+            }
+        }
+    }
+
+    /// The law that each block stands for the state of the chain of plain steps from genesis. It does nothing when it runs.
+    pub fn states_are_of_the_chain(&self)
+        ensures { (n : ℕ) (state : PlainState) → HasState self.now.blocks n state → state_at (P.plain_step self.now.stepper) self.now.blocks n ≡ Some (done state) }
+    {
+        let _entries = &self.entries;
+    }
+
+    /// The state behind a block, where it is kept or cached.
+    fn held(&mut self, n: u32) -> Result<Option<State>, NoMemory>
+        requires { n < length self.old.blocks }
+        ensures state { IfOk result (λ found. IfSome found (λ state. HasState self.old.blocks n state)) }
+        ensures same { self.new ≡ self.old }
+    {
+        match &self.entries[n as usize].kept {
+            Some(state) => Ok(Some(state.share()?)),
+            None => recall(&mut self.cache, n),
+        }
+    }
+
+    /// The state behind a block, made again.
+    fn made_again<L: Ledger>(&self, n: u32, steps: &mut Steps<L>) -> Result<State, NoMemory>
+        requires { n < length self.now.blocks }
+        ensures state { IfOk result (λ state. HasState self.now.blocks n state) }
+        ensures steps { steps.new ≤ steps.old + distance_of self.now.blocks n % kept_every }
+    {
+        remade(self.alloc, &self.stepper, self.entries.as_slice(), n, steps)
+    }
+
+    /// Puts the state behind a block into the cache.
+    fn cache_state(&mut self, n: u32, state: State)
+        requires { HasState self.old.blocks n state }
+        ensures { self.new ≡ self.old }
+    {
+        remember(&mut self.cache, n, state);
+    }
+}
