@@ -9,41 +9,41 @@ use Rattle.state_keeper.specs.Chain.{kept_every}
 use Rattle.state_keeper.specs.inside.Entries.{StandsFor, HasKept, IsStep, IsBehind, AreEntries, ancestor_at, parent_at, distance_at, kept_of}
 
 module _ {B : Type 0} where
-  pub ancestor_begin : (entries : List (Entry B)) (n : ℕ) → ancestor_at entries n 0 ≡ n
+  pub ancestor_begin : (entries : List (Entry B PlainState)) (n : ℕ) → ancestor_at entries n 0 ≡ n
   unfolding ancestor_at
   ancestor_begin entries n = refl
 
-  pub ancestor_next : (entries : List (Entry B)) (n back : ℕ) → ancestor_at entries n (back + 1) ≡ parent_at entries (ancestor_at entries n back)
+  pub ancestor_next : (entries : List (Entry B PlainState)) (n back : ℕ) → ancestor_at entries n (back + 1) ≡ parent_at entries (ancestor_at entries n back)
   unfolding ancestor_at
   ancestor_next entries n back = ap (λ k. ancestor_at entries n k) (add-one back)
 
-  pub distance_is : (entries : List (Entry B)) (n : ℕ) (e : Entry B) → slice_get entries n ≡ Some e → distance_at entries n ≡ e.distance
-  distance_is entries n e there = ap (λ (o : Option (Entry B)). unwrap_or (option_map (λ e. e.distance) o) 0) there
+  pub distance_is : (entries : List (Entry B PlainState)) (n : ℕ) (e : Entry B PlainState) → slice_get entries n ≡ Some e → distance_at entries n ≡ e.distance
+  distance_is entries n e there = ap (λ (o : Option (Entry B PlainState)). unwrap_or (option_map (λ e. e.distance) o) 0) there
 
-  parent_is : (entries : List (Entry B)) (n : ℕ) (e : Entry B) → slice_get entries n ≡ Some e → parent_at entries n ≡ e.parent
-  parent_is entries n e there = ap (λ (o : Option (Entry B)). unwrap_or (option_map (λ e. e.parent) o) 0) there
+  parent_is : (entries : List (Entry B PlainState)) (n : ℕ) (e : Entry B PlainState) → slice_get entries n ≡ Some e → parent_at entries n ≡ e.parent
+  parent_is entries n e there = ap (λ (o : Option (Entry B PlainState)). unwrap_or (option_map (λ e. e.parent) o) 0) there
 
-  kept_there : (e : Entry B) → e.distance % kept_every ≡ 0 → e.kept ≡ kept_of e.distance e.state.value → e.kept ≡ Some e.state.value
+  kept_there : (e : Entry B PlainState) → e.distance % kept_every ≡ 0 → e.kept ≡ kept_of e.distance e.state.value → e.kept ≡ Some e.state.value
   unfolding kept_of
   kept_there e whole is = is ∙ ap (λ b. cond b (Some e.state.value) None) (eq-eqb (e.distance % kept_every) 0 whole)
 
   -- An entry so many parents before another one, which is so far from genesis
-  record Ancestor (entries : List (Entry B)) (n back distance : ℕ) : Type 0 where
-    entry : Entry B
+  record Ancestor (entries : List (Entry B PlainState)) (n back distance : ℕ) : Type 0 where
+    entry : Entry B PlainState
     there : slice_get entries (ancestor_at entries n back) ≡ Some entry
     far : entry.distance + back ≡ distance
 
-  module _ (can : PlainState → B → Type 0) (step : PlainState → B → Outcome PlainState) (entries : List (Entry B)) (each : AreEntries can step entries) where
+  module _ (can : PlainState → B → Type 0) (step : PlainState → B → Outcome PlainState) (entries : List (Entry B PlainState)) (each : AreEntries can step entries) where
     -- a block that is some steps from genesis has a parent
-    behind_of : (n : ℕ) (e : Entry B) → slice_get entries n ≡ Some e → 0 < e.distance → IsBehind can step entries n e
+    behind_of : (n : ℕ) (e : Entry B PlainState) → slice_get entries n ≡ Some e → 0 < e.distance → IsBehind can step entries n e
     behind_of zero e there some = let none = (each zero e there).distance in absurd (omega arith)
     behind_of (suc n) e there some = each (suc n) e there
 
-    whole_kept : (n : ℕ) (e : Entry B) → slice_get entries n ≡ Some e → e.distance % kept_every ≡ 0 → e.kept ≡ Some e.state.value
+    whole_kept : (n : ℕ) (e : Entry B PlainState) → slice_get entries n ≡ Some e → e.distance % kept_every ≡ 0 → e.kept ≡ Some e.state.value
     whole_kept zero e there whole = (each zero e there).kept
     whole_kept (suc n) e there whole = kept_there e whole (each (suc n) e there).kept
 
-    ancestor_of : (n : ℕ) (e : Entry B) → slice_get entries n ≡ Some e → (back : ℕ) → back ≤ e.distance → Ancestor entries n back e.distance
+    ancestor_of : (n : ℕ) (e : Entry B PlainState) → slice_get entries n ≡ Some e → (back : ℕ) → back ≤ e.distance → Ancestor entries n back e.distance
     ancestor_of n e there zero within = record { entry = e; there = ap (λ k. slice_get entries k) (ancestor_begin entries n) ∙ there; far = omega arith }
     ancestor_of n e there (suc back) within =
         let found = ancestor_of n e there back (omega arith) in
@@ -72,7 +72,7 @@ module _ {B : Type 0} where
         let behind = behind_of (ancestor_at entries n back) found.entry found.there (omega arith) in
         let parent : ancestor_at entries n (back + 1) ≡ found.entry.parent = ancestor_next entries n back ∙ parent_is entries (ancestor_at entries n back) found.entry found.there in
         let held : slice_get entries (ancestor_at entries n (back + 1)) ≡ Some behind.parent = ap (λ k. slice_get entries k) parent ∙ behind.there in
-        let same : behind.parent.state.value ≡ state = same_Some behind.parent.state.value state (sym (ap (λ (o : Option (Entry B)). option_map (λ e. e.state.value) o) held) ∙ stands) in
+        let same : behind.parent.state.value ≡ state = same_Some behind.parent.state.value state (sym (ap (λ (o : Option (Entry B PlainState)). option_map (λ e. e.state.value) o) held) ∙ stands) in
         record {
           entry = found.entry;
           there = found.there;

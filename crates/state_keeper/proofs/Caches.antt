@@ -14,10 +14,10 @@ use Rattle.state_keeper.proofs.Chains.{has_state}
 
 module _ {B : Type 0} where
   -- the order of the pairs doesn't matter
-  pub promoted_cache : (entries : List (Entry B)) (pairs : List (ℕ × PlainState)) (n : ℕ) → IsCache entries pairs → IsCache entries (promoted (nat_eq n) pairs)
+  pub promoted_cache : (entries : List (Entry B PlainState)) (pairs : List (ℕ × PlainState)) (n : ℕ) → IsCache entries pairs → IsCache entries (promoted (nat_eq n) pairs)
   promoted_cache entries pairs n cached k state among = cached k state (Contains-promoted (nat_eq n) pairs (k, state) among)
 
-  found_among : (entries : List (Entry B)) (pairs : List (ℕ × PlainState)) (n : ℕ) → IsCache entries pairs → (o : Option PlainState) → lookup (nat_eq n) pairs ≡ o → IfSome o (λ state. StandsFor entries n state)
+  found_among : (entries : List (Entry B PlainState)) (pairs : List (ℕ × PlainState)) (n : ℕ) → IsCache entries pairs → (o : Option PlainState) → lookup (nat_eq n) pairs ≡ o → IfSome o (λ state. StandsFor entries n state)
   found_among entries pairs n cached None is = tt
   found_among entries pairs n cached (Some state) is =
       let (k, among, same) = Contains-lookup (nat_eq n) pairs state is in
@@ -25,22 +25,22 @@ module _ {B : Type 0} where
       subst (λ m. StandsFor entries m state) (sym k_is) (cached k state among)
 
   -- what is found is the state of the block
-  pub found_state : (entries : List (Entry B)) (pairs : List (ℕ × PlainState)) (n : ℕ) → IsCache entries pairs → IfSome (lookup (nat_eq n) pairs) (λ state. StandsFor entries n state)
+  pub found_state : (entries : List (Entry B PlainState)) (pairs : List (ℕ × PlainState)) (n : ℕ) → IsCache entries pairs → IfSome (lookup (nat_eq n) pairs) (λ state. StandsFor entries n state)
   found_state entries pairs n cached = found_among entries pairs n cached (lookup (nat_eq n) pairs) refl
 
-  pub found_has : (entries : List (Entry B)) (pairs : List (ℕ × PlainState)) (n : ℕ) → IsCache entries pairs → IfSome (lookup (nat_eq n) pairs) (λ state. HasState (map plain_of entries) n state)
+  pub found_has : (entries : List (Entry B PlainState)) (pairs : List (ℕ × PlainState)) (n : ℕ) → IsCache entries pairs → IfSome (lookup (nat_eq n) pairs) (λ state. HasState (map plain_of entries) n state)
   found_has entries pairs n cached = IfSome_then (lookup (nat_eq n) pairs) (found_state entries pairs n cached) (λ state stands. has_state entries n state stands)
 
   -- a state of a block may be put there
-  pub put_cache : (entries : List (Entry B)) (pairs after : List (ℕ × PlainState)) (n : ℕ) (state : PlainState) → IsCache entries pairs → StandsFor entries n state → ((k : ℕ) (s : PlainState) → Contains after (k, s) → IsAmong pairs n state k s) → IsCache entries after
+  pub put_cache : (entries : List (Entry B PlainState)) (pairs after : List (ℕ × PlainState)) (n : ℕ) (state : PlainState) → IsCache entries pairs → StandsFor entries n state → ((k : ℕ) (s : PlainState) → Contains after (k, s) → IsAmong pairs n state k s) → IsCache entries after
   put_cache entries pairs after n state cached stands only k s among = elim (only k s among) [
     | inl old ↦ cached k s old
     | inr new ↦ subst (λ m. StandsFor entries m s) (sym new.0) (subst (λ t. StandsFor entries n t) (sym new.1) stands)
   ]
 
 -- what is there behind a put
-pub put_among : {T E : Type 0} (result : Result T E) (old new : LruCache ℕ PlainState) (n : ℕ) (state : PlainState) → OnOk result (new ≡ lru_cache (put_entries nat_eq old n state) old.cap) → OnErr result (new ≡ old) → (k : ℕ) (s : PlainState) → Contains new.entries (k, s) → IsAmong old.entries n state k s
-put_among (Ok x) old new n state put same k s among = elim (Contains-put_entries nat_eq old n state (k, s) (subst (λ es. Contains es (k, s)) (ap (λ (c : LruCache ℕ PlainState). c.entries) put) among)) [
+pub put_among : {S T E : Type 0} (result : Result T E) (old new : LruCache ℕ S) (n : ℕ) (state : S) → OnOk result (new ≡ lru_cache (put_entries nat_eq old n state) old.cap) → OnErr result (new ≡ old) → (k : ℕ) (s : S) → Contains new.entries (k, s) → IsAmong old.entries n state k s
+put_among {S} (Ok x) old new n state put same k s among = elim (Contains-put_entries nat_eq old n state (k, s) (subst (λ es. Contains es (k, s)) (ap (λ (c : LruCache ℕ S). c.entries) put) among)) [
   | inl before ↦ inl before
   | inr is ↦ inr (
     elim is.1 [
@@ -50,4 +50,4 @@ put_among (Ok x) old new n state put same k s among = elim (Contains-put_entries
     is.0,
   )
 ]
-put_among (Err e) old new n state put same k s among = inl (subst (λ es. Contains es (k, s)) (ap (λ (c : LruCache ℕ PlainState). c.entries) same) among)
+put_among {S} (Err e) old new n state put same k s among = inl (subst (λ es. Contains es (k, s)) (ap (λ (c : LruCache ℕ S). c.entries) same) among)

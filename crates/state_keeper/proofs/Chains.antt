@@ -9,24 +9,24 @@ use Rattle.state_keeper.specs.Chain.{ChainBlock, HasState, along, states_of, sta
 use Rattle.state_keeper.specs.inside.Entries.{plain_of, StandsFor, distance_at, IsBehind, AreEntries}
 use Rattle.state_keeper.proofs.Items.{get_before, get_at, mapped}
 
-module _ {A B : Type 0} (next : A → B → A) (first : A) (value : Entry B → A) where
+module _ {A B : Type 0} (next : A → B → A) (first : A) (value : Entry B PlainState → A) where
   -- What an entry has is made of what its parent has, which is before it
-  record IsMade (entries : List (Entry B)) (n : ℕ) (e : Entry B) : Type 0 where
-    parent : Entry B
+  record IsMade (entries : List (Entry B PlainState)) (n : ℕ) (e : Entry B PlainState) : Type 0 where
+    parent : Entry B PlainState
     there : slice_get entries e.parent ≡ Some parent
     before : e.parent < n
     made : next (value parent) e.block ≡ value e
 
-  abbrev AreMade : ℕ → List (Entry B) → Type 0
-  AreMade from entries = (n : ℕ) (e : Entry B) → from ≤ n → slice_get entries n ≡ Some e → IsMade entries n e
+  abbrev AreMade : ℕ → List (Entry B PlainState) → Type 0
+  AreMade from entries = (n : ℕ) (e : Entry B PlainState) → from ≤ n → slice_get entries n ≡ Some e → IsMade entries n e
 
-  along_is : (before rest : List (Entry B)) → AreMade (length before) (before ++ rest) → along next first (map value before) (map plain_of rest) ≡ map value (before ++ rest)
+  along_is : (before rest : List (Entry B PlainState)) → AreMade (length before) (before ++ rest) → along next first (map value before) (map plain_of rest) ≡ map value (before ++ rest)
   unfolding along
   along_is before [] made = ap (λ es. map value es) (sym (append-nil before))
   along_is before (e ∷ rest) made =
       let here = made (length before) e (omega arith) (get_at before e rest) in
       let parent : slice_get before e.parent ≡ Some here.parent = get_before before (e ∷ rest) e.parent here.parent here.there here.before in
-      let known : slice_get (map value before) e.parent ≡ Some (value here.parent) = slice_get-map value before e.parent ∙ ap (λ (o : Option (Entry B)). option_map value o) parent in
+      let known : slice_get (map value before) e.parent ≡ Some (value here.parent) = slice_get-map value before e.parent ∙ ap (λ (o : Option (Entry B PlainState)). option_map value o) parent in
       let item : next (unwrap_or (slice_get (map value before) e.parent) first) e.block ≡ value e = ap (λ (o : Option A). next (unwrap_or o first) e.block) known ∙ here.made in
       let grown : map value before ++ value e ∷ [] ≡ map value (before ++ e ∷ []) = sym (map-append value before (e ∷ [])) in
       let whole : (before ++ e ∷ []) ++ rest ≡ before ++ e ∷ rest = append_assoc before (e ∷ []) rest in
@@ -36,12 +36,12 @@ module _ {A B : Type 0} (next : A → B → A) (first : A) (value : Entry B → 
       ap (λ x. along next first (map value before ++ x ∷ []) (map plain_of rest)) item ∙ (ap (λ ks. along next first ks (map plain_of rest)) grown ∙ (along_is (before ++ e ∷ []) rest later' ∙ ap (λ es. map value es) whole))
 
 module _ {B : Type 0} (can : PlainState → B → Type 0) (step : PlainState → B → Outcome PlainState) where
-  behind_of : (entries : List (Entry B)) → AreEntries can step entries → (n : ℕ) (e : Entry B) → 1 ≤ n → slice_get entries n ≡ Some e → IsBehind can step entries n e
+  behind_of : (entries : List (Entry B PlainState)) → AreEntries can step entries → (n : ℕ) (e : Entry B PlainState) → 1 ≤ n → slice_get entries n ≡ Some e → IsBehind can step entries n e
   behind_of entries each zero e some there = absurd (omega arith)
   behind_of entries each (suc n) e some there = each (suc n) e there
 
   -- the states of the chain are those that the entries stand for
-  pub states_are : (entries : List (Entry B)) → AreEntries can step entries → states_of step (map plain_of entries) ≡ map (λ e. done e.state.value) entries
+  pub states_are : (entries : List (Entry B PlainState)) → AreEntries can step entries → states_of step (map plain_of entries) ≡ map (λ e. done e.state.value) entries
   unfolding states_of
   states_are [] each = refl
   states_are (genesis ∷ entries) each =
@@ -50,7 +50,7 @@ module _ {B : Type 0} (can : PlainState → B → Type 0) (step : PlainState →
       record { parent = behind.parent; there = behind.there; before = behind.before; made = behind.done_step })
 
   -- and so are the distances
-  pub distances_are : (entries : List (Entry B)) → AreEntries can step entries → distances_of (map plain_of entries) ≡ map (λ e. e.distance) entries
+  pub distances_are : (entries : List (Entry B PlainState)) → AreEntries can step entries → distances_of (map plain_of entries) ≡ map (λ e. e.distance) entries
   unfolding distances_of
   distances_are [] each = refl
   distances_are (genesis ∷ entries) each =
@@ -60,25 +60,25 @@ module _ {B : Type 0} (can : PlainState → B → Type 0) (step : PlainState →
       let behind = behind_of (genesis ∷ entries) each n e some there in
       record { parent = behind.parent; there = behind.there; before = behind.before; made = sym behind.distance })
 
-  pub distance_there : (entries : List (Entry B)) (n : ℕ) → AreEntries can step entries → distance_of (map plain_of entries) n ≡ distance_at entries n
+  pub distance_there : (entries : List (Entry B PlainState)) (n : ℕ) → AreEntries can step entries → distance_of (map plain_of entries) n ≡ distance_at entries n
   unfolding distance_of
-  distance_there entries n each = ap (λ ds. unwrap_or (slice_get ds n) 0) (distances_are entries each) ∙ ap (λ (o : Option ℕ). unwrap_or o 0) (slice_get-map (λ (e : Entry B). e.distance) entries n)
+  distance_there entries n each = ap (λ ds. unwrap_or (slice_get ds n) 0) (distances_are entries each) ∙ ap (λ (o : Option ℕ). unwrap_or o 0) (slice_get-map (λ (e : Entry B PlainState). e.distance) entries n)
 
 module _ {B : Type 0} where
-  state_there : (entries : List (Entry B)) (n : ℕ) → option_map (λ b. b.state) (slice_get (map plain_of entries) n) ≡ option_map (λ e. e.state.value) (slice_get entries n)
+  state_there : (entries : List (Entry B PlainState)) (n : ℕ) → option_map (λ b. b.state) (slice_get (map plain_of entries) n) ≡ option_map (λ e. e.state.value) (slice_get entries n)
   state_there entries n = ap (λ (o : Option (ChainBlock B)). option_map (λ b. b.state) o) (slice_get-map plain_of entries n) ∙ mapped plain_of (λ b. b.state) (slice_get entries n)
 
   -- a state that the entries stand for is that of the block
-  pub has_state : (entries : List (Entry B)) (n : ℕ) (state : PlainState) → StandsFor entries n state → HasState (map plain_of entries) n state
+  pub has_state : (entries : List (Entry B PlainState)) (n : ℕ) (state : PlainState) → StandsFor entries n state → HasState (map plain_of entries) n state
   has_state entries n state stands = state_there entries n ∙ stands
 
-  pub stands_for : (entries : List (Entry B)) (n : ℕ) (state : PlainState) → HasState (map plain_of entries) n state → StandsFor entries n state
+  pub stands_for : (entries : List (Entry B PlainState)) (n : ℕ) (state : PlainState) → HasState (map plain_of entries) n state → StandsFor entries n state
   stands_for entries n state has = sym (state_there entries n) ∙ has
 
   -- and that of the chain
-  pub chain_state : (can : PlainState → B → Type 0) (step : PlainState → B → Outcome PlainState) (entries : List (Entry B)) → AreEntries can step entries → (n : ℕ) (state : PlainState) → HasState (map plain_of entries) n state → state_at step (map plain_of entries) n ≡ Some (done state)
+  pub chain_state : (can : PlainState → B → Type 0) (step : PlainState → B → Outcome PlainState) (entries : List (Entry B PlainState)) → AreEntries can step entries → (n : ℕ) (state : PlainState) → HasState (map plain_of entries) n state → state_at step (map plain_of entries) n ≡ Some (done state)
   unfolding state_at
   chain_state can step entries each n state has =
-      ap (λ (os : List (Outcome PlainState)). slice_get os n) (states_are can step entries each) ∙ (slice_get-map (λ (e : Entry B). done e.state.value) entries n ∙
-      (sym (mapped (λ (e : Entry B). e.state.value) (λ s. done s) (slice_get entries n)) ∙
+      ap (λ (os : List (Outcome PlainState)). slice_get os n) (states_are can step entries each) ∙ (slice_get-map (λ (e : Entry B PlainState). done e.state.value) entries n ∙
+      (sym (mapped (λ (e : Entry B PlainState). e.state.value) (λ s. done s) (slice_get entries n)) ∙
       ap (λ (o : Option PlainState). option_map (λ s. done s) o) (stands_for entries n state has)))

@@ -3,3 +3,4 @@ pub mod Caches
 pub mod Chains
 pub mod Items
 pub mod Keeps
+pub mod Made

@@ -2,7 +2,6 @@
 
 ghost use Rattle.std.specs.Prelude.{◌≡◌, ℕ, nat_eq, IfOk, Contains};
 ghost use Rattle.std.specs.Map.{lookup};
-ghost use Rattle.spec_state.specs.declared.plain.PlainState.{PlainState};
 ghost use Rattle.lru.specs.LruCache.{promoted};
 ghost use Rattle.state_keeper.specs.inside.Cache.{IsAmong};
 
@@ -23,8 +22,8 @@ pub(crate) fn recall(cache: &mut LruCache<u32, State>, n: u32) -> Result<Option<
 
 /// Puts a block's state into the cache, from which the one that wasn't used for longest may go. Where memory is refused, the
 /// cache is as before: it may lack any state.
-pub(crate) fn remember(cache: &mut LruCache<u32, State>, n: u32, state: State)
-    ensures { (k : ℕ) (s : PlainState) → Contains cache.new.entries (k, s) → IsAmong cache.old.entries n state k s }
+pub(crate) fn remember<S: Drop>(cache: &mut LruCache<u32, S>, n: u32, state: S)
+    ensures { (k : ℕ) (s : S) → Contains cache.new.entries (k, s) → IsAmong cache.old.entries n state k s }
 {
     let _old = cache.put(n, state);
 }

@@ -10,8 +10,8 @@ ghost use Rattle.state_keeper.specs.Chain.{HasState, state_at, distance_of, kept
 ghost use Rattle.state_keeper.specs.inside.Entries.{kept_of};
 
 use crate::cache::{recall, remember};
-use crate::entry::Entry;
-use crate::remade::{KEPT_EVERY, distance_at, remade};
+use crate::entry::{Entry, push_entry};
+use crate::remade::{distance_at, remade};
 use crate::stepper::Stepper;
 use bc_words::{NoMemory, Steps};
 use beacon_state::State;
@@ -30,7 +30,7 @@ const CACHED: usize = 32;
 #[derive(Drop)]
 pub struct Keeper<P: Stepper> {
     stepper: P,
-    entries: Vec<Entry<P::Block>>,
+    entries: Vec<Entry<P::Block, State>>,
     cache: LruCache<u32, State>,
     alloc: Global,
 }
@@ -48,17 +48,20 @@ impl<P: Stepper> Model for Keeper<P> {
     ghost invariant = { λ keeper. IsKeeper (P.can_step keeper.stepper) (P.plain_step keeper.stepper) keeper.entries.items keeper.cache.entries };
 }
 
-/// The state to keep of a block so far from genesis, and else the one for the cache.
-#[tactic(auto, unfolding(crate::specs::inside::Entries::kept_of))]
-fn kept_or_cached(distance: u32, state: State) -> (Option<State>, Option<State>)
-    ensures kept { result.0 ≡ kept_of distance state }
-    ensures cached { IfSome result.1 (λ other. other ≡ state) }
+/// The entries of one block, number 0, and a cache that has no state.
+fn beginning<B: Drop, S: Drop>(
+    alloc: Global,
+    block: B,
+    state: S,
+    seen: Snapshot<S>,
+) -> Result<(Vec<Entry<B, S>>, LruCache<u32, S>), NoMemory>
+    ensures entries { IfOk result (λ made. made.0.items ≡ record { block = block; parent = 0; distance = 0; kept = kept_of 0 state; state = seen } ∷ []) }
+    ensures cache { IfOk result (λ made. made.1.entries ≡ []) }
 {
-    if distance % KEPT_EVERY == 0 {
-        (Some(state), None)
-    } else {
-        (None, Some(state))
-    }
+    let cache = LruCache::new(alloc, NonZeroUsize::new(CACHED).unwrap())?;
+    let mut entries = Vec::new(alloc);
+    let _other = push_entry(&mut entries, block, 0, 0, state, seen)?;
+    Ok((entries, cache))
 }
 
 impl<P: Stepper> Keeper<P> {
@@ -72,16 +75,8 @@ impl<P: Stepper> Keeper<P> {
         ensures stepper { IfOk result (λ keeper. keeper.stepper ≡ stepper) }
         ensures blocks { IfOk result (λ keeper. keeper.blocks ≡ record { block = block; parent = 0; state = state } ∷ []) }
     {
-        let cache = LruCache::new(alloc, NonZeroUsize::new(CACHED).unwrap())?;
         let seen = Snapshot::of(&state);
-        let mut entries = Vec::new(alloc);
-        entries.push(Entry {
-            block,
-            parent: 0,
-            distance: 0,
-            kept: Some(state),
-            state: seen,
-        })?;
+        let (entries, cache) = beginning(alloc, block, state, seen)?;
         Ok(Keeper {
             stepper,
             entries,
@@ -114,15 +109,7 @@ impl<P: Stepper> Keeper<P> {
         let number = self.entries.len() as u32;
         let distance = distance_at(self.entries.as_slice(), parent) + 1;
         let seen = Snapshot::of(&state);
-        let (kept, other) = kept_or_cached(distance, state);
-        self.entries.push(Entry {
-            block,
-            parent,
-            distance,
-            kept,
-            state: seen,
-        })?;
-        match other {
+        match push_entry(&mut self.entries, block, parent, distance, state, seen)? {
             Some(state) => self.cache_state(number, state),
             None => {}
         }
@@ -151,11 +138,7 @@ impl<P: Stepper> Keeper<P> {
         self.states_are_of_the_chain();
         match self.held(n)? {
             Some(state) => Ok(state),
-            None => {
-                let state = self.made_again(n, steps)?;
-                self.cache_state(n, state.share()?);
-                Ok(state)
-            }
+            None => self.made_and_cached(n, steps),
         }
     }
 
@@ -185,6 +168,33 @@ impl<P: Stepper> Keeper<P> {
         ensures steps { steps.new ≤ steps.old + distance_of self.now.blocks n % kept_every }
     {
         remade(self.alloc, &self.stepper, self.entries.as_slice(), n, steps)
+    }
+
+    /// The state behind a block, made again and put into the cache, where memory allows that.
+    fn made_and_cached<L: Ledger>(
+        &mut self,
+        n: u32,
+        steps: &mut Steps<L>,
+    ) -> Result<State, NoMemory>
+        requires { n < length self.old.blocks }
+        ensures state { IfOk result (λ state. HasState self.old.blocks n state) }
+        ensures steps { steps.new ≤ steps.old + distance_of self.old.blocks n % kept_every }
+        ensures same { self.new ≡ self.old }
+    {
+        let state = self.made_again(n, steps)?;
+        self.cache_copy(n, &state);
+        Ok(state)
+    }
+
+    /// Puts the state behind a block into the cache once more, where memory allows that.
+    fn cache_copy(&mut self, n: u32, state: &State)
+        requires { HasState self.old.blocks n state.now }
+        ensures { self.new ≡ self.old }
+    {
+        match state.share() {
+            Ok(copy) => self.cache_state(n, copy),
+            Err(_) => {}
+        }
     }
 
     /// Puts the state behind a block into the cache.

@@ -1,21 +1,18 @@
 //! States that are made again: steps from the nearest ancestor whose state is kept.
 
-ghost use Rattle.std.specs.Prelude.{◌≡◌, ◌+◌, ◌<◌, ◌≤◌, ◌%◌, Some, length, IfOk};
+ghost use Rattle.std.specs.Prelude.{◌≡◌, ◌+◌, ◌<◌, ◌≤◌, ◌%◌, Some, Ok, length, IfOk, IsOk, OnOk};
 ghost use Rattle.state_keeper.specs.inside.Entries.{StandsFor, HasKept, IsStep, AreEntries, ancestor_at, parent_at, distance_at};
 ghost use Rattle.state_keeper.specs.Chain.{kept_every};
 
-use crate::entry::Entry;
+use crate::entry::{Entry, KEPT_EVERY};
 use crate::stepper::Stepper;
 use bc_words::{NoMemory, Steps, Stop};
 use beacon_state::State;
 use std::alloc::Global;
 use std::sync::ledger::Ledger;
 
-/// Every how many steps from genesis a state is kept.
-pub(crate) const KEPT_EVERY: u32 = 8;
-
 /// The number of a block's parent.
-fn parent_at<B: Drop>(entries: &[Entry<B>], n: u32) -> u32
+fn parent_at<B: Drop>(entries: &[Entry<B, State>], n: u32) -> u32
     ensures { result ≡ parent_at entries.now n }
 {
     match entries.get(n as usize) {
@@ -25,7 +22,7 @@ fn parent_at<B: Drop>(entries: &[Entry<B>], n: u32) -> u32
 }
 
 /// How many steps a block is from genesis.
-pub(crate) fn distance_at<B: Drop>(entries: &[Entry<B>], n: u32) -> u32
+pub(crate) fn distance_at<B: Drop>(entries: &[Entry<B, State>], n: u32) -> u32
     ensures { result ≡ distance_at entries.now n }
 {
     match entries.get(n as usize) {
@@ -36,7 +33,7 @@ pub(crate) fn distance_at<B: Drop>(entries: &[Entry<B>], n: u32) -> u32
 
 /// The number of the block so many parents before another one.
 #[tactic(auto, using(crate::proofs::Ancestors::walking))]
-fn ancestor_at<B: Drop>(entries: &[Entry<B>], n: u32, back: u32) -> u32
+fn ancestor_at<B: Drop>(entries: &[Entry<B, State>], n: u32, back: u32) -> u32
     ensures { result ≡ ancestor_at entries.now n back }
 {
     let mut number = n;
@@ -47,7 +44,7 @@ fn ancestor_at<B: Drop>(entries: &[Entry<B>], n: u32, back: u32) -> u32
 }
 
 /// The state of a block whose state is kept.
-fn kept_state<B: Drop>(entries: &[Entry<B>], n: u32) -> Result<State, NoMemory>
+fn kept_state<B: Drop>(entries: &[Entry<B, State>], n: u32) -> Result<State, NoMemory>
     requires { HasKept entries.now n }
     ensures { IfOk result (λ state. StandsFor entries.now n state) }
 {
@@ -61,7 +58,7 @@ fn kept_state<B: Drop>(entries: &[Entry<B>], n: u32) -> Result<State, NoMemory>
 fn step_to<P: Stepper, L: Ledger>(
     alloc: Global,
     stepper: &P,
-    entries: &[Entry<P::Block>],
+    entries: &[Entry<P::Block, State>],
     n: u32,
     state: &State,
     steps: &mut Steps<L>,
@@ -78,11 +75,69 @@ fn step_to<P: Stepper, L: Ledger>(
     }
 }
 
+/// Puts what was made into its place, if it was made.
+fn put_in<S: Drop>(place: &mut S, made: Result<S, NoMemory>) -> Result<(), NoMemory>
+    ensures { OnOk result (made ≡ Ok place.new) }
+{
+    *place = made?;
+    Ok(())
+}
+
+/// The state, if what had to be done with it was done.
+fn once_done<S: Drop>(done: Result<(), NoMemory>, state: S) -> Result<S, NoMemory>
+    ensures same { IfOk result (λ s. s ≡ state) }
+    ensures done { OnOk result (IsOk done) }
+{
+    done?;
+    Ok(state)
+}
+
+/// Takes the state of a block's parent to that of the block, by a counted step.
+fn step_on<P: Stepper, L: Ledger>(
+    alloc: Global,
+    stepper: &P,
+    entries: &[Entry<P::Block, State>],
+    n: u32,
+    state: &mut State,
+    steps: &mut Steps<L>,
+) -> Result<(), NoMemory>
+    requires { IsStep (P.can_step stepper.now) (P.plain_step stepper.now) entries.now n state.old }
+    ensures state { OnOk result (StandsFor entries.now n state.new) }
+    ensures steps { steps.new ≡ steps.old + 1 }
+{
+    let made = step_to(alloc, stepper, entries, n, state, steps);
+    put_in(state, made)
+}
+
+/// Takes the state of the block so many parents before another one down to that one's.
+fn steps_down<P: Stepper, L: Ledger>(
+    alloc: Global,
+    stepper: &P,
+    entries: &[Entry<P::Block, State>],
+    n: u32,
+    far: u32,
+    state: &mut State,
+    steps: &mut Steps<L>,
+) -> Result<(), NoMemory>
+    requires entries { AreEntries (P.can_step stepper.now) (P.plain_step stepper.now) entries.now }
+    requires inside { n < length entries.now }
+    requires far { far ≤ distance_at entries.now n }
+    requires state { StandsFor entries.now (ancestor_at entries.now n far) state.old }
+    ensures state { OnOk result (StandsFor entries.now n state.new) }
+    ensures steps { steps.new ≤ steps.old + far }
+{
+    for done in 0..far {
+        let next = ancestor_at(entries, n, far - 1 - done);
+        step_on(alloc, stepper, entries, next, state, steps)?;
+    }
+    Ok(())
+}
+
 /// The state of a block, made again by steps from its nearest ancestor whose state is kept.
 pub(crate) fn remade<P: Stepper, L: Ledger>(
     alloc: Global,
     stepper: &P,
-    entries: &[Entry<P::Block>],
+    entries: &[Entry<P::Block, State>],
     n: u32,
     steps: &mut Steps<L>,
 ) -> Result<State, NoMemory>
@@ -93,9 +148,6 @@ pub(crate) fn remade<P: Stepper, L: Ledger>(
 {
     let far = distance_at(entries, n) % KEPT_EVERY;
     let mut state = kept_state(entries, ancestor_at(entries, n, far))?;
-    for done in 0..far {
-        let next = ancestor_at(entries, n, far - 1 - done);
-        state = step_to(alloc, stepper, entries, next, &state, steps)?;
-    }
-    Ok(state)
+    let done = steps_down(alloc, stepper, entries, n, far, &mut state, steps);
+    once_done(done, state)
 }

@@ -6,56 +6,56 @@ use Rattle.state_keeper.specs.declared.entry.Entry.{Entry}
 use Rattle.state_keeper.specs.Chain.{ChainBlock, kept_every}
 
 -- what is kept of the state of a block so far from genesis
-unfoldable pub kept_of : ℕ → PlainState → Option PlainState
+unfoldable pub kept_of : {S : Type 0} → ℕ → S → Option S
 kept_of distance state = if distance % kept_every == 0 then Some state else None
 
 module _ {B : Type 0} where
   -- the block that an entry stands for
-  abbrev pub plain_of : Entry B → ChainBlock B
+  abbrev pub plain_of : Entry B PlainState → ChainBlock B
   plain_of e = record { block = e.block; parent = e.parent; state = e.state.value }
 
   -- The state is that of the block of a number
-  abbrev pub StandsFor : List (Entry B) → ℕ → PlainState → Type 0
+  abbrev pub StandsFor : List (Entry B PlainState) → ℕ → PlainState → Type 0
   StandsFor entries n state = option_map (λ e. e.state.value) (slice_get entries n) ≡ Some state
 
   -- how far the block of a number is from genesis
-  abbrev pub distance_at : List (Entry B) → ℕ → ℕ
+  abbrev pub distance_at : List (Entry B PlainState) → ℕ → ℕ
   distance_at entries n = unwrap_or (option_map (λ e. e.distance) (slice_get entries n)) 0
 
   -- the number of its parent, and that of the block so many parents before it
-  abbrev pub parent_at : List (Entry B) → ℕ → ℕ
+  abbrev pub parent_at : List (Entry B PlainState) → ℕ → ℕ
   parent_at entries n = unwrap_or (option_map (λ e. e.parent) (slice_get entries n)) 0
 
-  unfoldable pub ancestor_at : List (Entry B) → ℕ → ℕ → ℕ
+  unfoldable pub ancestor_at : List (Entry B PlainState) → ℕ → ℕ → ℕ
   ancestor_at entries n zero = n
   ancestor_at entries n (suc back) = parent_at entries (ancestor_at entries n back)
 
   -- The state of the block of a number is kept
-  pub record HasKept (entries : List (Entry B)) (n : ℕ) : Type 0 where
-    pub entry : Entry B
+  pub record HasKept (entries : List (Entry B PlainState)) (n : ℕ) : Type 0 where
+    pub entry : Entry B PlainState
     pub there : slice_get entries n ≡ Some entry
     pub kept : entry.kept ≡ Some entry.state.value
 
   -- The entry of genesis
-  pub record IsFirst (e : Entry B) : Type 0 where
+  pub record IsFirst (e : Entry B PlainState) : Type 0 where
     pub distance : e.distance ≡ 0
     pub kept : e.kept ≡ Some e.state.value
 
   -- The pairs of the cache are numbers of blocks with their states
-  abbrev pub IsCache : List (Entry B) → List (ℕ × PlainState) → Type 0
+  abbrev pub IsCache : List (Entry B PlainState) → List (ℕ × PlainState) → Type 0
   IsCache entries pairs = (n : ℕ) (state : PlainState) → Contains pairs (n, state) → StandsFor entries n state
 
   module _ (can : PlainState → B → Type 0) (step : PlainState → B → Outcome PlainState) where
     -- A step from a state gives that of the block of a number
-    pub record IsStep (entries : List (Entry B)) (n : ℕ) (state : PlainState) : Type 0 where
-      pub entry : Entry B
+    pub record IsStep (entries : List (Entry B PlainState)) (n : ℕ) (state : PlainState) : Type 0 where
+      pub entry : Entry B PlainState
       pub there : slice_get entries n ≡ Some entry
       pub can_step : can state entry.block
       pub done_step : step state entry.block ≡ done entry.state.value
 
     -- The entry of a block behind its parent, which is one before it
-    pub record IsBehind (entries : List (Entry B)) (n : ℕ) (e : Entry B) : Type 0 where
-      pub parent : Entry B
+    pub record IsBehind (entries : List (Entry B PlainState)) (n : ℕ) (e : Entry B PlainState) : Type 0 where
+      pub parent : Entry B PlainState
       pub there : slice_get entries e.parent ≡ Some parent
       pub before : e.parent < n
       pub can_step : can parent.state.value e.block
@@ -64,15 +64,15 @@ module _ {B : Type 0} where
       pub near : e.distance ≤ n
       pub kept : e.kept ≡ kept_of e.distance e.state.value
 
-    abbrev pub IsEntry : List (Entry B) → ℕ → Entry B → Type 0
+    abbrev pub IsEntry : List (Entry B PlainState) → ℕ → Entry B PlainState → Type 0
     IsEntry entries zero e = IsFirst e
     IsEntry entries (suc n) e = IsBehind entries (suc n) e
 
-    abbrev pub AreEntries : List (Entry B) → Type 0
-    AreEntries entries = (n : ℕ) (e : Entry B) → slice_get entries n ≡ Some e → IsEntry entries n e
+    abbrev pub AreEntries : List (Entry B PlainState) → Type 0
+    AreEntries entries = (n : ℕ) (e : Entry B PlainState) → slice_get entries n ≡ Some e → IsEntry entries n e
 
     -- What holds of a keeper's entries and its cache
-    pub record IsKeeper (entries : List (Entry B)) (pairs : List (ℕ × PlainState)) : Type 0 where
+    pub record IsKeeper (entries : List (Entry B PlainState)) (pairs : List (ℕ × PlainState)) : Type 0 where
       pub some : 0 < length entries
       pub each : AreEntries entries
       pub cached : IsCache entries pairs

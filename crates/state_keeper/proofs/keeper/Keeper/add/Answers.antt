@@ -4,7 +4,7 @@ use Rattle.bc_words.specs.Outcome.{done}
 use Rattle.spec_state.specs.declared.plain.PlainState.{PlainState}
 use Rattle.state_keeper.specs.declared.entry.Entry.{Entry}
 use Rattle.state_keeper.specs.Chain.{Kept}
-use Rattle.state_keeper.specs.inside.Entries.{plain_of, distance_at}
+use Rattle.state_keeper.specs.inside.Entries.{plain_of, distance_at, kept_of}
 use Rattle.state_keeper.proofs.Chains.{has_state}
 use Rattle.state_keeper.proofs.Keeps.{keeps_added, added_stands, near_at}
 use Rattle.state_keeper.proofs.keeper.Keeper.add.Goals as goal
@@ -13,36 +13,36 @@ pub overflow_add-distance : goal.overflow_add-distance
 overflow_add-distance g c =
     let inside : c.args.parent < length (map plain_of c.self.inside.entries.items) = subst (λ (kept : Kept _ _). c.args.parent < length kept.blocks) (sym c.self.view_is) c.requires.parent in
     let near = near_at (g.P.Stepper.can_step c.self.inside.stepper) (g.P.Stepper.plain_step c.self.inside.stepper) c.self.inside.entries.items c.self.invariant.each c.args.parent inside in
-    let is : c.distance_at-distance.result ≡ distance_at c.self.inside.entries.items c.args.parent = c.distance_at-distance.ensures ∙ ap (λ (es : List (Entry _)). distance_at es c.args.parent) c.as_slice.ensures.value in
+    let is : c.distance_at-distance.result ≡ distance_at c.self.inside.entries.items c.args.parent = c.distance_at-distance.ensures ∙ ap (λ (es : List (Entry _ _)). distance_at es c.args.parent) c.as_slice.ensures.value in
     let few = c.requires.few in
     let below = c.requires.parent in
     omega arith
 
 pub invariant_of-self-in-Some : goal.invariant_of-self-in-Some
 invariant_of-self-in-Some g c =
-    keeps_added (g.P.Stepper.can_step c.self.inside.stepper) (g.P.Stepper.plain_step c.self.inside.stepper) c.self.inside.entries.items c.as_slice.result.now c.push.new.self.items c.self.inside.cache.entries
-    (record { block = c.args.block; parent = c.args.parent; distance = c.distance_at-distance.result + 1; kept = c.kept_or_cached-kept.result.0; state = c.of-seen.result })
+    keeps_added (g.P.Stepper.can_step c.self.inside.stepper) (g.P.Stepper.plain_step c.self.inside.stepper) c.self.inside.entries.items c.as_slice.result.now c.push_entry.new.entries.items c.self.inside.cache.entries
+    (record { block = c.args.block; parent = c.args.parent; distance = c.distance_at-distance.result + 1; kept = kept_of (c.distance_at-distance.result + 1) c.args.state; state = c.of-seen.result })
     c.args.state c.distance_at-distance.result c.self.invariant c.as_slice.ensures.value
     (subst (λ (kept : Kept _ _). c.args.parent < length kept.blocks) (sym c.self.view_is) c.requires.parent)
     (subst (λ (kept : Kept _ _). IfSome (slice_get kept.blocks c.args.parent) (λ before. g.P.Stepper.can_step kept.stepper before.state c.args.block)) (sym c.self.view_is) c.requires.can)
     (subst (λ (kept : Kept _ _). IfSome (slice_get kept.blocks c.args.parent) (λ before. g.P.Stepper.plain_step kept.stepper before.state c.args.block ≡ done c.args.state)) (sym c.self.view_is) c.requires.step)
-    c.distance_at-distance.ensures refl c.of-seen.ensures c.kept_or_cached-kept.ensures.kept c.in_ok-push.ensures.items
+    c.distance_at-distance.ensures refl c.of-seen.ensures refl c.in_ok-state.ensures.items
 
 pub cache_state-requires : goal.cache_state-requires
 cache_state-requires g c =
-    let same : c.in-Some.state ≡ c.args.state = subst (λ (o : Option PlainState). IfSome o (λ other. other ≡ c.args.state)) c.in-Some.is c.kept_or_cached-kept.ensures.cached in
-    let long : c.len-number.result ≡ length c.self.inside.entries.items = omega (arith, c.as_slice.ensures.len, ap (λ (es : List (Entry _)). length es) c.as_slice.ensures.value) in
-    has_state c.push.new.self.items c.len-number.result c.in-Some.state
-    (added_stands c.self.inside.entries.items c.push.new.self.items
-    (record { block = c.args.block; parent = c.args.parent; distance = c.distance_at-distance.result + 1; kept = c.kept_or_cached-kept.result.0; state = c.of-seen.result })
-    c.len-number.result c.in-Some.state c.in_ok-push.ensures.items long (c.of-seen.ensures ∙ sym same))
+    let same : c.in-Some.state ≡ c.args.state = subst (λ (o : Option PlainState). IfSome o (λ other. other ≡ c.args.state)) c.in-Some.is c.in_ok-state.ensures.other in
+    let long : c.len-number.result ≡ length c.self.inside.entries.items = omega (arith, c.as_slice.ensures.len, ap (λ (es : List (Entry _ _)). length es) c.as_slice.ensures.value) in
+    has_state c.push_entry.new.entries.items c.len-number.result c.in-Some.state
+    (added_stands c.self.inside.entries.items c.push_entry.new.entries.items
+    (record { block = c.args.block; parent = c.args.parent; distance = c.distance_at-distance.result + 1; kept = kept_of (c.distance_at-distance.result + 1) c.args.state; state = c.of-seen.result })
+    c.len-number.result c.in-Some.state c.in_ok-state.ensures.items long (c.of-seen.ensures ∙ sym same))
 
 pub invariant_of-self-in-None : goal.invariant_of-self-in-None
 invariant_of-self-in-None g c =
-    keeps_added (g.P.Stepper.can_step c.self.inside.stepper) (g.P.Stepper.plain_step c.self.inside.stepper) c.self.inside.entries.items c.as_slice.result.now c.push.new.self.items c.self.inside.cache.entries
-    (record { block = c.args.block; parent = c.args.parent; distance = c.distance_at-distance.result + 1; kept = c.kept_or_cached-kept.result.0; state = c.of-seen.result })
+    keeps_added (g.P.Stepper.can_step c.self.inside.stepper) (g.P.Stepper.plain_step c.self.inside.stepper) c.self.inside.entries.items c.as_slice.result.now c.push_entry.new.entries.items c.self.inside.cache.entries
+    (record { block = c.args.block; parent = c.args.parent; distance = c.distance_at-distance.result + 1; kept = kept_of (c.distance_at-distance.result + 1) c.args.state; state = c.of-seen.result })
     c.args.state c.distance_at-distance.result c.self.invariant c.as_slice.ensures.value
     (subst (λ (kept : Kept _ _). c.args.parent < length kept.blocks) (sym c.self.view_is) c.requires.parent)
     (subst (λ (kept : Kept _ _). IfSome (slice_get kept.blocks c.args.parent) (λ before. g.P.Stepper.can_step kept.stepper before.state c.args.block)) (sym c.self.view_is) c.requires.can)
     (subst (λ (kept : Kept _ _). IfSome (slice_get kept.blocks c.args.parent) (λ before. g.P.Stepper.plain_step kept.stepper before.state c.args.block ≡ done c.args.state)) (sym c.self.view_is) c.requires.step)
-    c.distance_at-distance.ensures refl c.of-seen.ensures c.kept_or_cached-kept.ensures.kept c.in_ok-push.ensures.items
+    c.distance_at-distance.ensures refl c.of-seen.ensures refl c.in_ok-state.ensures.items
