@@ -4,7 +4,9 @@ ghost use Rattle.std.proofs.Common.{lit≤};
 
 use bc_words::NoMemory;
 use hash_tree::Root;
-use ssz_codec::{BitList, Cut, LimitedList, ListLimit, Writer, cut, read_list, read_variable_list};
+use ssz_codec::{
+    BitList, Cut, LimitedList, ListLimit, Ssz, Writer, cut, read_list, read_variable_list,
+};
 use std::alloc::Global;
 use std::test::Fail;
 
