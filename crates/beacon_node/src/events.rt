@@ -1,6 +1,6 @@
 //! The record of a run: each event is read, handed to the store, and answered by a line.
 
-ghost use Rattle.std.specs.Prelude.{◌≡◌, ◌≢◌, ◌<◌, ◌≤◌, ◌+◌, ◌-◌, ◌^◌, [], ◌∷◌, length, IfSome, IfNone, IfOk, IfErr, Ok, None};
+ghost use Rattle.std.specs.Prelude.{◌≡◌, ◌≢◌, ◌<◌, ◌≤◌, ◌+◌, ◌-◌, ◌^◌, [], ◌∷◌, length, IfSome, IfNone, IfOk, IfErr, Ok};
 ghost use Rattle.bc_outside.specs.Calls.{ShelfKeeps, SinkKeeps};
 ghost use Rattle.spec_replay.specs.Run.{with_record};
 ghost use Rattle.record_file.specs.Sources.{IsOpenedFile};
@@ -92,10 +92,8 @@ fn no_event<S: EventSource>(source: &S, stop: FrameStop) -> Status
     }
 }
 
-/// Goes on behind a line that was written: tells the slot of the store's head, where it is asked for.
-fn written<O: Sink>(alloc: Global, store: &Store, out: &O) -> Option<Status>
-    ensures { result ≡ None }
-{
+/// Tells the slot of the store's head, where it is asked for.
+fn tell_head<O: Sink>(alloc: Global, store: &Store, out: &O) {
     if out.asks() {
         if let Ok(head) = store.head(alloc) {
             if let Some(block) = store.block(head) {
@@ -103,7 +101,6 @@ fn written<O: Sink>(alloc: Global, store: &Store, out: &O) -> Option<Status>
             }
         }
     }
-    None
 }
 
 /// Takes the next event: hands it to the store, and writes its line. The status where the run is over.
@@ -136,7 +133,10 @@ fn replay_event<S: EventSource, F: Shelf, O: Sink>(
         Err(status) => return Some(status),
     };
     match write_all(out, &line) {
-        Ok(()) => written(alloc, store, out),
+        Ok(()) => {
+            tell_head(alloc, store, out);
+            None
+        }
         Err(trouble) => Some(unwritten(trouble)),
     }
 }

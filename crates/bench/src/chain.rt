@@ -5,7 +5,7 @@ ghost use Rattle.std.specs.Prelude.{◌≤◌, ◌^◌};
 
 use crate::states::put;
 use anyhow::{Result, bail};
-use balance_totals::{block_root, committees_of_epoch};
+use balance_totals::{block_root, committees_of_epoch, current_epoch};
 use bc_preset::Config;
 use beacon_body::SignedBeaconBlock;
 use beacon_state::State;
@@ -87,7 +87,7 @@ fn votes(alloc: Global, state: &State) -> Result<Vec<Vec<u8>>> {
     let mut votes = Vec::new(alloc);
     let slot = state.slot().saturating_sub(1);
     let epoch = slot / state.preset().slots_per_epoch.max(1);
-    if epoch > 1 << 40 || epoch > state.slot() / state.preset().slots_per_epoch.max(1) {
+    if epoch > current_epoch(state) {
         bail!("no such epoch");
     }
     let committees = committees_of_epoch(alloc, state, epoch)?;
@@ -128,11 +128,11 @@ fn block_bytes(alloc: Global, state: &State, proposer: u64, votes: &[Vec<u8>]) -
         bytes.extend_from_slice(&[0; 4])?;
     }
     for (number, vote) in votes.iter().enumerate() {
-        let start = (bytes.len() - BEGIN) as u32;
+        let start = bytes.len().saturating_sub(BEGIN) as u32;
         put(&mut bytes, BEGIN + 4 * number, &start.to_le_bytes());
         bytes.extend_from_slice(vote)?;
     }
-    let end = (bytes.len() - 184) as u32;
+    let end = bytes.len().saturating_sub(184) as u32;
     for (at, offset) in [(384, 220), (388, 220), (392, 220), (396, end), (400, end)] {
         put(&mut bytes, at, &offset.to_le_bytes());
     }
