@@ -87,7 +87,7 @@ fn votes(alloc: Global, state: &State) -> Result<Vec<Vec<u8>>> {
     let mut votes = Vec::new(alloc);
     let slot = state.slot().saturating_sub(1);
     let epoch = slot / state.preset().slots_per_epoch.max(1);
-    if epoch > current_epoch(state) {
+    if epoch > 1 << 40 || epoch > current_epoch(state) {
         bail!("no such epoch");
     }
     let committees = committees_of_epoch(alloc, state, epoch)?;
