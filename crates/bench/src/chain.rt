@@ -108,6 +108,11 @@ fn votes(alloc: Global, state: &State) -> Result<Vec<Vec<u8>>> {
     Ok(votes)
 }
 
+/// How far the bytes reach behind a position.
+fn offset(bytes: &[u8], from: usize) -> u32 {
+    bytes.len().saturating_sub(from).min(1 << 30) as u32
+}
+
 /// The writing of the signed block of the state's slot on its chain, with these votes and no state root yet.
 fn block_bytes(alloc: Global, state: &State, proposer: u64, votes: &[Vec<u8>]) -> Result<Vec<u8>> {
     let salt = salt(state.slot());
@@ -128,11 +133,11 @@ fn block_bytes(alloc: Global, state: &State, proposer: u64, votes: &[Vec<u8>]) -
         bytes.extend_from_slice(&[0; 4])?;
     }
     for (number, vote) in votes.iter().enumerate() {
-        let start = bytes.len().saturating_sub(BEGIN) as u32;
+        let start = offset(&bytes, BEGIN);
         put(&mut bytes, BEGIN + 4 * number, &start.to_le_bytes());
         bytes.extend_from_slice(vote)?;
     }
-    let end = bytes.len().saturating_sub(184) as u32;
+    let end = offset(&bytes, 184);
     for (at, offset) in [(384, 220), (388, 220), (392, 220), (396, end), (400, end)] {
         put(&mut bytes, at, &offset.to_le_bytes());
     }
