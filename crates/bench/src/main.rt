@@ -1,51 +1,46 @@
 //! Measures what has to be fast, each against the hashes that it can't do without or another part of the run, in one run.
 //!
-//! The word behind the program's name says what to measure: `pairs`, `shuffle`, `state`, `registry`, `block`,
-//! `attestation`, `operations`, `epoch`, `record` or `kept`. Without a word nothing is measured.
+//! The word behind the program's name says what to measure: `pairs`, `shuffle`, `state`, `registry`, `slot`, `block`,
+//! `attestation`, `operations` or `epoch`. Without a word nothing is measured.
 #![tactic(auto)]
 
 mod attestation;
 mod block;
-mod chain;
 mod epoch;
-mod kept;
 mod operations;
 mod pairs;
 mod ratio;
-mod record;
 mod shuffle;
 mod state;
 mod states;
 
 use anyhow::Result;
 use std::env;
-use std::rt::Files;
 use std::time::CpuClock;
 
 /// What is printed where no word names a measurement.
 const USAGE: &str =
-    "name what to measure: pairs, shuffle, state, registry, block, attestation, operations, epoch, record or kept";
+    "name what to measure: pairs, shuffle, state, registry, slot, block, attestation, operations or epoch";
 
 /// Measures what a word names.
-fn measure(rt: &(impl AllocGlobal + Print + CpuClock + Files), word: &str) -> Result<()> {
+fn measure(rt: &(impl AllocGlobal + Print + CpuClock), word: &str) -> Result<()> {
     match word {
         "pairs" => pairs::measure(rt),
         "shuffle" => shuffle::measure(rt),
         "state" => state::measure(rt, 16_384),
         "registry" => state::measure(rt, 262_144),
+        "slot" => state::measure_slot(rt),
         _ => measure_steps(rt, word),
     }
 }
 
 /// Measures what a word names among blocks and what they bring, and an epoch's end.
-fn measure_steps(rt: &(impl AllocGlobal + Print + CpuClock + Files), word: &str) -> Result<()> {
+fn measure_steps(rt: &(impl AllocGlobal + Print + CpuClock), word: &str) -> Result<()> {
     match word {
         "block" => block::measure(rt),
         "attestation" => attestation::measure(rt),
         "operations" => operations::measure(rt),
         "epoch" => epoch::measure(rt),
-        "record" => record::measure(rt),
-        "kept" => kept::measure(rt),
         _ => Ok(println!(rt; "{USAGE}")?),
     }
 }
