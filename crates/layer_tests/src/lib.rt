@@ -6,8 +6,6 @@ mod blocks;
 #[cfg(test)]
 mod changes;
 #[cfg(test)]
-mod clashes;
-#[cfg(test)]
 mod configuration;
 #[cfg(test)]
 mod containers;
