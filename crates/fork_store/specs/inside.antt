@@ -11,3 +11,4 @@ pub mod Votes
 pub mod Trees
 pub mod Genesis
 pub mod Events
+pub mod Arrays
