@@ -1,4 +1,4 @@
-//! Runs the program on recorded vote whose target is as many slots behind its block as it may be.
+//! Runs the program on a block, and on a vote's target, that takes as many slots as one event may.
 #![tactic(auto)]
 
 use anyhow::Result;
