@@ -12,3 +12,4 @@ pub mod Trees
 pub mod Genesis
 pub mod Events
 pub mod Arrays
+pub mod Chains
