@@ -12,3 +12,11 @@ pub mod AcceptedBlocks
 pub mod Steps
 pub mod Trees
 pub mod Events
+pub mod ArraysPlaces
+pub mod ArraysNodes
+pub mod ArraysAncestors
+pub mod ArraysVotes
+pub mod ArraysStates
+pub mod ArraysWeights
+pub mod ArraysSteps
+pub mod ArraysHead
