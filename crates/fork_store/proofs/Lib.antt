@@ -20,3 +20,6 @@ pub mod ArraysStates
 pub mod ArraysWeights
 pub mod ArraysSteps
 pub mod ArraysHead
+pub mod ArraysMessages
+pub mod ArraysGenesis
+pub mod Arrays

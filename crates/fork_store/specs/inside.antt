@@ -13,3 +13,4 @@ pub mod Genesis
 pub mod Events
 pub mod Arrays
 pub mod Chains
+pub mod ArrayVotes
