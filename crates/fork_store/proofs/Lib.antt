@@ -23,3 +23,9 @@ pub mod ArraysHead
 pub mod ArraysMessages
 pub mod ArraysGenesis
 pub mod Arrays
+pub mod ChainEpochs
+pub mod ChainWeights
+pub mod ChainPrefixes
+pub mod ChainSlots
+pub mod ChainBlocks
+pub mod Chains
