@@ -5,7 +5,9 @@
 use Rattle.std.proofs.Common.{◌≡◌, ◌∙◌, ℕ, ◌<◌, ◌&&◌, ◌==◌, Bool, true, false, not, nat_lt, cond, List, [], ◌∷◌, ◌++◌, Option, Some, None, is_some, if◌then◌else◌, refl, sym, ap, subst, arith, inl, inr}
 use Rattle.std.specs.Cmp.Lexicographic.{bytes_decides}
 use Rattle.std.proofs.lemmas.Bool.{and_parts, cases_lt, eqb-true, false≢true, ltb-true, not-false}
-use Rattle.bc_words.specs.Outcome.{Outcome, done, bind}
+use Rattle.bc_words.specs.Outcome.{Outcome, done, bind, Stops}
+use Rattle.bc_words.specs.declared.stop.Stop.{Stop}
+use Rattle.bc_words.specs.declared.stop.Stop.TheVariants.{Refused, Limit, NoMemory}
 use Rattle.bc_words.specs.declared.refusal.Refusal.TheVariants.{FcTargetUnknown}
 use Rattle.bc_preset.specs.declared.presets.Preset.{Preset}
 use Rattle.bc_preset.specs.declared.configuration.ConfigValues.{ConfigValues}
@@ -318,3 +320,9 @@ chained_justified_state_is_done store chained = reached_checkpoint_is_done store
 
 pub chained_best_justified_state_is_done : (store : Store) → IsChained store → IsDone (store_target_checkpoint_state store store.best_justified_checkpoint)
 chained_best_justified_state_is_done store chained = reached_checkpoint_is_done store store.best_justified_checkpoint chained.best_justified
+
+-- so a call whose outcome such a state is stops for want of memory alone
+pub done_stops : {A : Type 0} (stop : Stop) (outcome : Outcome A) → IsDone outcome → Stops stop outcome → stop ≡ NoMemory
+done_stops (Refused why) outcome value stops = absurd (false≢true (ap is_done (sym stops ∙ value.is)))
+done_stops (Limit bound) outcome value stops = absurd (false≢true (ap is_done (sym stops ∙ value.is)))
+done_stops NoMemory outcome value stops = refl
