@@ -92,7 +92,8 @@ module _ (store : Store) (a : PlainArray) (is : IsArrayOf store a) (good : IsSto
   head_is_kept = head_number store a is good.tree good.presets
 
 -- a kept block has a number
-pub found_number : (blocks : List KeptBlock) (root : List ℕ) (kept : KeptBlock) → block_of blocks root ≡ Some kept → number_of blocks root ≡ Some (place_of blocks root)
+pub found_number : (blocks : List KeptBlock) (root : List ℕ) (kept : KeptBlock) → block_of blocks root ≡ Some kept
+    → number_of blocks root ≡ Some (place_of blocks root)
 found_number blocks root kept found = number_found blocks root kept found
 
 -- ---- what keeps them related
@@ -105,11 +106,14 @@ module _ (store : Store) (a : PlainArray) (is : IsArrayOf store a) where
 
   -- a message of one validator, and of some
   pub vote_related : (validator epoch node : ℕ) (root : List ℕ) → node < length a.nodes → root_at a.nodes node ≡ root
-      → IsArrayOf (update_latest_message store (record { epoch = epoch; root = root }) validator) (array_messages.update_latest_message a validator (record { epoch = epoch; node = node }))
+      → IsArrayOf (update_latest_message store (record { epoch = epoch; root = root }) validator)
+      (array_messages.update_latest_message a validator (record { epoch = epoch; node = node }))
   vote_related validator epoch node root inside named = keeps_message store a is validator epoch node root inside named
 
-  pub votes_related : (validators : List ℕ) (attestation : Attestation) (node : ℕ) → node < length a.nodes → root_at a.nodes node ≡ attestation.content.beacon_block_root
-      → IsArrayOf (update_latest_messages store validators attestation) (updated_array a validators (record { epoch = attestation.content.target.epoch; node = node }))
+  pub votes_related : (validators : List ℕ) (attestation : Attestation) (node : ℕ) → node < length a.nodes
+      → root_at a.nodes node ≡ attestation.content.beacon_block_root
+      → IsArrayOf (update_latest_messages store validators attestation)
+      (updated_array a validators (record { epoch = attestation.content.target.epoch; node = node }))
   votes_related validators attestation node inside named = keeps_attestation store a is validators attestation node inside named
 
   -- another time, and another best justified checkpoint: the array stays
@@ -120,17 +124,22 @@ module _ (store : Store) (a : PlainArray) (is : IsArrayOf store a) where
   best_related checkpoint = keeps_best store a is checkpoint
 
   -- another boosted block, or none
-  pub boost_related : (root : List ℕ) (number : Option ℕ) → IsBoostedNode store.blocks root number → IsArrayOf (record store { proposer_boost_root = root }) (with_boost a number)
+  pub boost_related : (root : List ℕ) (number : Option ℕ) → IsBoostedNode store.blocks root number
+      → IsArrayOf (record store { proposer_boost_root = root }) (with_boost a number)
   boost_related root number boosted = keeps_boost store a is root number boosted
 
   -- other checkpoints, with the balances of the new justified one
-  pub checkpoints_related : (justified finalized : Checkpoint) (node : ℕ) (balances : List ℕ) (count total : ℕ) → number_of store.blocks justified.root ≡ Some node
+  pub checkpoints_related : (justified finalized : Checkpoint) (node : ℕ) (balances : List ℕ) (count total : ℕ)
+      → number_of store.blocks justified.root ≡ Some node
       → record { list = balances; count = count; total = total } ≡ balances_of (store_target_checkpoint_state store justified)
-      → IsArrayOf (record store { justified_checkpoint = justified; finalized_checkpoint = finalized }) (with_checkpoints (with_balances a balances count total) node justified finalized)
-  checkpoints_related justified finalized node balances count total numbered ready = keeps_checkpoints store a is justified finalized node balances count total numbered ready
+      → IsArrayOf (record store { justified_checkpoint = justified; finalized_checkpoint = finalized })
+      (with_checkpoints (with_balances a balances count total) node justified finalized)
+  checkpoints_related justified finalized node balances count total numbered ready = keeps_checkpoints store a is justified finalized node balances count
+      total numbered ready
 
   -- another finalized one: the balances stay
-  pub finalized_related : (finalized : Checkpoint) → IsArrayOf (record store { finalized_checkpoint = finalized }) (with_checkpoints a a.justified_node store.justified_checkpoint finalized)
+  pub finalized_related : (finalized : Checkpoint) → IsArrayOf (record store { finalized_checkpoint = finalized })
+      (with_checkpoints a a.justified_node store.justified_checkpoint finalized)
   finalized_related finalized = keeps_finalized store a is finalized a.justified_node is.justified_node
 
   -- weights and head made, and room made
@@ -152,6 +161,9 @@ boosted_none blocks root is_zero = is_zero
 -- ---- at genesis
 
 pub genesis_related : (config : ConfigValues) (genesis : PlainState) (balances : List ℕ) (count total : ℕ) → genesis_clash genesis ≡ None
-    → record { list = balances; count = count; total = total } ≡ balances_of (store_target_checkpoint_state (get_forkchoice_store config genesis) (get_forkchoice_store config genesis).justified_checkpoint)
-    → IsArrayOf (get_forkchoice_store config genesis) (with_balances (new_array config.preset.slots_per_epoch config.proposer_score_boost 0 (block_codec.hash_tree_root (genesis_block genesis)) (facts_of genesis)) balances count total)
+    → record { list = balances; count = count; total = total } ≡ balances_of
+    (store_target_checkpoint_state (get_forkchoice_store config genesis) (get_forkchoice_store config genesis).justified_checkpoint)
+    → IsArrayOf (get_forkchoice_store config genesis) (with_balances
+    (new_array config.preset.slots_per_epoch config.proposer_score_boost 0 (block_codec.hash_tree_root (genesis_block genesis)) (facts_of genesis))
+    balances count total)
 genesis_related config genesis balances count total none ready = genesis_array config genesis balances count total none ready

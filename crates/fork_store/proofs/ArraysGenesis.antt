@@ -21,7 +21,8 @@ pub unclashed_by : (b : Bool) (rest : Option ClashKind) (kind : ClashKind) → c
 unclashed_by true rest kind h = absurd cc
 unclashed_by false rest kind h = refl
 
-pub unclashed_root : (blocks : List KeptBlock) (root state_root : List ℕ) (block : BeaconBlock) → clash_of blocks root state_root block ≡ None → same_root root zero_root ≡ false
+pub unclashed_root : (blocks : List KeptBlock) (root state_root : List ℕ) (block : BeaconBlock) → clash_of blocks root state_root block ≡ None
+    → same_root root zero_root ≡ false
 unfolding clash_of
 unclashed_root blocks root state_root block h = unclashed_by (same_root root zero_root) _ _ h
 
@@ -34,9 +35,13 @@ unfolding is_kept block_of
 one_unkept kept h = ap (λ b. is_some (cond b (Some kept) None)) h
 
 pub genesis_array : (config : ConfigValues) (genesis : PlainState) (balances : List ℕ) (count total : ℕ) → genesis_clash genesis ≡ None
-    → record { list = balances; count = count; total = total } ≡ balances_of (store_target_checkpoint_state (get_forkchoice_store config genesis) (get_forkchoice_store config genesis).justified_checkpoint)
-    → IsArrayOf (get_forkchoice_store config genesis) (with_balances (new_array config.preset.slots_per_epoch config.proposer_score_boost 0 (block_codec.hash_tree_root (genesis_block genesis)) (facts_of genesis)) balances count total)
-unfolding get_forkchoice_store genesis_block genesis_clash nodes_of nodes_behind node_of number_of is_kept block_of messages_at BeginsAtZero IsBoostedNode balances_at
+    → record { list = balances; count = count; total = total } ≡ balances_of
+    (store_target_checkpoint_state (get_forkchoice_store config genesis) (get_forkchoice_store config genesis).justified_checkpoint)
+    → IsArrayOf (get_forkchoice_store config genesis) (with_balances
+    (new_array config.preset.slots_per_epoch config.proposer_score_boost 0 (block_codec.hash_tree_root (genesis_block genesis)) (facts_of genesis))
+    balances count total)
+unfolding get_forkchoice_store genesis_block genesis_clash nodes_of nodes_behind node_of number_of is_kept block_of messages_at BeginsAtZero IsBoostedNode
+    balances_at
 genesis_array config genesis balances count total none ready =
     let root : List ℕ = block_codec.hash_tree_root (genesis_block genesis) in
     let kept : KeptBlock = record { root = root; block = genesis_block genesis; state = genesis } in

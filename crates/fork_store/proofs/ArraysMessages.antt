@@ -19,21 +19,24 @@ use Rattle.fork_store.proofs.ArraysVotes.{read_mapped}
 
 -- ---- one message
 
-with_mapped : (nodes : List Node) (ms : List (Option Message)) (validator : ℕ) (m : Message) → with_message (messages_at nodes ms) validator (message_at nodes m) ≡ messages_at nodes (array.with_message ms validator m)
+with_mapped : (nodes : List Node) (ms : List (Option Message)) (validator : ℕ) (m : Message)
+    → with_message (messages_at nodes ms) validator (message_at nodes m) ≡ messages_at nodes (array.with_message ms validator m)
 unfolding with_message array.with_message messages_at
 with_mapped nodes [] zero m = refl
 with_mapped nodes [] (suc validator) m = ap (λ (xs : List (Option LatestMessage)). None ∷ xs) (with_mapped nodes [] validator m)
 with_mapped nodes (first ∷ ms) zero m = refl
 with_mapped nodes (first ∷ ms) (suc validator) m = ap (λ xs. option_map (message_at nodes) first ∷ xs) (with_mapped nodes ms validator m)
 
-with_voted : (count : ℕ) (ms : List (Option Message)) (validator : ℕ) (m : Message) → m.node < count → AllByRecursion (IsForNode count) ms → AllByRecursion (IsForNode count) (array.with_message ms validator m)
+with_voted : (count : ℕ) (ms : List (Option Message)) (validator : ℕ) (m : Message) → m.node < count → AllByRecursion (IsForNode count) ms
+    → AllByRecursion (IsForNode count) (array.with_message ms validator m)
 unfolding array.with_message IsForNode
 with_voted count [] zero m inside all = (inside, tt)
 with_voted count [] (suc validator) m inside all = (tt, with_voted count [] validator m inside tt)
 with_voted count (first ∷ ms) zero m inside all = (inside, all.1)
 with_voted count (first ∷ ms) (suc validator) m inside all = (all.0, with_voted count ms validator m inside all.1)
 
-news_by : (nodes : List Node) (epoch : ℕ) (o : Option Message) → option_map_or (λ old. nat_lt old.epoch epoch) (option_map (message_at nodes) o) true ≡ option_map_or (λ old. nat_lt old.epoch epoch) o true
+news_by : (nodes : List Node) (epoch : ℕ) (o : Option Message)
+    → option_map_or (λ old. nat_lt old.epoch epoch) (option_map (message_at nodes) o) true ≡ option_map_or (λ old. nat_lt old.epoch epoch) o true
 unfolding message_at
 news_by nodes epoch None = refl
 news_by nodes epoch (Some m) = refl
@@ -57,7 +60,8 @@ module _ (store : Store) (a : PlainArray) (is : IsArrayOf store a) (validator : 
       ∙ news_by a.nodes epoch (slice_index_or a.latest_messages validator None)
 
   module _ (epoch node : ℕ) (root : List ℕ) (inside : node < length a.nodes) (named : root_at a.nodes node ≡ root) where
-    keeps_vote : IsArrayOf (record store { latest_messages = with_message store.latest_messages validator (record { epoch = epoch; root = root }) }) (array.voted a validator (record { epoch = epoch; node = node }))
+    keeps_vote : IsArrayOf (record store { latest_messages = with_message store.latest_messages validator (record { epoch = epoch; root = root }) })
+        (array.voted a validator (record { epoch = epoch; node = node }))
     unfolding array.voted store_target_checkpoint_state state_at balances_at
     keeps_vote = record {
       slots_per_epoch = is.slots_per_epoch;
@@ -73,14 +77,16 @@ module _ (store : Store) (a : PlainArray) (is : IsArrayOf store a) (validator : 
       boosted_node = is.boosted_node;
     }
       where
-        moved : with_message store.latest_messages validator (record { epoch = epoch; root = root }) ≡ messages_at a.nodes (array.with_message a.latest_messages validator (record { epoch = epoch; node = node }))
+        moved : with_message store.latest_messages validator (record { epoch = epoch; root = root }) ≡ messages_at a.nodes
+            (array.with_message a.latest_messages validator (record { epoch = epoch; node = node }))
         moved =
             ap₂ (λ ms r. with_message ms validator (record { epoch = epoch; root = r })) is.messages (sym named)
             ∙ ap (with_message (messages_at a.nodes a.latest_messages) validator) (message_is a.nodes (record { epoch = epoch; node = node }))
             ∙ with_mapped a.nodes a.latest_messages validator (record { epoch = epoch; node = node })
 
     -- one validator's message
-    pub keeps_message : IsArrayOf (update_latest_message store (record { epoch = epoch; root = root }) validator) (array.update_latest_message a validator (record { epoch = epoch; node = node }))
+    pub keeps_message : IsArrayOf (update_latest_message store (record { epoch = epoch; root = root }) validator)
+        (array.update_latest_message a validator (record { epoch = epoch; node = node }))
     unfolding update_latest_message array.update_latest_message
     keeps_message = chosen (is_news store validator epoch) (array.is_news a validator epoch) _ _ _ _ (same_news epoch) keeps_vote is
 
@@ -100,27 +106,34 @@ unfolding updated_array
 votes_nodes a [] m = refl
 votes_nodes a (validator ∷ validators) m = votes_nodes (array.update_latest_message a validator m) validators m ∙ message_nodes a validator m
 
-pub keeps_messages : (store : Store) (a : PlainArray) → IsArrayOf store a → (validators : List ℕ) (epoch node : ℕ) (root : List ℕ) → node < length a.nodes → root_at a.nodes node ≡ root
-    → IsArrayOf (fold (λ updated validator. update_latest_message updated (record { epoch = epoch; root = root }) validator) store validators) (updated_array a validators (record { epoch = epoch; node = node }))
+pub keeps_messages : (store : Store) (a : PlainArray) → IsArrayOf store a → (validators : List ℕ) (epoch node : ℕ) (root : List ℕ) → node < length a.nodes
+    → root_at a.nodes node ≡ root
+    → IsArrayOf (fold (λ updated validator. update_latest_message updated (record { epoch = epoch; root = root }) validator) store validators)
+    (updated_array a validators (record { epoch = epoch; node = node }))
 unfolding updated_array
 keeps_messages store a is [] epoch node root inside named = is
 keeps_messages store a is (validator ∷ validators) epoch node root inside named =
     let m : Message = record { epoch = epoch; node = node } in
     let same : (array.update_latest_message a validator m).nodes ≡ a.nodes = message_nodes a validator m in
-    keeps_messages (update_latest_message store (record { epoch = epoch; root = root }) validator) (array.update_latest_message a validator m) (keeps_message store a is validator epoch node root inside named) validators epoch node root
+    keeps_messages (update_latest_message store (record { epoch = epoch; root = root }) validator) (array.update_latest_message a validator m)
+    (keeps_message store a is validator epoch node root inside named) validators epoch node root
     (subst (λ (nodes : List Node). node < length nodes) (sym same) inside) (ap (λ nodes. root_at nodes node) same ∙ named)
 
-pub keeps_attestation : (store : Store) (a : PlainArray) → IsArrayOf store a → (validators : List ℕ) (attestation : Attestation) (node : ℕ) → node < length a.nodes → root_at a.nodes node ≡ attestation.content.beacon_block_root
-    → IsArrayOf (update_latest_messages store validators attestation) (updated_array a validators (record { epoch = attestation.content.target.epoch; node = node }))
+pub keeps_attestation : (store : Store) (a : PlainArray) → IsArrayOf store a → (validators : List ℕ) (attestation : Attestation) (node : ℕ)
+    → node < length a.nodes → root_at a.nodes node ≡ attestation.content.beacon_block_root
+    → IsArrayOf (update_latest_messages store validators attestation)
+    (updated_array a validators (record { epoch = attestation.content.target.epoch; node = node }))
 unfolding update_latest_messages
-keeps_attestation store a is validators attestation node inside named = keeps_messages store a is validators attestation.content.target.epoch node attestation.content.beacon_block_root inside named
+keeps_attestation store a is validators attestation node inside named = keeps_messages store a is validators attestation.content.target.epoch node
+    attestation.content.beacon_block_root inside named
 
 -- ---- a loop over them
 
 pub votes_begin : (a : PlainArray) (validators : List ℕ) (m : Message) → updated_array a (drop 0 validators) m ≡ updated_array a validators m
 votes_begin a validators m = refl
 
-pub votes_step : (a : PlainArray) (validators : List ℕ) (m : Message) (i : ℕ) → i < length validators → updated_array a (drop i validators) m ≡ updated_array (array.update_latest_message a (get_or validators i 0) m) (drop (i + 1) validators) m
+pub votes_step : (a : PlainArray) (validators : List ℕ) (m : Message) (i : ℕ) → i < length validators
+    → updated_array a (drop i validators) m ≡ updated_array (array.update_latest_message a (get_or validators i 0) m) (drop (i + 1) validators) m
 unfolding updated_array
 votes_step a validators m i inside =
     ap (λ xs. updated_array a xs m) (drop-cons validators i 0 inside)

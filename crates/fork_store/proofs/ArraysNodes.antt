@@ -1,5 +1,5 @@
 -- The node in the place of a kept block.
-use Rattle.std.proofs.Common.{◌≡◌, ℕ, zero, suc, ◌+◌, ◌<◌, ◌⊎◌, inl, inr, List, [], ◌∷◌, ◌++◌, length, take, drop, Option, Some, None, slice_get, refl, sym, ap, subst, ◌∙◌, arith}
+use Rattle.std.proofs.Common.{◌≡◌, ℕ, zero, suc, ◌<◌, ◌⊎◌, inl, inr, List, [], ◌∷◌, ◌++◌, length, take, drop, Option, Some, None, slice_get, refl, sym, ap, subst, ◌∙◌, arith}
 use Rattle.std.specs.Option.{option_map_or, option_and_then}
 use Rattle.std.proofs.lemmas.List.{append-nil, append_assoc}
 use Rattle.block_array.specs.declared.node.Node.{Node}
@@ -13,7 +13,8 @@ use Rattle.fork_store.proofs.ArraysPlaces.{at_number, number_more, number_fresh,
 
 -- ---- behind others
 
-node_behind : (before later : List KeptBlock) (n : ℕ) (kept : KeptBlock) → slice_get later n ≡ Some kept → slice_get (nodes_behind before later) n ≡ Some (node_of (before ++ take n later) kept)
+node_behind : (before later : List KeptBlock) (n : ℕ) (kept : KeptBlock) → slice_get later n ≡ Some kept
+    → slice_get (nodes_behind before later) n ≡ Some (node_of (before ++ take n later) kept)
 unfolding nodes_behind
 node_behind before [] n kept h = absurd cc
 node_behind before (k ∷ later) zero kept h =
@@ -22,7 +23,8 @@ node_behind before (k ∷ later) zero kept h =
 node_behind before (k ∷ later) (suc n) kept h =
     node_behind (before ++ k ∷ []) later n kept h ∙ ap (λ b. Some (node_of b kept)) (append_assoc before (k ∷ []) (take n later))
 
-follows_behind : (before later : List KeptBlock) (n : ℕ) (kept : KeptBlock) → IsTreeBehind before later → slice_get later n ≡ Some kept → Follows (before ++ take n later) kept
+follows_behind : (before later : List KeptBlock) (n : ℕ) (kept : KeptBlock) → IsTreeBehind before later → slice_get later n ≡ Some kept
+    → Follows (before ++ take n later) kept
 unfolding IsTreeBehind
 follows_behind before [] n kept tree h = absurd cc
 follows_behind before (k ∷ later) zero kept tree h =
@@ -36,7 +38,8 @@ unfolding nodes_behind
 length_behind before [] = refl
 length_behind before (k ∷ later) = ap suc (length_behind (before ++ k ∷ []) later)
 
-push_behind : (before later : List KeptBlock) (kept : KeptBlock) → nodes_behind before (later ++ kept ∷ []) ≡ nodes_behind before later ++ node_of (before ++ later) kept ∷ []
+push_behind : (before later : List KeptBlock) (kept : KeptBlock)
+    → nodes_behind before (later ++ kept ∷ []) ≡ nodes_behind before later ++ node_of (before ++ later) kept ∷ []
 unfolding nodes_behind
 push_behind before [] kept = ap (λ b. node_of b kept ∷ []) (sym (append-nil before))
 push_behind before (k ∷ later) kept =
@@ -53,7 +56,8 @@ pub nodes_push : (blocks : List KeptBlock) (kept : KeptBlock) → nodes_of (bloc
 unfolding nodes_of
 nodes_push blocks kept = push_behind [] blocks kept
 
-pub first_block : (blocks : List KeptBlock) (n : ℕ) (kept : KeptBlock) → BeginsAtZero blocks → take n blocks ≡ [] → slice_get blocks n ≡ Some kept → (kept.block.slot ≡ 0) × (kept.block.parent_root ≡ zero_root)
+pub first_block : (blocks : List KeptBlock) (n : ℕ) (kept : KeptBlock) → BeginsAtZero blocks → take n blocks ≡ [] → slice_get blocks n ≡ Some kept
+    → (kept.block.slot ≡ 0) × (kept.block.parent_root ≡ zero_root)
 unfolding BeginsAtZero
 first_block [] n kept begins none h = absurd cc
 first_block (k ∷ blocks) zero kept begins none h =
@@ -108,12 +112,14 @@ module _ (blocks : List KeptBlock) (tree : IsTree blocks) where
         let numbered : number_of (take n blocks) kept.block.parent_root ≡ Some p = number_found (take n blocks) kept.block.parent_root has.parent has.found in
         record {
           parent = p;
-          number = subst (λ (l : List KeptBlock). number_of l kept.block.parent_root ≡ Some p) (cut blocks n) (number_more (take n blocks) (drop n blocks) kept.block.parent_root p numbered);
+          number = subst (λ (l : List KeptBlock). number_of l kept.block.parent_root ≡ Some p) (cut blocks n)
+              (number_more (take n blocks) (drop n blocks) kept.block.parent_root p numbered);
           node = parent_here ∙ numbered;
         }
 
     -- it has one among them, or it is the first
-    pub parent_cases : BeginsAtZero blocks → ((kept.block.slot ≡ 0) × (kept.block.parent_root ≡ zero_root) × (parent_at (nodes_of blocks) n ≡ None)) ⊎ HasParentNode blocks n kept
+    pub parent_cases : BeginsAtZero blocks → ((kept.block.slot ≡ 0) × (kept.block.parent_root ≡ zero_root) × (parent_at (nodes_of blocks) n ≡ None)) ⊎
+        HasParentNode blocks n kept
     parent_cases begins = elim follows_here.parent [
       | inl none ↦
           let first = first_block blocks n kept begins none here in

@@ -20,16 +20,19 @@ is_same a b e = (pointwise_decides unsigned_Decides a b).1 e
 
 -- ---- one block in front of others
 
-opens_by : (b : Bool) (kept : KeptBlock) (o : Option KeptBlock) (p : ℕ) → cond (is_some (cond b (Some kept) o)) (Some (cond (not b) (1 + p) 0)) None ≡ cond b (Some 0) (option_map (λ n. 1 + n) (cond (is_some o) (Some p) None))
+opens_by : (b : Bool) (kept : KeptBlock) (o : Option KeptBlock) (p : ℕ)
+    → cond (is_some (cond b (Some kept) o)) (Some (cond (not b) (1 + p) 0)) None ≡ cond b (Some 0) (option_map (λ n. 1 + n) (cond (is_some o) (Some p) None))
 opens_by true kept o p = refl
 opens_by false kept None p = refl
 opens_by false kept (Some other) p = refl
 
-number_opens : (kept : KeptBlock) (blocks : List KeptBlock) (root : List ℕ) → number_of (kept ∷ blocks) root ≡ cond (same_root kept.root root) (Some 0) (option_map (λ n. 1 + n) (number_of blocks root))
+number_opens : (kept : KeptBlock) (blocks : List KeptBlock) (root : List ℕ)
+    → number_of (kept ∷ blocks) root ≡ cond (same_root kept.root root) (Some 0) (option_map (λ n. 1 + n) (number_of blocks root))
 unfolding number_of is_kept block_of place_of
 number_opens kept blocks root = opens_by (same_root kept.root root) kept (block_of blocks root) (place_of blocks root)
 
-block_opens : (kept : KeptBlock) (blocks : List KeptBlock) (root : List ℕ) → block_of (kept ∷ blocks) root ≡ cond (same_root kept.root root) (Some kept) (block_of blocks root)
+block_opens : (kept : KeptBlock) (blocks : List KeptBlock) (root : List ℕ)
+    → block_of (kept ∷ blocks) root ≡ cond (same_root kept.root root) (Some kept) (block_of blocks root)
 unfolding block_of
 block_opens kept blocks root = refl
 
@@ -49,7 +52,8 @@ pub record IsAt (blocks : List KeptBlock) (root : List ℕ) (number : ℕ) : Typ
   pub named : kept.root ≡ root
   pub found : block_of blocks root ≡ Some kept
 
-at_by : (k : KeptBlock) (blocks : List KeptBlock) (root : List ℕ) (n : ℕ) → ((m : ℕ) → number_of blocks root ≡ Some m → IsAt blocks root m) → (b : Bool) → same_root k.root root ≡ b → (o : Option ℕ) → number_of blocks root ≡ o
+at_by : (k : KeptBlock) (blocks : List KeptBlock) (root : List ℕ) (n : ℕ) → ((m : ℕ) → number_of blocks root ≡ Some m → IsAt blocks root m) → (b : Bool)
+    → same_root k.root root ≡ b → (o : Option ℕ) → number_of blocks root ≡ o
     → cond b (Some 0) (option_map (λ m. 1 + m) o) ≡ Some n → IsAt (k ∷ blocks) root n
 at_by k blocks root n ih true e o oe h =
     let zero_is : 0 ≡ n = same_Some 0 n h in
@@ -81,7 +85,8 @@ number_inside blocks root n h = let here = at_number blocks root n h in slice_ge
 
 -- ---- more blocks behind
 
-more_by : (b : Bool) (o p : Option ℕ) (n : ℕ) → ((m : ℕ) → o ≡ Some m → p ≡ Some m) → cond b (Some 0) (option_map (λ m. 1 + m) o) ≡ Some n → cond b (Some 0) (option_map (λ m. 1 + m) p) ≡ Some n
+more_by : (b : Bool) (o p : Option ℕ) (n : ℕ) → ((m : ℕ) → o ≡ Some m → p ≡ Some m) → cond b (Some 0) (option_map (λ m. 1 + m) o) ≡ Some n
+    → cond b (Some 0) (option_map (λ m. 1 + m) p) ≡ Some n
 more_by true o p n ih h = h
 more_by false None p n ih h = absurd cc
 more_by false (Some m) p n ih h = ap (option_map (λ j. 1 + j)) (ih m refl) ∙ h
@@ -92,7 +97,8 @@ number_more (k ∷ xs) ys root n h =
     number_opens k (xs ++ ys) root
     ∙ more_by (same_root k.root root) (number_of xs root) (number_of (xs ++ ys) root) n (λ m is. number_more xs ys root m is) (sym (number_opens k xs root) ∙ h)
 
-block_more_by : (b : Bool) (k kept : KeptBlock) (o p : Option KeptBlock) → (o ≡ Some kept → p ≡ Some kept) → cond b (Some k) o ≡ Some kept → cond b (Some k) p ≡ Some kept
+block_more_by : (b : Bool) (k kept : KeptBlock) (o p : Option KeptBlock) → (o ≡ Some kept → p ≡ Some kept) → cond b (Some k) o ≡ Some kept
+    → cond b (Some k) p ≡ Some kept
 block_more_by true k kept o p ih h = h
 block_more_by false k kept o p ih h = ih h
 
@@ -100,11 +106,13 @@ pub block_more : (xs ys : List KeptBlock) (root : List ℕ) (kept : KeptBlock) �
 block_more [] ys root kept h = let e : None ≡ Some kept = sym (no_block root) ∙ h in absurd cc
 block_more (k ∷ xs) ys root kept h =
     block_opens k (xs ++ ys) root
-    ∙ block_more_by (same_root k.root root) k kept (block_of xs root) (block_of (xs ++ ys) root) (λ is. block_more xs ys root kept is) (sym (block_opens k xs root) ∙ h)
+    ∙ block_more_by (same_root k.root root) k kept (block_of xs root) (block_of (xs ++ ys) root) (λ is. block_more xs ys root kept is)
+    (sym (block_opens k xs root) ∙ h)
 
 -- ---- a fresh block's number
 
-pub number_found : (blocks : List KeptBlock) (root : List ℕ) (kept : KeptBlock) → block_of blocks root ≡ Some kept → number_of blocks root ≡ Some (place_of blocks root)
+pub number_found : (blocks : List KeptBlock) (root : List ℕ) (kept : KeptBlock) → block_of blocks root ≡ Some kept
+    → number_of blocks root ≡ Some (place_of blocks root)
 unfolding number_of is_kept
 number_found blocks root kept h = ap (λ o. cond (is_some o) (Some (place_of blocks root)) None) h
 
@@ -112,15 +120,18 @@ none_by : (b : Bool) (k : KeptBlock) (o : Option KeptBlock) → is_some (cond b 
 none_by true k o h = absurd cc
 none_by false k o h = (refl, h)
 
-pub none_opens : (k : KeptBlock) (blocks : List KeptBlock) (root : List ℕ) → is_kept (k ∷ blocks) root ≡ false → (same_root k.root root ≡ false) × (is_kept blocks root ≡ false)
+pub none_opens : (k : KeptBlock) (blocks : List KeptBlock) (root : List ℕ) → is_kept (k ∷ blocks) root ≡ false
+    → (same_root k.root root ≡ false) × (is_kept blocks root ≡ false)
 unfolding is_kept block_of
 none_opens k blocks root h = none_by (same_root k.root root) k (block_of blocks root) h
 
-pub number_fresh : (blocks : List KeptBlock) (n : ℕ) (kept : KeptBlock) → slice_get blocks n ≡ Some kept → is_kept (take n blocks) kept.root ≡ false → number_of blocks kept.root ≡ Some n
+pub number_fresh : (blocks : List KeptBlock) (n : ℕ) (kept : KeptBlock) → slice_get blocks n ≡ Some kept → is_kept (take n blocks) kept.root ≡ false
+    → number_of blocks kept.root ≡ Some n
 number_fresh [] n kept h fresh = absurd cc
 number_fresh (k ∷ blocks) zero kept h fresh =
     let same : k ≡ kept = cc in
-    number_opens k blocks kept.root ∙ ap (λ b. cond b (Some 0) (option_map (λ m. 1 + m) (number_of blocks kept.root))) (is_same k.root kept.root (ap (λ (x : KeptBlock). x.root) same))
+    number_opens k blocks kept.root ∙ ap (λ b. cond b (Some 0) (option_map (λ m. 1 + m) (number_of blocks kept.root)))
+    (is_same k.root kept.root (ap (λ (x : KeptBlock). x.root) same))
 number_fresh (k ∷ blocks) (suc n) kept h fresh =
     let parts = none_opens k (take n blocks) kept.root fresh in
     let next : 1 + n ≡ suc n = omega arith in

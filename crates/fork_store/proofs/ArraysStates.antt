@@ -47,9 +47,11 @@ unfolding kept_or
 kept_is why None kept is = absurd cc
 kept_is why (Some other) kept is = ap Some (same_value other kept is)
 
-pub checkpoint_preset : (store : Store) (checkpoint : Checkpoint) (state : PlainState) → AllByRecursion (HasPreset store.config.preset) store.blocks → store_target_checkpoint_state store checkpoint ≡ done state → state.preset ≡ store.config.preset
+pub checkpoint_preset : (store : Store) (checkpoint : Checkpoint) (state : PlainState) → AllByRecursion (HasPreset store.config.preset) store.blocks
+    → store_target_checkpoint_state store checkpoint ≡ done state → state.preset ≡ store.config.preset
 unfolding store_target_checkpoint_state
 checkpoint_preset store checkpoint state presets is =
     let found = on_the_way _ (λ kept. state_at store kept.state (start_slot_of store checkpoint)) state is in
     state_preset store found.value.state state (start_slot_of store checkpoint) found.then_done
-    ∙ found_preset store.config.preset store.blocks checkpoint.root found.value presets (sym (kept_is _ (block_of store.blocks checkpoint.root) found.value found.first))
+    ∙ found_preset store.config.preset store.blocks checkpoint.root found.value presets
+    (sym (kept_is _ (block_of store.blocks checkpoint.root) found.value found.first))

@@ -29,7 +29,8 @@ module _ (nodes more : List Node) where
   message_front : (o : Option Message) → IsForNode (length nodes) o → option_map (message_at (nodes ++ more)) o ≡ option_map (message_at nodes) o
   unfolding IsForNode message_at root_at
   message_front None inside = refl
-  message_front (Some m) inside = ap (λ (o : Option Node). Some (record { epoch = m.epoch; root = option_map_or (λ node. node.root) o [] })) (get_front nodes more m.node inside)
+  message_front (Some m) inside = ap (λ (o : Option Node). Some (record { epoch = m.epoch; root = option_map_or (λ node. node.root) o [] }))
+      (get_front nodes more m.node inside)
 
   pub messages_front : (ms : List (Option Message)) → AllByRecursion (IsForNode (length nodes)) ms → messages_at (nodes ++ more) ms ≡ messages_at nodes ms
   unfolding messages_at
@@ -47,7 +48,8 @@ voted_more m n h (o ∷ ms) all = (node_of_more m n h o all.0, voted_more m n h 
 
 -- ---- roots under a block more
 
-unkept_opens : (k : KeptBlock) (blocks : List KeptBlock) (root : List ℕ) → same_root k.root root ≡ false → is_kept blocks root ≡ false → is_kept (k ∷ blocks) root ≡ false
+unkept_opens : (k : KeptBlock) (blocks : List KeptBlock) (root : List ℕ) → same_root k.root root ≡ false → is_kept blocks root ≡ false
+    → is_kept (k ∷ blocks) root ≡ false
 unfolding is_kept block_of
 unkept_opens k blocks root here later = ap (λ b. is_some (cond b (Some k) (block_of blocks root))) here ∙ later
 
@@ -55,7 +57,8 @@ unkept_nil : (root : List ℕ) → is_kept [] root ≡ false
 unfolding is_kept block_of
 unkept_nil root = refl
 
-pub unkept_push : (blocks : List KeptBlock) (kept : KeptBlock) (root : List ℕ) → is_kept blocks root ≡ false → same_root kept.root root ≡ false → is_kept (blocks ++ kept ∷ []) root ≡ false
+pub unkept_push : (blocks : List KeptBlock) (kept : KeptBlock) (root : List ℕ) → is_kept blocks root ≡ false → same_root kept.root root ≡ false
+    → is_kept (blocks ++ kept ∷ []) root ≡ false
 unkept_push [] kept root none here = unkept_opens kept [] root here (unkept_nil root)
 unkept_push (k ∷ blocks) kept root none here =
     let parts = none_opens k blocks root none in
@@ -93,7 +96,8 @@ module _ (store : Store) (a : PlainArray) (is : IsArrayOf store a) where
         percent = is.percent;
         nodes =
             ap (λ nodes. nodes ++ node ∷ []) is.nodes
-            ∙ ap (λ p. nodes_of store.blocks ++ record { parent = p; slot = kept.block.slot; root = kept.root; facts = facts_of kept.state } ∷ []) (sym numbered)
+            ∙ ap (λ p. nodes_of store.blocks ++ record { parent = p; slot = kept.block.slot; root = kept.root; facts = facts_of kept.state } ∷ [])
+            (sym numbered)
             ∙ sym (nodes_push store.blocks kept);
         rooted = record {
           begins = begins_push store.blocks kept (omega arith) is.rooted.begins;
@@ -144,7 +148,8 @@ module _ (store : Store) (a : PlainArray) (is : IsArrayOf store a) where
     boosted_node = is.boosted_node;
   }
 
-  pub keeps_boost : (root : List ℕ) (number : Option ℕ) → IsBoostedNode store.blocks root number → IsArrayOf (record store { proposer_boost_root = root }) (with_boost a number)
+  pub keeps_boost : (root : List ℕ) (number : Option ℕ) → IsBoostedNode store.blocks root number
+      → IsArrayOf (record store { proposer_boost_root = root }) (with_boost a number)
   unfolding store_target_checkpoint_state state_at balances_at
   keeps_boost root number boosted = record {
     slots_per_epoch = is.slots_per_epoch;
@@ -160,9 +165,11 @@ module _ (store : Store) (a : PlainArray) (is : IsArrayOf store a) where
     boosted_node = boosted;
   }
 
-  pub keeps_checkpoints : (justified finalized : Checkpoint) (node : ℕ) (balances : List ℕ) (count total : ℕ) → number_of store.blocks justified.root ≡ Some node
+  pub keeps_checkpoints : (justified finalized : Checkpoint) (node : ℕ) (balances : List ℕ) (count total : ℕ)
+      → number_of store.blocks justified.root ≡ Some node
       → record { list = balances; count = count; total = total } ≡ balances_of (store_target_checkpoint_state store justified)
-      → IsArrayOf (record store { justified_checkpoint = justified; finalized_checkpoint = finalized }) (with_checkpoints (with_balances a balances count total) node justified finalized)
+      → IsArrayOf (record store { justified_checkpoint = justified; finalized_checkpoint = finalized })
+      (with_checkpoints (with_balances a balances count total) node justified finalized)
   unfolding store_target_checkpoint_state state_at balances_at
   keeps_checkpoints justified finalized node balances count total numbered ready = record {
     slots_per_epoch = is.slots_per_epoch;

@@ -18,7 +18,8 @@ use Rattle.fork_store.proofs.ArraysPlaces.{same_is, is_same}
 use Rattle.fork_store.proofs.ArraysNodes.{length_nodes, root_number}
 use Rattle.fork_store.proofs.ArraysAncestors.{on_chain}
 
-pub read_mapped : {A B : Type 0} (f : A → B) (xs : List (Option A)) (i : ℕ) → slice_index_or (map (option_map f) xs) i None ≡ option_map f (slice_index_or xs i None)
+pub read_mapped : {A B : Type 0} (f : A → B) (xs : List (Option A)) (i : ℕ)
+    → slice_index_or (map (option_map f) xs) i None ≡ option_map f (slice_index_or xs i None)
 read_mapped f [] i = refl
 read_mapped f (x ∷ xs) zero = refl
 read_mapped f (x ∷ xs) (suc i) = read_mapped f xs i
@@ -33,9 +34,11 @@ pub zero_has_none : (blocks : List KeptBlock) → is_kept blocks zero_root ≡ f
 unfolding number_of
 zero_has_none blocks h = ap (λ b. cond b (Some (place_of blocks zero_root)) None) h
 
-pub not_zero : (blocks : List KeptBlock) (root : List ℕ) (n : ℕ) → is_kept blocks zero_root ≡ false → number_of blocks root ≡ Some n → same_root root zero_root ≡ false
+pub not_zero : (blocks : List KeptBlock) (root : List ℕ) (n : ℕ) → is_kept blocks zero_root ≡ false → number_of blocks root ≡ Some n
+    → same_root root zero_root ≡ false
 not_zero blocks root n h numbered =
-    false_from_ne_true (same_root root zero_root) (λ t. let e : None ≡ Some n = sym (zero_has_none blocks h) ∙ ap (number_of blocks) (sym (same_is root zero_root t)) ∙ numbered in absurd cc)
+    false_from_ne_true (same_root root zero_root) (λ t. let e : None ≡ Some n = sym (zero_has_none blocks h) ∙ ap (number_of blocks)
+    (sym (same_is root zero_root t)) ∙ numbered in absurd cc)
 
 module _ (store : Store) (a : PlainArray) (is : IsArrayOf store a) (tree : IsTree store.blocks) where
   pub same_length : length a.nodes ≡ length store.blocks
@@ -57,7 +60,8 @@ module _ (store : Store) (a : PlainArray) (is : IsArrayOf store a) (tree : IsTre
         ∙ on_chain store tree is.rooted.begins root n numbered (root_at (nodes_of store.blocks) m) m (root_number store.blocks tree m less)
         ∙ ap (λ nodes. weights.is_on_chain_of nodes n m) (sym is.nodes)
 
-    votes_by : (o : Option Message) → IsForNode (length a.nodes) o → option_map_or (λ m. is_on_chain_of store root m.root) (option_map (message_at a.nodes) o) false ≡ option_map_or (λ m. weights.is_on_chain_of a.nodes n m.node) o false
+    votes_by : (o : Option Message) → IsForNode (length a.nodes) o → option_map_or (λ m. is_on_chain_of store root m.root) (option_map (message_at a.nodes) o)
+        false ≡ option_map_or (λ m. weights.is_on_chain_of a.nodes n m.node) o false
     unfolding IsForNode message_at
     votes_by None inside = refl
     votes_by (Some m) inside = chain_at m.node inside
@@ -68,7 +72,8 @@ module _ (store : Store) (a : PlainArray) (is : IsArrayOf store a) (tree : IsTre
         ap (λ (o : Option LatestMessage). option_map_or (λ m. is_on_chain_of store root m.root) o false) (message_is validator)
         ∙ votes_by (array.message_of a validator) (message_inside validator)
 
-    boosted_by : (o : Option ℕ) → IsBoostedNode store.blocks store.proposer_boost_root o → is_boosted store root ≡ option_map_or (λ b. weights.is_on_chain_of a.nodes n b) o false
+    boosted_by : (o : Option ℕ) → IsBoostedNode store.blocks store.proposer_boost_root o → is_boosted store root ≡ option_map_or
+        (λ b. weights.is_on_chain_of a.nodes n b) o false
     unfolding is_boosted IsBoostedNode
     boosted_by None zero_is = ap (λ b. not b && is_on_chain_of store root store.proposer_boost_root) (is_same store.proposer_boost_root zero_root zero_is)
     boosted_by (Some b) there =
