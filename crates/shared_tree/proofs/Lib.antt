@@ -6,3 +6,4 @@ pub mod Packing
 pub mod Packs
 pub mod Many
 pub mod Walks
+pub mod Climbs

@@ -1,5 +1,6 @@
 pub mod Fours
 pub mod Kept
+pub mod Layers
 pub mod Lifts
 pub mod Nodes
 pub mod Puts

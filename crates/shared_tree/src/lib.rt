@@ -9,6 +9,7 @@ mod find;
 mod four;
 mod iter;
 mod laws;
+mod layers;
 mod node;
 mod numbers;
 mod packed_list;

@@ -11,9 +11,10 @@ ghost use Rattle.hash_tree.specs.Merkle.{merkle_root};
 ghost use Rattle.shared_tree.specs.Lists.{AreChanges, changed};
 ghost use Rattle.shared_tree.specs.inside.Puts.{put_at};
 
-use crate::build::{build, depth_over};
+use crate::build::depth_over;
 use crate::find::find;
 use crate::iter::Iter;
+use crate::layers::build;
 use crate::node::Node;
 use crate::put::{put_many, put_or_grow};
 use crate::work::{lift, lift_steps};
@@ -47,19 +48,16 @@ impl<T: Leaf + Drop> Model for Tree<T> {
 }
 
 impl<T: Leaf + Drop> Tree<T> {
-    /// The tree of this depth over the items, whose roots are taken side by side.
+    /// The tree of this depth over the items, whose nodes are hashed layer by layer.
     pub(crate) fn of(items: Vec<T>, depth: u32) -> Result<Tree<T>, NoMemory>
         requires low { depth ≤ 40 }
         requires fits { length items.items ≤ 2 ^ depth }
         ensures { IfOk result (λ tree. tree ≡ (depth, items.items)) }
     {
-        let mut items = items;
         let alloc = *items.allocator();
         let len = items.len() as u64;
         let low = depth_over(len, depth);
-        let mut roots = vec![in alloc; [0u8; 32]; items.len()]?;
-        T::write_roots(&items, &mut roots);
-        let node = build(&mut items, &mut roots, 0, low, alloc)?;
+        let node = build(items, low, alloc)?;
         let top = lift(node.root(), low, depth);
         Ok(Tree {
             node,

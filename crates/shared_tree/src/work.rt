@@ -1,13 +1,15 @@
 //! Hash steps: the hash of two nodes, or the mixing of a length, each of which is counted.
 
-ghost use Rattle.std.specs.Prelude.{◌≡◌, ℕ, suc, ◌+◌, ◌-◌, ◌≤◌, ◌^◌, List, ◌++◌, length, IfOk};
+ghost use Rattle.std.specs.Prelude.{◌≡◌, ℕ, suc, ◌+◌, ◌*◌, ◌-◌, ◌≤◌, ◌^◌, List, ◌++◌, length, IfOk};
 ghost use Rattle.hash_tree.specs.Merkle.{merkle_root, mix_in_length as mixed_in};
+ghost use Rattle.pair_lanes.specs.Pairs.{parents};
 ghost use Rattle.shared_tree.specs.inside.Nodes.{AreHalves};
 ghost use Rattle.shared_tree.specs.inside.Lifts.{Lifts};
 
 use crate::node::Node;
 use bc_words::{NoMemory, Steps};
 use hash_tree::{Leaf, Root, hash_pair, mix_in_length, zero_hash};
+use pair_lanes::hash_layer;
 use std::alloc::Global;
 use std::sync::ledger::Ledger;
 
@@ -24,6 +26,18 @@ pub(crate) fn pair_step<T: Leaf + Drop, L: Ledger>(
 {
     steps.tick();
     Node::pair(left, right, alloc)
+}
+
+/// Writes the parents of a layer of nodes. A step for each.
+pub(crate) fn layer_step<L: Ledger>(nodes: &[Root], above: &mut [Root], steps: &mut Steps<L>)
+    requires { length nodes.now ≡ 2 * length above.old }
+    ensures parents { above.new ≡ parents nodes.now }
+    ensures steps { steps.new ≡ steps.old + length above.old }
+{
+    'above: for _ in 0..above.len() {
+        steps.tick();
+    }
+    hash_layer(nodes, above);
 }
 
 /// The root of a tree of a greater depth over the same items.

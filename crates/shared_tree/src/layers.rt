@@ -1,0 +1,165 @@
+//! Trees that are built layer by layer.
+//!
+//! Items come from `tree`. The parents of a whole layer are hashed by one call over its roots, and the nodes above are made
+//! with the roots that they have.
+
+ghost use Rattle.std.specs.Prelude.{◌≡◌, ℕ, suc, ◌+◌, ◌*◌, ◌/◌, ◌<◌, ◌≤◌, ◌^◌, length, map, IfOk, OnOk};
+ghost use Rattle.pair_lanes.specs.Pairs.{parents};
+ghost use Rattle.shared_tree.specs.inside.Layers.{leaves, held, paired, node_roots, IsLayer, ArePaired};
+
+use crate::node::Node;
+use crate::work::layer_step;
+use bc_words::{NoMemory, Steps};
+use hash_tree::{Leaf, Root, zero_hash};
+use std::alloc::Global;
+use std::marker::Brand;
+use std::sync::ledger::{Blank, Ledger};
+
+/// The leaves of the items, whose roots are known.
+fn leaf_nodes<T: Leaf + Drop>(
+    items: Vec<T>,
+    roots: &[Root],
+    alloc: Global,
+) -> Result<Vec<Node<T>>, NoMemory>
+    requires { roots.now ≡ map T.root_of items.items }
+    ensures { IfOk result (λ nodes. nodes.items ≡ leaves items.items) }
+{
+    let mut nodes = Vec::with_capacity(alloc, roots.len())?;
+    let mut rest = items.into_iter();
+    'leaves: for k in 0..roots.len() {
+        match rest.next() {
+            Some(item) => nodes.push(Node::known(item, roots[k], alloc)?)?,
+            None => unreachable!(),
+        }
+    }
+    Ok(nodes)
+}
+
+/// The trees over two nodes each, whose roots are known.
+fn join<T: Leaf + Drop>(
+    nodes: Vec<Node<T>>,
+    above: &[Root],
+    alloc: Global,
+) -> Result<Vec<Node<T>>, NoMemory>
+    requires halves { ArePaired nodes.items }
+    requires even { length nodes.items ≡ 2 * length above.now }
+    requires roots { above.now ≡ parents (node_roots T.root_of nodes.items) }
+    ensures { IfOk result (λ joined. joined.items ≡ paired nodes.items) }
+{
+    let mut joined = Vec::with_capacity(alloc, above.len())?;
+    let mut rest = nodes.into_iter();
+    'pairs: for k in 0..above.len() {
+        match (rest.next(), rest.next()) {
+            (Some(left), Some(right)) => joined.push(Node::rooted(left, right, above[k], alloc)?)?,
+            _ => unreachable!(),
+        }
+    }
+    Ok(joined)
+}
+
+/// Puts a node without items behind an odd number of nodes.
+fn make_even<T: Leaf + Drop>(
+    nodes: &mut Vec<Node<T>>,
+    roots: &mut Vec<Root>,
+    depth: u32,
+) -> Result<(), NoMemory>
+    requires low { depth ≤ 40 }
+    requires layer { IsLayer depth nodes.old.items }
+    requires roots { roots.old.items ≡ node_roots T.root_of nodes.old.items }
+    ensures layer { OnOk result (IsLayer depth nodes.new.items) }
+    ensures roots { OnOk result (roots.new.items ≡ node_roots T.root_of nodes.new.items) }
+    ensures held { OnOk result (held nodes.new.items ≡ held nodes.old.items) }
+    ensures even { OnOk result (length nodes.new.items ≡ 2 * ((length nodes.old.items + 1) / 2)) }
+{
+    if nodes.len() % 2 == 1 {
+        nodes.push(Node::absent(depth))?;
+        roots.push(zero_hash(depth))?;
+    }
+    Ok(())
+}
+
+/// Makes the layer above. A step for each of its nodes.
+fn climb<T: Leaf + Drop, L: Ledger>(
+    nodes: Vec<Node<T>>,
+    roots: &mut Vec<Root>,
+    depth: u32,
+    alloc: Global,
+    steps: &mut Steps<L>,
+) -> Result<Vec<Node<T>>, NoMemory>
+    requires low { depth ≤ 40 }
+    requires layer { IsLayer depth nodes.items }
+    requires roots { roots.old.items ≡ node_roots T.root_of nodes.items }
+    ensures layer { IfOk result (λ above. IsLayer (suc depth) above.items) }
+    ensures roots { IfOk result (λ above. roots.new.items ≡ node_roots T.root_of above.items) }
+    ensures held { IfOk result (λ above. held above.items ≡ held nodes.items) }
+    ensures count { IfOk result (λ above. length above.items ≡ (length nodes.items + 1) / 2) }
+    ensures steps { steps.new ≤ steps.old + (length nodes.items + 1) / 2 }
+{
+    let mut nodes = nodes;
+    make_even(&mut nodes, roots, depth)?;
+    let mut above = vec![in alloc; [0u8; 32]; nodes.len() / 2]?;
+    layer_step(roots, &mut above, steps);
+    let joined = join(nodes, &above, alloc)?;
+    *roots = above;
+    Ok(joined)
+}
+
+/// The tree of this depth over the items, of which there is one or more. A step for each of its inner nodes that has items.
+pub(crate) fn layered<T: Leaf + Drop, L: Ledger>(
+    items: Vec<T>,
+    depth: u32,
+    alloc: Global,
+    steps: &mut Steps<L>,
+) -> Result<Node<T>, NoMemory>
+    requires low { depth ≤ 40 }
+    requires some { 0 < length items.items }
+    requires fits { length items.items ≤ 2 ^ depth }
+    ensures built { IfOk result (λ node. node ≡ (depth, items.items)) }
+    ensures work { steps.new ≤ steps.old + length items.items * depth }
+    ensures nodes { steps.new + 1 ≤ steps.old + 2 ^ depth }
+{
+    let mut roots = vec![in alloc; [0u8; 32]; items.len()]?;
+    T::write_roots(&items, &mut roots);
+    let mut nodes = leaf_nodes(items, &roots, alloc)?;
+    'layers: for level in 0..depth {
+        nodes = climb(nodes, &mut roots, level, alloc, steps)?;
+    }
+    match nodes.pop() {
+        Some(node) => Ok(node),
+        None => unreachable!(),
+    }
+}
+
+/// The same for any number of items, with a counter of its own, which nothing reads.
+fn built_apart<T: Leaf + Drop, L: Ledger>(
+    items: Vec<T>,
+    depth: u32,
+    alloc: Global,
+    blank: Blank,
+) -> Result<Node<T>, NoMemory>
+    requires name { blank.name ≡ L.name }
+    requires parts { blank.parts ≡ L.parts }
+    requires some { 0 < blank.parts }
+    requires low { depth ≤ 40 }
+    requires fits { length items.items ≤ 2 ^ depth }
+    ensures { IfOk result (λ node. node ≡ (depth, items.items)) }
+{
+    if items.is_empty() {
+        return Ok(Node::absent(depth));
+    }
+    let mut steps = Steps::<L>::new(blank);
+    layered(items, depth, alloc, &mut steps)
+}
+
+/// The tree of this depth over the items, where nothing is counted.
+pub(crate) fn build<T: Leaf + Drop>(
+    items: Vec<T>,
+    depth: u32,
+    alloc: Global,
+) -> Result<Node<T>, NoMemory>
+    requires low { depth ≤ 40 }
+    requires fits { length items.items ≤ 2 ^ depth }
+    ensures { IfOk result (λ node. node ≡ (depth, items.items)) }
+{
+    built_apart::<T, Brand>(items, depth, alloc, Blank::new(1))
+}
