@@ -5,14 +5,14 @@ use Rattle.std.proofs.lemmas.Bool.{lt-ltb, le-ltb, cases_lt}
 use Rattle.bc_words.specs.Outcome.{done, refused, checked_push}
 use Rattle.bc_words.specs.declared.refusal.Refusal.TheVariants.{ListFull}
 use Rattle.hash_tree.specs.Merkle.{merkle_root, merkleize, mix_in_length, depth_of}
-use Rattle.shared_tree.specs.Lists.{Limited}
+use Rattle.shared_tree.specs.Lists.{Limited, changed}
 use Rattle.shared_tree.specs.inside.Kept.{IsTree, IsKept}
-use Rattle.shared_tree.specs.inside.Puts.{put_at, changed_in, Grows}
+use Rattle.shared_tree.specs.inside.Puts.{put_at, Grows}
 use Rattle.shared_tree.specs.inside.Lifts.{Lifts}
 use Rattle.hash_tree.proofs.Halves.{width_halves}
 use Rattle.std.proofs.Math.Nat.{suc-mul}
 use Rattle.std.proofs.lemmas.List.{length-map}
-use Rattle.shared_tree.proofs.Many.{length_in}
+use Rattle.shared_tree.proofs.Changes.{length_changed}
 use Rattle.shared_tree.proofs.Puts.{put_push, length_put}
 
 -- the widest tree
@@ -65,10 +65,10 @@ tree_after root_of node new low grown depth len next at item old_top top sub h i
     }
 
 -- and after many are changed
-pub tree_after_many : {A : Type 0} (root_of : A → List ℕ) (node new : ℕ × List A) (low depth len : ℕ) (changes : List (ℕ × A)) (old_top top sub : List ℕ) → IsTree root_of node low depth len old_top → new ≡ (low, changed_in 0 node.1 changes) → sub ≡ merkle_root new.0 (map root_of new.1) → Lifts low depth sub top → IsTree root_of new low depth len top
+pub tree_after_many : {A : Type 0} (root_of : A → List ℕ) (node new : ℕ × List A) (low depth len : ℕ) (changes : List (ℕ × A)) (old_top top sub : List ℕ) → IsTree root_of node low depth len old_top → new ≡ (low, changed node.1 changes) → sub ≡ merkle_root new.0 (map root_of new.1) → Lifts low depth sub top → IsTree root_of new low depth len top
 tree_after_many root_of node new low depth len changes old_top top sub h is sub_is lifts =
     let deep : new.0 ≡ low = ap (λ (v : ℕ × List _). v.0) is in
-    let long : length new.1 ≡ length node.1 = ap (λ (v : ℕ × List _). length v.1) is ∙ length_in 0 node.1 changes in
+    let long : length new.1 ≡ length node.1 = ap (λ (v : ℕ × List _). length v.1) is ∙ length_changed node.1 changes in
     let room = h.room in
     record {
       node_depth = deep;

@@ -7,3 +7,4 @@ pub mod Packs
 pub mod Many
 pub mod Walks
 pub mod Climbs
+pub mod Every

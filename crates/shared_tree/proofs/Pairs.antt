@@ -1,6 +1,6 @@
 -- The root of two halves is that of their items, and what is put into a half is put into the whole.
-use Rattle.std.proofs.Common.{◌≡◌, ℕ, zero, suc, ◌+◌, ◌-◌, ◌<◌, ◌≤◌, ◌^◌, List, [], ◌∷◌, ◌++◌, length, map, take, drop, max, min, refl, sym, ap, subst, ◌∙◌, arith, inl, inr, length-append, length-drop}
-use Rattle.std.proofs.lemmas.List.{append-nil, take_all, drop_all, length-map, map-append, length-take, take-append-drop}
+use Rattle.std.proofs.Common.{◌≡◌, ℕ, zero, suc, ◌+◌, ◌-◌, ◌<◌, ◌≤◌, ◌^◌, List, [], ◌∷◌, ◌++◌, length, map, take, drop, max, refl, sym, ap, subst, ◌∙◌, arith, inl, inr, length-append}
+use Rattle.std.proofs.lemmas.List.{append-nil, take_all, drop_all, length-map, map-append}
 use Rattle.hash_tree.specs.Merkle.{hash, merkle_root}
 use Rattle.hash_tree.proofs.Halves.{merkle_root-halves}
 use Rattle.std.proofs.Math.Pow.{pow_mono}
@@ -106,42 +106,6 @@ put_value_right left right new at item h high within is =
     let full : length left.1 ≡ 2 ^ left.0 = full_left left right at h high within in
     ap (λ (v : ℕ × List _). (suc left.0, left.1 ++ v.1)) is
     ∙ ap (λ (items : List _). (suc left.0, items)) (sym (put_right left.1 right.1 (2 ^ left.0) at item full high))
-
--- the items from a place on, cut at a later one
-pub cut_after : {A : Type 0} (from middle : ℕ) (items : List A) → from ≤ middle → drop from (take middle items) ++ drop middle items ≡ drop from items
-cut_after zero middle items h = take-append-drop middle items
-cut_after (suc from) zero items h = absurd (omega arith)
-cut_after (suc from) (suc middle) [] h = refl
-cut_after (suc from) (suc middle) (x ∷ items) h = cut_after from middle items (omega arith)
-
-built_halves : {A : Type 0} (from depth half : ℕ) (items middle : List A) (left right : ℕ × List A) → half ≡ 2 ^ depth → length items ≤ from + half + half → middle ≡ take (from + half) items → left ≡ (depth, drop from middle) → right ≡ (depth, drop (from + half) items) → AreHalves left right
-built_halves from depth half items middle left right width room m l r =
-    let middle_long : length middle ≡ min (from + half) (length items) = ap length m ∙ length-take (from + half) items in
-    let left_long : length left.1 ≡ length middle - from = ap (λ (v : ℕ × List _). length v.1) l ∙ length-drop from middle in
-    let right_long : length right.1 ≡ length items - (from + half) = ap (λ (v : ℕ × List _). length v.1) r ∙ length-drop (from + half) items in
-    let left_wide : 2 ^ left.0 ≡ 2 ^ depth = ap (λ (v : ℕ × List _). 2 ^ v.0) l in
-    let right_wide : 2 ^ right.0 ≡ 2 ^ depth = ap (λ (v : ℕ × List _). 2 ^ v.0) r in
-    record {
-      same_depth = ap (λ (v : ℕ × List _). v.0) l ∙ sym (ap (λ (v : ℕ × List _). v.0) r);
-      left_fits = omega arith;
-      right_fits = omega arith;
-      left_first = λ some. omega arith;
-    }
-
-built_value : {A : Type 0} (from depth half : ℕ) (items middle : List A) (left right : ℕ × List A) → middle ≡ take (from + half) items → left ≡ (depth, drop from middle) → right ≡ (depth, drop (from + half) items) → ◌≡◌ {A = ℕ × List A} (suc left.0, left.1 ++ right.1) (suc depth, drop from items)
-built_value from depth half items middle left right m l r =
-    ap (λ (v : ℕ × List _). (suc v.0, v.1 ++ right.1)) l
-    ∙ (ap (λ (v : ℕ × List _). (suc depth, drop from middle ++ v.1)) r
-    ∙ (ap (λ (all : List _). (suc depth, drop from all ++ drop (from + half) items)) m
-    ∙ ap (λ (all : List _). (suc depth, all)) (cut_after from (from + half) items (omega arith))))
-
--- the tree over the items from a place on, by its halves
-pub build_pair : {A : Type 0} (from depth half : ℕ) (items middle : List A) (left right : ℕ × List A) → 0 < depth → ((lower : ℕ) → depth ≡ suc lower → half ≡ 2 ^ lower) → half + half ≡ 2 ^ depth → length items ≤ from + 2 ^ depth → middle ≡ take (from + half) items → left ≡ (depth - 1, drop from middle) → right ≡ (depth - 1, drop (from + half) items) → AreHalves left right × (◌≡◌ {A = ℕ × List A} (suc left.0, left.1 ++ right.1) (depth, drop from items))
-build_pair from depth half items middle left right inner width twice room m l r =
-    let d : suc (depth - 1) ≡ depth = omega arith in (
-      built_halves from (depth - 1) half items middle left right (width (depth - 1) (sym d)) (omega arith) m l r,
-      built_value from (depth - 1) half items middle left right m l r ∙ ap (λ (k : ℕ). (k, drop from items)) d,
-    )
 
 -- what a call puts into a half it puts into the whole
 pub put_into_left : {A : Type 0} (node left right sub new other : ℕ × List A) (depth half at : ℕ) (item : A) → AreHalves left right → node ≡ (suc left.0, left.1 ++ right.1) → depth ≡ node.0 → ((lower : ℕ) → depth ≡ suc lower → half ≡ 2 ^ lower) → at < half → at ≤ length node.1 → sub ≡ left → new ≡ (depth - 1, put_at sub.1 at item) → other ≡ right → AreHalves new other × (◌≡◌ {A = ℕ × List A} (suc new.0, new.1 ++ other.1) (depth, put_at node.1 at item))

@@ -1,12 +1,14 @@
 //! A tree like another one with one item changed, or with one more.
 //!
-//! The nodes of one path are made anew, and all others are shared.
+//! The nodes of one path are made anew, and all others are shared. Where every item changes, the tree is built layer by
+//! layer.
 
-ghost use Rattle.std.specs.Prelude.{◌≡◌, ◌+◌, ◌*◌, ◌<◌, ◌≤◌, ◌^◌, length, IfOk, OnOk};
-ghost use Rattle.shared_tree.specs.Lists.{AreChanges};
+ghost use Rattle.std.specs.Prelude.{◌≡◌, ◌+◌, ◌*◌, ◌<◌, ◌≤◌, ◌^◌, length, map, IfOk, OnOk};
+ghost use Rattle.shared_tree.specs.Lists.{AreChanges, changed};
 ghost use Rattle.shared_tree.specs.inside.Puts.{put_at, Grows, before, changed_in, Reaches};
 
 use crate::build::leaves_of;
+use crate::layers::layered;
 use crate::node::{Node, half_width};
 use crate::work::pair_step;
 use bc_words::{NoMemory, Steps};
@@ -110,6 +112,50 @@ pub(crate) fn put_many<T: Leaf + Drop, L: Ledger>(
     let right = put_many(&right, depth - 1, middle, changes, alloc, steps)?;
     let left = put_many(&left, depth - 1, from, changes, alloc, steps)?;
     pair_step(left, right, alloc, steps)
+}
+
+/// The items of the changes.
+fn new_items<T: Drop>(changes: Vec<(u64, T)>, alloc: Global) -> Result<Vec<T>, NoMemory>
+    ensures { IfOk result (λ items. items.items ≡ map (λ change. change.1) changes.items) }
+{
+    let count = changes.len();
+    let mut items = Vec::with_capacity(alloc, count)?;
+    let mut rest = changes.into_iter();
+    'items: for k in 0..count {
+        match rest.next() {
+            Some((_at, item)) => items.push(item)?,
+            None => unreachable!(),
+        }
+    }
+    Ok(items)
+}
+
+/// The tree with the changes made. Each node is made anew once: at most a step for each level and change, and no more than
+/// there are inner nodes. Where every item changes, the tree is built layer by layer.
+pub(crate) fn put_all<T: Leaf + Drop, L: Ledger>(
+    node: &Node<T>,
+    depth: u32,
+    len: u64,
+    changes: Vec<(u64, T)>,
+    alloc: Global,
+    steps: &mut Steps<L>,
+) -> Result<Node<T>, NoMemory>
+    requires same { depth ≡ node.now.0 }
+    requires low { depth ≤ 40 }
+    requires len_is { len ≡ length node.now.1 }
+    requires fits { length node.now.1 ≤ 2 ^ depth }
+    requires some { 0 < length changes.items }
+    requires places { AreChanges 0 (length node.now.1) changes.items }
+    ensures put { IfOk result (λ new. new ≡ (depth, changed node.now.1 changes.items)) }
+    ensures work { steps.new ≤ steps.old + length changes.items * depth }
+    ensures nodes { steps.new + 1 ≤ steps.old + 2 ^ depth }
+{
+    if changes.len() as u64 == len {
+        let items = new_items(changes, alloc)?;
+        return layered(items, depth, alloc, steps);
+    }
+    let mut changes = changes;
+    put_many(node, depth, 0, &mut changes, alloc, steps)
 }
 
 /// Whether the last change is at this place or behind.

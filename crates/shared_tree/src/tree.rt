@@ -16,7 +16,7 @@ use crate::find::find;
 use crate::iter::Iter;
 use crate::layers::build;
 use crate::node::Node;
-use crate::put::{put_many, put_or_grow};
+use crate::put::{put_all, put_or_grow};
 use crate::work::{lift, lift_steps};
 use bc_words::{NoMemory, Steps};
 use hash_tree::{Leaf, Root};
@@ -132,8 +132,7 @@ impl<T: Leaf + Drop> Tree<T> {
         if count == 0 {
             return Ok(());
         }
-        let mut changes = changes;
-        let node = put_many(&self.node, self.low, 0, &mut changes, self.alloc, steps)?;
+        let node = put_all(&self.node, self.low, self.len, changes, self.alloc, steps)?;
         self.top = lift_steps(node.root(), self.low, self.depth, steps);
         self.node = node;
         Ok(())

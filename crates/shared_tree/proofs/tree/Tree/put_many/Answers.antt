@@ -1,17 +1,9 @@
 -- A tree with many items changed.
 use Rattle.std.proofs.Common.{ℕ, ◌+◌, ◌*◌, ◌≤◌, List, length, ap, sym, subst, ◌∙◌, arith}
 use Rattle.shared_tree.specs.Lists.{changed}
-use Rattle.shared_tree.proofs.Keeps.{width_low, tree_after_many, many_steps, fewer_steps}
+use Rattle.shared_tree.proofs.Keeps.{tree_after_many, many_steps, fewer_steps}
 use Rattle.shared_tree.proofs.Changes.{changed_none}
-use Rattle.shared_tree.proofs.Many.{changed_all}
 use Rattle.shared_tree.proofs.tree.Tree.put_many.Goals as goal
-
-pub put_many-requires-clause-within : goal.put_many-requires-clause-within
-put_many-requires-clause-within g c =
-    let order = c.self.invariant.order in
-    let deep = c.self.invariant.deep in
-    let w = width_low c.self.inside.low (omega arith) in
-    omega arith
 
 pub invariant_of-self : goal.invariant_of-self
 invariant_of-self g c =
@@ -19,7 +11,7 @@ invariant_of-self g c =
 
 pub returns-clause-put : goal.returns-clause-put
 returns-clause-put g c =
-    let items = ap (λ (v : ℕ × List _). v.1) c.in_ok-node.ensures.put ∙ changed_all c.self.inside.node.1 c.args.changes.items in
+    let items = ap (λ (v : ℕ × List _). v.1) c.in_ok-node.ensures.put in
     ap (λ (xs : List _). (c.self.inside.depth, xs)) items ∙ ap (λ (v : ℕ × List _). (v.0, changed v.1 c.args.changes.items)) c.self.view_is
 
 pub returns-then-count-eq0-clause-put : goal.returns-then-count-eq0-clause-put
@@ -29,11 +21,11 @@ returns-then-count-eq0-clause-put g c =
 pub returns-in_err-node-clause-at_most : goal.returns-in_err-node-clause-at_most
 returns-in_err-node-clause-at_most g c =
     let same = ap (λ (v : ℕ × List _). v.0) c.self.view_is in
-    let few = fewer_steps (length c.args.changes.items) c.self.inside.low c.self.inside.depth c.args.steps.now c.put_many.new.steps c.self.invariant.order (omega (arith, c.put_many.ensures.work)) in
-    subst (λ (d : ℕ). c.put_many.new.steps ≤ c.args.steps.now + length c.args.changes.items * d) same few
+    let few = fewer_steps (length c.args.changes.items) c.self.inside.low c.self.inside.depth c.args.steps.now c.put_all.new.steps c.self.invariant.order c.put_all.ensures.work in
+    subst (λ (d : ℕ). c.put_all.new.steps ≤ c.args.steps.now + length c.args.changes.items * d) same few
 
 pub returns-clause-at_most : goal.returns-clause-at_most
 returns-clause-at_most g c =
     let same = ap (λ (v : ℕ × List _). v.0) c.self.view_is in
-    let few = many_steps (length c.args.changes.items) c.self.inside.low c.self.inside.depth c.args.steps.now c.put_many.new.steps (omega (arith, c.len-count.ensures, c.if-count-eq0.false)) c.self.invariant.order (omega (arith, c.put_many.ensures.work)) in
+    let few = many_steps (length c.args.changes.items) c.self.inside.low c.self.inside.depth c.args.steps.now c.put_all.new.steps (omega (arith, c.len-count.ensures, c.if-count-eq0.false)) c.self.invariant.order c.put_all.ensures.work in
     subst (λ (d : ℕ). c.lift_steps-self-inside.new.steps ≤ c.args.steps.now + length c.args.changes.items * d) same (omega (arith, c.lift_steps-self-inside.ensures.steps, few))
