@@ -1,5 +1,6 @@
-//! A list of 2^20 items shuffled at 90 rounds, against its hashes: one for each 256 places of a round, and one for
-//! the round's pivot.
+//! A list of 2^20 items shuffled at 90 rounds, against the hashes that a pass over it can't do without: one for the
+//! round's pivot, and one for each 256 of the positions whose bits say which pairs swap. Those are half of all positions,
+//! the later one of each pair.
 
 use crate::ratio::Ratio;
 use anyhow::Result;
@@ -23,7 +24,7 @@ fn numbers(alloc: Global, count: u64) -> Result<Vec<u64>, AllocError> {
     Ok(list)
 }
 
-/// The hashes of one round, joined so that none is left out. The seed has 32 bytes of 7.
+/// As many hashes as one round takes, joined so that none is left out. The seed has 32 bytes of 7.
 fn round_hashes(round: u8) -> u8 {
     let mut pivot = [7; 33];
     pivot[32] = round;
@@ -32,7 +33,7 @@ fn round_hashes(round: u8) -> u8 {
     source[32] = round;
     source[35] = 0;
     source[36] = 0;
-    for page in 0u16..4096 {
+    for page in 0u16..2048 {
         let number = page.to_le_bytes();
         source[33] = number[0];
         source[34] = number[1];

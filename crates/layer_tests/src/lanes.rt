@@ -1,6 +1,6 @@
 //! The hashes of every count of pairs from 0 to 40, and the sources of pages, are those of sha2.
 
-use pair_lanes::{hash_pairs, hash_sources};
+use pair_lanes::{Seed, hash_pairs};
 use sha2::{Digest, Sha256};
 
 /// Bytes without a pattern, from a number.
@@ -48,7 +48,7 @@ fn sources_are_those_of_sha2(rt: HostRuntime) {
             assert!(rt; first <= 0xffff_fff8);
             let seed = scattered(u64::from(first) + u64::from(round));
             let mut out = [[0; 32]; 8];
-            hash_sources(&seed, round, first, &mut out);
+            Seed::new(&seed).hash_sources(round, first, &mut out);
             for k in 0..8u32 {
                 assert_eq!(rt; out[k as usize], source(&seed, round, first + k));
             }

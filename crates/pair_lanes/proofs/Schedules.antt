@@ -60,3 +60,10 @@ next_round h words v t word next before is made = rw (add-one, made, before, is)
 pub no_round : (h words : List ℕ) → h ≡ rounds h words 0
 unfolding rounds
 no_round h words = refl
+
+-- rounds read no word behind them
+pub same_rounds : (h xs ys : List ℕ) (t : ℕ) → ((k : ℕ) → k < t → slice_index xs k ≡ slice_index ys k) → rounds h xs t ≡ rounds h ys t
+unfolding rounds
+same_rounds h xs ys zero same = refl
+same_rounds h xs ys (suc t) same =
+    rw (same_rounds h xs ys t (λ k less. same k (omega arith)), same t (omega arith)) refl

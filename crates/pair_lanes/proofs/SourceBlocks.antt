@@ -1,9 +1,10 @@
 -- The words of the block that a seed, a round and a page's number fill with their padding.
-use Rattle.std.proofs.Common.{◌≡◌, ◌∙◌, ℕ, ◌+◌, ◌-◌, ◌*◌, ◌<◌, ◌≤◌, List, ◌∷◌, ◌++◌, length, slice_index, refl, ap, inl, inr, append_assoc, arith}
+use Rattle.std.proofs.Common.{◌≡◌, ◌∙◌, ℕ, ◌+◌, ◌-◌, ◌*◌, ◌<◌, ◌≤◌, List, ◌∷◌, ◌++◌, length, slice_index, refl, sym, ap, inl, inr, append_assoc, arith}
 use Rattle.std.proofs.lemmas.List.{get_or_append_left, get_or-append_right}
 use Rattle.std.proofs.lemmas.Bool.{cases_eq}
 use Rattle.std.specs.Int.{w32, to_le_bytes}
-use Rattle.sha2.specs.Sha256.{word_at, padding}
+use Rattle.sha2.specs.Sha256.{word_at, padding, schedule, rounds}
+use Rattle.pair_lanes.proofs.Schedules.{block_word, same_rounds}
 use Rattle.pair_lanes.specs.inside.Lanes.{source_block}
 
 -- what stands in the block behind the seed
@@ -76,3 +77,13 @@ zero_word seed round page k long more less = word_behind seed round page k long 
 -- the length in bits, by computing it
 pub length_word : (seed : List ℕ) (round page : ℕ) → length seed ≡ 32 → word_at (source_block seed round page) (4 * 15) ≡ 296
 length_word seed round page long = word_behind seed round page 15 long (omega arith) ∙ refl
+
+-- the first eight rounds are the same for each round and page of a seed
+pub begun_alike : (seed h : List ℕ) (round page round′ page′ : ℕ) → length seed ≡ 32
+    → rounds h (schedule (source_block seed round page) 48) 8 ≡ rounds h (schedule (source_block seed round′ page′) 48) 8
+begun_alike seed h round page round′ page′ long =
+    same_rounds h (schedule (source_block seed round page) 48) (schedule (source_block seed round′ page′) 48) 8 (λ k less.
+    block_word (source_block seed round page) 48 k (omega arith)
+    ∙ seed_word seed round page k long less
+    ∙ sym (seed_word seed round′ page′ k long less)
+    ∙ sym (block_word (source_block seed round′ page′) 48 k (omega arith)))

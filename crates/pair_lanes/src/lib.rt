@@ -12,4 +12,4 @@ mod sources;
 mod words;
 
 pub use pairs::{hash_layer, hash_pairs};
-pub use sources::hash_sources;
+pub use sources::Seed;

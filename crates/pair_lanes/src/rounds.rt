@@ -125,6 +125,30 @@ pub(crate) fn compress(h: [u32x8; 8], w: &[u32x8; 64]) -> [u32x8; 8]
     add_all(h, v)
 }
 
+/// The variables behind a block's first eight rounds.
+#[inline(always)]
+pub(crate) fn eight_steps(h: [u32x8; 8], w: &[u32x8; 64]) -> [u32x8; 8]
+    ensures { (j : ℕ) (b : List ℕ) → j < 8 → ((k : ℕ) → k < 64 → lane_at w.now k j ≡ slice_index (schedule b 48) k)
+        → variables j result ≡ rounds (variables j h) (schedule b 48) 8 }
+{
+    let v = four_steps(w, h, 0);
+    four_steps(w, v, 4)
+}
+
+/// The hash value behind a block with this schedule, from the variables behind its first eight rounds.
+#[inline(always)]
+pub(crate) fn compress_rest(h: [u32x8; 8], v: [u32x8; 8], w: &[u32x8; 64]) -> [u32x8; 8]
+    ensures { (j : ℕ) (b : List ℕ) → j < 8 → ((k : ℕ) → k < 64 → lane_at w.now k j ≡ slice_index (schedule b 48) k)
+        → variables j v ≡ rounds (variables j h) (schedule b 48) 8 → variables j result ≡ compress (variables j h) b }
+{
+    let v = four_steps(w, v, 8);
+    let v = four_steps(w, v, 12);
+    let v = sixteen_steps(w, v, 16);
+    let v = sixteen_steps(w, v, 32);
+    let v = sixteen_steps(w, v, 48);
+    add_all(h, v)
+}
+
 /// The round with a word of the padding's schedule.
 #[inline(always)]
 fn padding_step(v: [u32x8; 8], t: usize) -> [u32x8; 8]

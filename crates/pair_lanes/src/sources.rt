@@ -1,13 +1,14 @@
 //! The hashes of a seed, a round and a page's number, as the sources of a shuffle are. With its padding each is one block,
-//! and only the two words that hold the page differ from lane to lane.
+//! only the two words that hold the page differ from lane to lane, and the rounds of the seed's words are done once.
 
 ghost use Rattle.std.specs.Prelude.{◌≡◌, ◌≢◌, ℕ, ◌+◌, ◌*◌, ◌^◌, ◌<◌, ◌≤◌, [], ◌∷◌, ◌++◌, length, slice_index, slice_index_or};
 ghost use Rattle.std.specs.Int.{w32, to_le_bytes};
-ghost use Rattle.sha2.specs.Sha256.{sha256, word_at};
-ghost use Rattle.pair_lanes.specs.inside.Lanes.{lane_at, source_block};
+ghost use Rattle.sha2.specs.Sha256.{schedule, sha256, word_at};
+ghost use Rattle.pair_lanes.specs.inside.Lanes.{lane_at, source_block, variables};
 
 use crate::eight::{digest, turned};
-use crate::rounds::{compress, expand, initial};
+use crate::rounds::{compress_rest, eight_steps, expand, initial};
+use std::marker::Model;
 use std::simd::u32x8;
 
 /// A word of the block without the page: of the seed, or of the padding (FIPS 180-4, 5.1.1).
@@ -98,19 +99,87 @@ fn words(seed: &[u8; 32], round: u8, first: u32, place: usize) -> u32x8
     }
 }
 
-/// Writes the hash of a seed, a round and a page's number, low byte first, for each of eight pages (beacon-chain.md,
-/// `compute_shuffled_index`: the sources of a round). The eight go through vectors. It takes no memory.
-pub fn hash_sources(seed: &[u8; 32], round: u8, first: u32, out: &mut [[u8; 32]; 8])
+/// Fills the schedules of eight pages' blocks.
+#[inline(always)]
+fn fill(seed: &[u8; 32], round: u8, first: u32, w: &mut [u32x8; 64])
     requires { first + 8 ≤ 2 ^ 32 }
-    ensures { (j : ℕ) → j < 8 → slice_index_or out.new j [] ≡ sha256 (seed.now ++ round ∷ to_le_bytes w32 (first + j)) }
+    ensures { (j k : ℕ) → j < 8 → k < 64 → lane_at w.new k j ≡ slice_index (schedule (source_block seed.now round (first + j)) 48) k }
 {
-    let mut w = [u32x8::splat(0); 64];
     'load: for k in 0..16 {
         w[k] = words(seed, round, first, k);
     }
-    expand(&mut w);
-    let h = compress(initial(), &w);
-    'hashes: for j in 0..8 {
-        out[j] = digest(&turned(h, j));
+    expand(w);
+}
+
+/// The same variables in each lane.
+#[inline(always)]
+fn spread(v: &[u32; 8]) -> [u32x8; 8]
+    ensures { (j : ℕ) → j < 8 → variables j result ≡ v.now }
+{
+    [
+        u32x8::splat(v[0]),
+        u32x8::splat(v[1]),
+        u32x8::splat(v[2]),
+        u32x8::splat(v[3]),
+        u32x8::splat(v[4]),
+        u32x8::splat(v[5]),
+        u32x8::splat(v[6]),
+        u32x8::splat(v[7]),
+    ]
+}
+
+/// A seed, with the variables behind the first eight rounds of its sources' blocks. The words of those rounds are the
+/// seed's, so all sources have them in common.
+#[derive(Drop)]
+pub struct Seed {
+    bytes: [u8; 32],
+    begun: [u32; 8],
+}
+
+impl Model for Seed {
+    ghost use Rattle.std.specs.Prelude.{ℕ, List};
+    ghost use Rattle.pair_lanes.specs.inside.Lanes.{Begun};
+
+    ghost Value = { List ℕ };
+
+    ghost view = { λ s. s.bytes };
+
+    ghost invariant = { λ s. Begun s.bytes s.begun };
+}
+
+impl Seed {
+    /// The seed of these bytes.
+    pub fn new(bytes: &[u8; 32]) -> Self
+        ensures { result ≡ bytes.now }
+    {
+        let mut w = [u32x8::splat(0); 64];
+        fill(bytes, 0, 0, &mut w);
+        let begun = turned(eight_steps(initial(), &w), 0);
+        Seed {
+            bytes: *bytes,
+            begun,
+        }
+    }
+
+    /// Its bytes.
+    pub fn bytes(&self) -> &[u8; 32]
+        ensures { result.now ≡ self.now }
+    {
+        &self.bytes
+    }
+
+    /// Writes the hash of the seed, a round and a page's number, low byte first, for each of eight pages
+    /// (beacon-chain.md, `compute_shuffled_index`: the sources of a round). The eight go through vectors. It takes no
+    /// memory.
+    pub fn hash_sources(&self, round: u8, first: u32, out: &mut [[u8; 32]; 8])
+        requires { first + 8 ≤ 2 ^ 32 }
+        ensures { (j : ℕ) → j < 8 → slice_index_or out.new j [] ≡ sha256 (self.now ++ round ∷ to_le_bytes w32 (first + j)) }
+    {
+        let mut w = [u32x8::splat(0); 64];
+        fill(&self.bytes, round, first, &mut w);
+        let h = compress_rest(initial(), spread(&self.begun), &w);
+        'hashes: for j in 0..8 {
+            out[j] = digest(&turned(h, j));
+        }
     }
 }

@@ -1,3 +1,4 @@
 pub mod Bits
+pub mod FourLanes
 pub mod Pass
 pub mod Rounds

@@ -1,10 +1,12 @@
 -- How a pass over pairs of mirror images goes on.
-use Rattle.std.proofs.Common.{◌≡◌, ℕ, ◌+◌, ◌-◌, ◌<◌, ◌≤◌, List, Bool, true, false, cond, ◌==◌, get_or, slice_index, refl, sym, ap, ◌∙◌, arith, inl, inr}
+use Rattle.std.proofs.Common.{◌≡◌, ℕ, ◌+◌, ◌-◌, ◌/◌, ◌^◌, ◌<◌, ◌≤◌, List, Bool, true, false, cond, ◌==◌, get_or, slice_index}
+use Rattle.std.proofs.Common.{refl, sym, ap, subst, ◌∙◌, arith, inl, inr}
 use Rattle.std.specs.List.{SwappedAt}
 use Rattle.std.specs.Int.{bit_at}
 use Rattle.std.proofs.lemmas.Bool.{cases_eq, cases_lt}
 use Rattle.shuffling.specs.Shuffling.{pivot_of, bit_of, after_round}
 use Rattle.shuffling.proofs.Rounds.{flip_of}
+use Rattle.shuffling.proofs.Bits.{shifted}
 use Rattle.shuffling.specs.inside.Pass.{later, by_word, Passed}
 
 -- nothing is passed yet
@@ -119,3 +121,40 @@ module _ (word sum first last : ℕ) (old : List ℕ) where
             (λ place more less. sym (at.left (place - first) (omega (arith, at.from))) ∙ clear (place - first) (omega (arith, at.from))))
             (rw here (sym (at.left offset ahead) ∙ set)) swapped;
       }
+
+-- how far a pass over a word has come, from its lowest bit on: up to position, and the bits that are left are those from there on
+pub record Shifted (word sum first last bits : ℕ) (old list : List ℕ) (position : ℕ) : Type 0 where
+  pub from : first ≤ position
+  pub to : position ≤ last
+  pub left : (offset : ℕ) → bit_at bits offset ≡ bit_at word (position - first + offset)
+  pub passed : Passed (by_word word first sum) sum first position old list
+
+module _ (word sum first last : ℕ) (old : List ℕ) where
+  pub shift : first ≤ last → Shifted word sum first last word old old first
+  shift order = record {
+    from = omega arith;
+    to = order;
+    left = λ offset. ap (bit_at word) (omega arith);
+    passed = begin (by_word word first sum) sum first old;
+  }
+
+  -- some bits more are passed
+  pub shift_on : (bits position count next : ℕ) (list new : List ℕ) → last ≤ sum + 1 → next ≡ position + count → next ≤ last
+      → Shifted word sum first last bits old list position → Passed (by_word bits position sum) sum position next list new
+      → Shifted word sum first last (bits / 2 ^ count) old new next
+  shift_on bits position count next list new images is within at passed = record {
+    from = omega (arith, at.from);
+    to = within;
+    left = λ offset. shifted bits count offset ∙ at.left (count + offset) ∙ ap (bit_at word) (omega (arith, at.from));
+    passed = join (by_word word first sum) (by_word bits position sum) sum first position next old list new at.from (omega arith) at.passed passed
+        (λ place more less.
+        let there : position - first + (later sum place - position) ≡ later sum place - first = omega (arith, at.from) in
+        let bit : bit_at bits (later sum place - position) ≡ bit_at word (later sum place - first) =
+        at.left (later sum place - position) ∙ ap (bit_at word) there in
+        (ap (λ b. cond (b == 1) (sum - place) place) bit, later_same sum place (bit_at word (later sum place - first) == 1) (omega arith)));
+  }
+
+  -- the pass has come to its end
+  pub shift_end : (bits position : ℕ) (list : List ℕ) → position ≡ last → Shifted word sum first last bits old list position
+      → Passed (by_word word first sum) sum first last old list
+  shift_end bits position list is at = subst (λ (end : ℕ). Passed (by_word word first sum) sum first end old list) is at.passed

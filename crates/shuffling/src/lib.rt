@@ -5,9 +5,13 @@
 #![tactic(auto)]
 
 mod index;
+mod items;
+mod lanes;
 mod list;
+mod narrow;
 mod pages;
 mod round;
+mod wide;
 
 pub use index::shuffled_index;
 pub use list::shuffle_all;
@@ -37,8 +41,26 @@ mod tests {
         assert_eq!(rt; shuffled_index(999, 1000, &seed, 256), 296);
     }
 
+    // Items that fit in 32 bits, and items that don't.
     #[test]
     fn a_list_is_shuffled_as_its_places(rt: HostRuntime) -> Result<(), Fail> {
+        for first in [0, 1 << 40] {
+            let mut list = Vec::new(rt.alloc());
+            for i in 0..3000u64 {
+                list.push(first + i)?;
+            }
+            assert_eq!(rt; list.len(), 3000);
+            let list = shuffle_all(rt.alloc(), list, &[7; 32], 10)?;
+            for place in 0..3000u64 {
+                let item = first + shuffled_index(place, 3000, &[7; 32], 10);
+                assert_eq!(rt; list.get(place as usize).copied(), Some(item));
+            }
+        }
+        Ok(())
+    }
+
+    #[test]
+    fn a_shuffled_list_is_the_published_one(rt: HostRuntime) -> Result<(), Fail> {
         let mut list = Vec::new(rt.alloc());
         for i in 0..600u64 {
             list.push(10 * i)?;

@@ -6,20 +6,19 @@
 ghost use Rattle.std.specs.Prelude.{◌≡◌, ℕ, ◌*◌, ◌/◌, ◌%◌, ◌^◌, ◌<◌, ◌≤◌, [], slice_index_or};
 ghost use Rattle.shuffling.specs.Shuffling.{source_of};
 
-use hash_tree::Root;
-use pair_lanes::hash_sources;
+use pair_lanes::Seed;
 
 /// Hashes the sources of the eight pages among which `page` is.
-fn hash_pages(pages: &mut [[u8; 32]; 8], seed: &Root, round: u8, page: usize)
+fn hash_pages(pages: &mut [[u8; 32]; 8], seed: &Seed, round: u8, page: usize)
     requires { page < 2 ^ 32 }
     ensures { (k : ℕ) → k / 8 ≡ page / 8 → slice_index_or pages.new (k % 8) [] ≡ source_of seed.now round k }
 {
-    hash_sources(seed, round, (page - page % 8) as u32, pages);
+    seed.hash_sources(round, (page - page % 8) as u32, pages);
 }
 
 /// Brings the sources of the page of `position` and of those behind it among the same eight, where they are not there
 /// already: at the first position, and where eight pages begin.
-pub fn turn_pages(pages: &mut [[u8; 32]; 8], seed: &Root, round: u8, first: usize, position: usize)
+pub fn turn_pages(pages: &mut [[u8; 32]; 8], seed: &Seed, round: u8, first: usize, position: usize)
     requires fits { position < 2 ^ 40 }
     requires follows { first ≤ position }
     requires on_pages { first < position → 0 < position % 2048 → (k : ℕ) → k / 8 ≡ position / 2048 → slice_index_or pages.old (k % 8) [] ≡ source_of seed.now round k }

@@ -1,7 +1,7 @@
 -- Eight messages side by side: each word is a vector, with one lane for each message.
-use Rattle.std.specs.Prelude.{ℕ, List, [], ◌∷◌, ◌++◌, map, slice_index, slice_index_or}
+use Rattle.std.specs.Prelude.{◌≡◌, ℕ, List, [], ◌∷◌, ◌++◌, map, slice_index, slice_index_or}
 use Rattle.std.specs.Int.{w32, to_le_bytes}
-use Rattle.sha2.specs.Sha256.{padding}
+use Rattle.sha2.specs.Sha256.{initial_hash_256, padding, rounds, schedule}
 
 -- lane j of each vector
 abbrev pub lane : ℕ → List (List ℕ) → List ℕ
@@ -24,3 +24,7 @@ padding_block = padding 64
 -- the block that a seed, a round and a page's number fill with their padding
 unfoldable pub source_block : List ℕ → ℕ → ℕ → List ℕ
 source_block seed round page = (seed ++ round ∷ to_le_bytes w32 page) ++ padding 37
+
+-- the variables behind the first eight rounds of any source of a seed
+abbrev pub Begun : List ℕ → List ℕ → Type 0
+Begun seed v = (round page : ℕ) → v ≡ rounds initial_hash_256 (schedule (source_block seed round page) 48) 8

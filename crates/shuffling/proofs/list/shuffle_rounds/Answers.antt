@@ -10,12 +10,13 @@ loop-round-preserved c =
     let count = length c.args.list.now in
     let round = c.loop-round.round in
     record {
+      long = c.shuffle_round.ensures.length ∙ c.loop-round.invariant.long;
       fits = omega arith;
       shuffled = λ index below.
           let place = compute_shuffled_index (round - 1) index count seed in
-          let inside : place < length c.loop-round.list = omega (arith, place_below seed count (round - 1) index below) in
-          c.shuffle_round.ensures place inside
-          ∙ ap (λ n. slice_index c.loop-round.list (after_round seed (round - 1) n place)) c.loop-round.auto.list
+          let inside : place < length c.loop-round.list = omega (arith, c.loop-round.invariant.long, place_below seed count (round - 1) index below) in
+          c.shuffle_round.ensures.shuffled place inside
+          ∙ ap (λ n. slice_index c.loop-round.list (after_round seed (round - 1) n place)) c.loop-round.invariant.long
           ∙ ap (slice_index c.loop-round.list) (place_next seed count round index (omega arith))
           ∙ c.loop-round.invariant.shuffled index below;
     }
@@ -25,5 +26,6 @@ unfolding shuffled_list
 returns c =
     let seed = c.args.seed.now in
     let old = c.args.list.now in
-    fill_by_all (λ index. slice_index old (compute_shuffled_index c.args.rounds index (length old) seed)) c.loop-round.list (length old) 0 c.loop-round.auto.list
+    fill_by_all (λ index. slice_index old (compute_shuffled_index c.args.rounds index (length old) seed)) c.loop-round.list (length old) 0
+    c.loop-round.invariant.long
     (λ index below. ap (slice_index c.loop-round.list) (sym (place_first seed (length old) c.loop-round.round index (omega arith))) ∙ c.loop-round.invariant.shuffled index below)

@@ -4,6 +4,7 @@ use Rattle.shuffling.proofs.list.shuffle_rounds.Given as goal
 
 abbrev pub invariant-loop-round : goal.invariant-loop-round
 invariant-loop-round l = record {
+  long : length l.list ≡ length l.fn.list;
   fits : l.round ≤ l.rounds;
   shuffled : (index : ℕ) → index < length l.fn.list → slice_index l.list (compute_shuffled_index l.round index (length l.fn.list) l.seed) ≡ slice_index l.fn.list (compute_shuffled_index l.rounds index (length l.fn.list) l.seed);
 }

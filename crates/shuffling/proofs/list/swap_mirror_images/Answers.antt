@@ -19,8 +19,10 @@ loop-position-preserved c =
       from = omega arith;
       to = omega arith;
       pages = λ less more k same. c.turn_pages.ensures k (omega arith);
-      passed = join (after_round seed c.args.round count) (by_word c.word_at-word.result loop.position sum) sum _ loop.position next c.args.list.now loop.list c.swap_where_set.new.list
-          loop.invariant.from (omega arith) loop.invariant.passed c.swap_where_set.ensures
+      long = c.swap_where_set.ensures.length ∙ loop.invariant.long;
+      passed = join (after_round seed c.args.round count) (by_word c.word_at-word.result loop.position sum) sum _
+          loop.position next c.args.list.now loop.list c.swap_where_set.new.self
+          loop.invariant.from (omega arith) loop.invariant.passed c.swap_where_set.ensures.passed
           (λ place more less.
           let flip : flip_of (pivot_of seed c.args.round count) count place ≡ sum - place = c.requires.mirror place (omega arith) (omega arith) ∙ omega arith in
           let at : loop.position + (later sum place - loop.position) ≡ later sum place = omega arith in

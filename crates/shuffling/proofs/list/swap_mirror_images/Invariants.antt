@@ -8,6 +8,7 @@ invariant-loop-position l = record {
   from : l.middle ≤ l.position;
   to : l.position ≤ l.end;
   pages : l.middle < l.position → 0 < l.position % 2048 → (k : ℕ) → k / 8 ≡ l.position / 2048 → slice_index_or l.pages (k % 8) [] ≡ source_of l.seed l.round k;
+  long : length l.list ≡ length l.fn.list;
   passed : Passed (after_round l.seed l.round (length l.fn.list)) l.sum l.middle l.position l.fn.list l.list;
 }
 

@@ -2,7 +2,7 @@ use Rattle.std.proofs.Common.{◌≡◌, ℕ, ◌+◌, ap, ◌∙◌, arith}
 use Rattle.std.specs.Int.{bit_at, trailing_zeros, w64}
 use Rattle.std.proofs.lemmas.Nat.Bits.{bit_at-zero, bit_at-trailing_zeros}
 use Rattle.shuffling.proofs.Pass.{reach, reach_end, reach_next}
-use Rattle.shuffling.proofs.list.swap_where_set.Goals as goal
+use Rattle.shuffling.proofs.wide.swap_wide.Goals as goal
 
 pub loop-bits-init : goal.loop-bits-init
 loop-bits-init c = record {

@@ -1,6 +1,6 @@
 use Rattle.std.proofs.Common.{arith}
 use Rattle.shuffling.proofs.Bits.{cleared}
-use Rattle.shuffling.proofs.list.without_lowest.Goals as goal
+use Rattle.shuffling.proofs.wide.without_lowest.Goals as goal
 
 pub returns-clause-kept : goal.returns-clause-kept
 returns-clause-kept c = (cleared c.args.bits c.requires (omega arith)).0

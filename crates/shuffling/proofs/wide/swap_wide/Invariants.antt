@@ -1,6 +1,6 @@
 use Rattle.std.proofs.Common.{ℕ, ◌<◌, ◌^◌}
 use Rattle.shuffling.proofs.Pass.{Reached}
-use Rattle.shuffling.proofs.list.swap_where_set.Given as goal
+use Rattle.shuffling.proofs.wide.swap_wide.Given as goal
 
 abbrev pub invariant-loop-bits : goal.invariant-loop-bits
 invariant-loop-bits l = record {

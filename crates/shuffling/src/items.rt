@@ -1,0 +1,68 @@
+//! The items of a list while it is shuffled: in 32 bits where all of them fit and memory isn't refused, else in 64.
+
+ghost use Rattle.std.specs.Prelude.{◌≡◌, ℕ, ◌+◌, ◌<◌, ◌≤◌, ◌^◌, List, length, Option, Some, None, IfSome};
+ghost use Rattle.shuffling.specs.inside.Pass.{by_word, Passed};
+
+use crate::narrow::{narrowed, swap_narrow, widen};
+use crate::wide::swap_wide;
+use std::alloc::Global;
+use std::marker::Model;
+
+/// Items of a list, which contracts see as numbers.
+#[derive(Drop)]
+pub struct Items {
+    list: Vec<u64>,
+    narrow: Option<Vec<u32>>,
+}
+
+impl Model for Items {
+    ghost Value = { List ℕ };
+
+    ghost view = { λ s. elim s.narrow [ Some narrow ↦ narrow.items | None ↦ s.list.items ] };
+
+    ghost invariant = { λ s. IfSome s.narrow (λ narrow. length narrow.items ≡ length s.list.items) };
+}
+
+impl Items {
+    /// The items of a list.
+    pub fn new(alloc: Global, list: Vec<u64>) -> Self
+        ensures { result ≡ list.items }
+    {
+        let narrow = narrowed(alloc, &list);
+        Items { list, narrow }
+    }
+
+    /// How many there are.
+    pub fn len(&self) -> usize
+        ensures { result ≡ length self.now }
+    {
+        self.list.len()
+    }
+
+    /// Swaps the positions from `first` up to but not `last` with their mirror images where their bits are 1.
+    pub fn swap_where_set(&mut self, sum: usize, first: usize, last: usize, word: u64)
+        requires ordered { first ≤ last }
+        requires in_list { last ≤ length self.old }
+        requires fits { length self.old ≤ 2 ^ 40 }
+        requires earlier { sum < first + first }
+        requires images { last ≤ sum + 1 }
+        ensures passed { Passed (by_word word first sum) sum first last self.old self.new }
+        ensures length { length self.new ≡ length self.old }
+    {
+        match &mut self.narrow {
+            Some(narrow) => swap_narrow(narrow, sum, first, last, word),
+            None => swap_wide(&mut self.list, sum, first, last, word),
+        }
+    }
+
+    /// The list.
+    pub fn into_list(self) -> Vec<u64>
+        ensures { result.items ≡ self }
+    {
+        let Items { mut list, narrow } = self;
+        if let Some(narrow) = narrow {
+            widen(&narrow, &mut list);
+        }
+        list
+    }
+}
