@@ -64,11 +64,11 @@ tree_after root_of node new low grown depth len next at item old_top top sub h i
       top_is = lifts (map root_of new.1) (omega (arith, length-map new.1 root_of, wide.0)) (sub_is ∙ ap (λ (d : ℕ). merkle_root d (map root_of new.1)) deep);
     }
 
--- and after many are changed
-pub tree_after_many : {A : Type 0} (root_of : A → List ℕ) (node new : ℕ × List A) (low depth len : ℕ) (changes : List (ℕ × A)) (old_top top sub : List ℕ) → IsTree root_of node low depth len old_top → new ≡ (low, changed node.1 changes) → sub ≡ merkle_root new.0 (map root_of new.1) → Lifts low depth sub top → IsTree root_of new low depth len top
-tree_after_many root_of node new low depth len changes old_top top sub h is sub_is lifts =
+-- and with as many other items
+pub tree_after_all : {A : Type 0} (root_of : A → List ℕ) (node new : ℕ × List A) (low depth len : ℕ) (items : List A) (old_top top sub : List ℕ) → IsTree root_of node low depth len old_top → length items ≡ length node.1 → new ≡ (low, items) → sub ≡ merkle_root new.0 (map root_of new.1) → Lifts low depth sub top → IsTree root_of new low depth len top
+tree_after_all root_of node new low depth len items old_top top sub h same is sub_is lifts =
     let deep : new.0 ≡ low = ap (λ (v : ℕ × List _). v.0) is in
-    let long : length new.1 ≡ length node.1 = ap (λ (v : ℕ × List _). length v.1) is ∙ length_changed node.1 changes in
+    let long : length new.1 ≡ length node.1 = ap (λ (v : ℕ × List _). length v.1) is ∙ same in
     let room = h.room in
     record {
       node_depth = deep;
@@ -81,9 +81,19 @@ tree_after_many root_of node new low depth len changes old_top top sub h is sub_
       top_is = lifts (map root_of new.1) (omega (arith, length-map new.1 root_of, h.len_is)) (sub_is ∙ ap (λ (d : ℕ). merkle_root d (map root_of new.1)) deep);
     }
 
+-- and after many are changed
+pub tree_after_many : {A : Type 0} (root_of : A → List ℕ) (node new : ℕ × List A) (low depth len : ℕ) (changes : List (ℕ × A)) (old_top top sub : List ℕ) → IsTree root_of node low depth len old_top → new ≡ (low, changed node.1 changes) → sub ≡ merkle_root new.0 (map root_of new.1) → Lifts low depth sub top → IsTree root_of new low depth len top
+tree_after_many root_of node new low depth len changes old_top top sub h is sub_is lifts =
+    tree_after_all root_of node new low depth len (changed node.1 changes) old_top top sub h (length_changed node.1 changes) is sub_is lifts
+
 mul_wider : (n low depth : ℕ) → low ≤ depth → n * low ≤ n * depth
 mul_wider zero low depth h = omega arith
 mul_wider (suc n) low depth h = omega (arith, suc-mul n low, suc-mul n depth, mul_wider n low depth h)
+
+mul_fewer : (few many depth : ℕ) → few ≤ many → few * depth ≤ many * depth
+mul_fewer zero many depth less = omega arith
+mul_fewer (suc few) zero depth less = absurd (omega arith)
+mul_fewer (suc few) (suc many) depth less = omega (arith, suc-mul few depth, suc-mul many depth, mul_fewer few many depth (omega arith))
 
 pub many_steps : (n low depth start now : ℕ) → 0 < n → low ≤ depth → now ≤ start + n * low → now + (depth - low) ≤ start + n * depth
 many_steps zero low depth start now some order work = absurd (omega arith)
@@ -91,6 +101,10 @@ many_steps (suc n) low depth start now some order work = omega (arith, suc-mul n
 
 pub fewer_steps : (n low depth start now : ℕ) → low ≤ depth → now ≤ start + n * low → now ≤ start + n * depth
 fewer_steps n low depth start now order work = omega (arith, mul_wider n low depth order)
+
+-- fewer items take fewer steps
+pub fewer_items : (few many depth start now : ℕ) → few ≤ many → now ≤ start + few * depth → now ≤ start + many * depth
+fewer_items few many depth start now less work = omega (arith, mul_fewer few many depth less)
 
 -- a list after a change of its tree
 pub kept_after : {A : Type 0} (root_of : A → List ℕ) (tree new : ℕ × List A) (items : List A) (limit len : ℕ) (old_root root top : List ℕ) → IsKept root_of tree limit old_root → new ≡ (tree.0, items) → len ≡ length items → len ≤ limit → top ≡ merkle_root new.0 (map root_of new.1) → root ≡ mix_in_length top len → IsKept root_of new limit root

@@ -15,6 +15,7 @@ ghost use Rattle.shared_tree.specs.inside.Puts.{put_at};
 
 use crate::four::{Four, chunk_at, pack};
 use crate::numbers::Numbers;
+use crate::put::new_items;
 use crate::tree::Tree;
 use crate::work::mix_step;
 use bc_words::{NoMemory, PushStop, Steps};
@@ -160,9 +161,8 @@ impl PackedList {
         Ok(())
     }
 
-    /// Other numbers at many places. At most a step for each level of the tree and change, and one for the length. Where
-    /// memory is refused, the list is as before.
-    pub fn set_many<L: Ledger>(
+    /// Other numbers at many places, one after another from the last on.
+    fn set_each<L: Ledger>(
         &mut self,
         changes: Vec<(u64, u64)>,
         steps: &mut Steps<L>,
@@ -179,6 +179,42 @@ impl PackedList {
         self.root = mix_step(&tree.top(), self.len, steps);
         self.tree = tree;
         Ok(())
+    }
+
+    /// Other numbers at all places, of which there is one or more: their tree is built layer by layer.
+    fn set_every<L: Ledger>(
+        &mut self,
+        numbers: Vec<u64>,
+        steps: &mut Steps<L>,
+    ) -> Result<(), NoMemory>
+        requires some { 0 < length numbers.items }
+        requires every { length numbers.items ≡ length self.old.items }
+        ensures set { Becomes result self.old self.new (record self.old { items = numbers.items }) }
+        ensures at_most { steps.new ≤ steps.old + (length numbers.items * depth_for (leaf_count uint64 self.old.limit) + 1) }
+    {
+        let fours = pack(*numbers.allocator(), &numbers)?;
+        self.tree.put_every(fours, steps)?;
+        self.root = mix_step(&self.tree.top(), self.len, steps);
+        Ok(())
+    }
+
+    /// Other numbers at many places. At most a step for each level of the tree and change, and one for the length. Where
+    /// every number changes, the tree is built layer by layer. Where memory is refused, the list is as before.
+    pub fn set_many<L: Ledger>(
+        &mut self,
+        changes: Vec<(u64, u64)>,
+        steps: &mut Steps<L>,
+    ) -> Result<(), NoMemory>
+        requires places { AreChanges 0 (length self.old.items) changes.items }
+        ensures set { Becomes result self.old self.new (record self.old { items = changed self.old.items changes.items }) }
+        ensures at_most { steps.new ≤ steps.old + (length changes.items * depth_for (leaf_count uint64 self.old.limit) + 1) }
+    {
+        if self.len > 0 && changes.len() as u64 == self.len {
+            let alloc = *changes.allocator();
+            let numbers = new_items(changes, alloc)?;
+            return self.set_every(numbers, steps);
+        }
+        self.set_each(changes, steps)
     }
 
     /// One more number at the end. Full exactly where there are as many as there may be. A step for each level of the tree,

@@ -115,7 +115,7 @@ pub(crate) fn put_many<T: Leaf + Drop, L: Ledger>(
 }
 
 /// The items of the changes.
-fn new_items<T: Drop>(changes: Vec<(u64, T)>, alloc: Global) -> Result<Vec<T>, NoMemory>
+pub(crate) fn new_items<T: Drop>(changes: Vec<(u64, T)>, alloc: Global) -> Result<Vec<T>, NoMemory>
     ensures { IfOk result (λ items. items.items ≡ map (λ change. change.1) changes.items) }
 {
     let count = changes.len();

@@ -14,7 +14,7 @@ ghost use Rattle.shared_tree.specs.inside.Puts.{put_at};
 use crate::build::depth_over;
 use crate::find::find;
 use crate::iter::Iter;
-use crate::layers::build;
+use crate::layers::{build, layered};
 use crate::node::Node;
 use crate::put::{put_all, put_or_grow};
 use crate::work::{lift, lift_steps};
@@ -133,6 +133,24 @@ impl<T: Leaf + Drop> Tree<T> {
             return Ok(());
         }
         let node = put_all(&self.node, self.low, self.len, changes, self.alloc, steps)?;
+        self.top = lift_steps(node.root(), self.low, self.depth, steps);
+        self.node = node;
+        Ok(())
+    }
+
+    /// Other items at all places, of which there is one or more: the tree is built layer by layer. At most a step for each
+    /// level and item. Where memory is refused, the tree is as before.
+    pub(crate) fn put_every<L: Ledger>(
+        &mut self,
+        items: Vec<T>,
+        steps: &mut Steps<L>,
+    ) -> Result<(), NoMemory>
+        requires some { 0 < length items.items }
+        requires every { length items.items ≡ length self.old.1 }
+        ensures put { Becomes result self.old self.new (self.old.0, items.items) }
+        ensures at_most { steps.new ≤ steps.old + length items.items * self.old.0 }
+    {
+        let node = layered(items, self.low, self.alloc, steps)?;
         self.top = lift_steps(node.root(), self.low, self.depth, steps);
         self.node = node;
         Ok(())

@@ -4,7 +4,7 @@ use Rattle.std.specs.List.{AllByRecursion}
 use Rattle.ssz_codec.specs.Basic.{uint64}
 use Rattle.shared_tree.specs.Lists.{AreChanges, changed}
 use Rattle.shared_tree.specs.inside.Fours.{packed, numbers_in}
-use Rattle.shared_tree.proofs.packed_list.PackedList.set_many.Given as goal
+use Rattle.shared_tree.proofs.packed_list.PackedList.set_each.Given as goal
 
 abbrev pub invariant-each : goal.invariant-each
 invariant-each g l = record {
