@@ -5,8 +5,6 @@
 //! same of plain functions, and how an answer of code meets them.
 #![tactic(auto)]
 
-ghost use Rattle.std.specs.Prelude.{◌≡◌, ◌<◌};
-
 mod arithmetic;
 mod refusal;
 mod square_root;
@@ -20,90 +18,3 @@ pub use square_root::isqrt;
 pub use steps::Steps;
 pub use stop::{Limit, NoMemory, PushStop, Stop};
 pub use store_stop::{ClashKind, StoreStop};
-
-#[cfg(test)]
-mod examples;
-
-#[cfg(test)]
-mod tests {
-    use super::*;
-    use crate::examples::{add_indices, add_to_store, first_equal, first_less};
-    use std::marker::Brand;
-    use std::sync::ledger::{Blank, Ledger};
-
-    fn take_two_steps<L: Ledger>(blank: Blank)
-        requires name { blank.name ≡ L.name }
-        requires parts { blank.parts ≡ L.parts }
-        requires some { 0 < blank.parts }
-    {
-        let mut steps = Steps::<L>::new(blank);
-        steps.tick();
-        steps.tick();
-    }
-
-    #[test]
-    fn words_are_those_of_the_table(rt: HostRuntime) {
-        let rows = [
-            (Refusal::TickBack, 1, "TickBack"),
-            (Refusal::NoActive, 8, "NoActive"),
-            (Refusal::AtEmpty, 28, "AtEmpty"),
-            (Refusal::Overflow, 35, "Overflow"),
-            (Refusal::FcEmpty, 45, "FcEmpty"),
-        ];
-        for (refusal, number, name) in rows {
-            assert_eq!(rt; refusal.number(), number);
-            assert_eq!(rt; refusal.name(), name);
-        }
-        for (n, root) in [
-            (0, 0),
-            (2_048_000_000_000, 1_431_083),
-            (u64::MAX, 4_294_967_295),
-        ] {
-            assert_eq!(rt; isqrt(n), root);
-        }
-        assert_eq!(rt;
-            checked_add(u64::MAX, 1),
-            Err(Stop::Refused(Refusal::Overflow))
-        );
-        assert_eq!(rt; checked_sub(63, 64), Err(Stop::Refused(Refusal::Overflow)));
-        assert_eq!(rt; checked_mul(255, 32_000_000_000), Ok(8_160_000_000_000));
-        take_two_steps::<Brand>(Blank::new(1));
-    }
-
-    #[test]
-    fn loops_give_what_their_definitions_say(rt: HostRuntime) {
-        let overflow = Err(Stop::Refused(Refusal::Overflow));
-        let mut total = 10;
-        assert_eq!(rt; add_indices(&mut total, 5), Ok(()));
-        assert_eq!(rt; total, 20);
-        total = u64::MAX;
-        assert!(rt; add_indices(&mut total, 2).is_err());
-        assert_eq!(rt; first_equal(&[4, 7, 7], 7), Some(1));
-        assert_eq!(rt; first_equal(&[4, 7, 7], 5), None);
-        assert_eq!(rt; first_less(3, 1, 9), Ok(Some(2)));
-        assert_eq!(rt; first_less(3, 9, 3), Ok(None));
-        assert!(rt; first_less(3, 9, 5).is_err());
-        assert_eq!(rt; checked_sum(&[4, 7, 7]), Ok(18));
-        assert_eq!(rt; checked_sum(&[u64::MAX, 1]), overflow);
-    }
-
-    #[test]
-    fn stops_of_a_step_are_those_of_the_store(rt: HostRuntime) {
-        let overflow = StoreStop::Refused(Refusal::Overflow);
-        let mut total = u64::MAX;
-        assert_eq!(rt; add_to_store(&mut total, 1), Err(overflow));
-        assert_eq!(rt;
-            StoreStop::from(Stop::Limit(Limit::Slots(65_537))),
-            StoreStop::Limit(Limit::Slots(65_537))
-        );
-        assert_eq!(rt; StoreStop::from(Stop::NoMemory), StoreStop::NoMemory);
-        assert_eq!(rt;
-            StoreStop::from(ClashKind::Kept(3)),
-            StoreStop::Clash(ClashKind::Kept(3))
-        );
-        assert_eq!(rt;
-            Stop::from(PushStop::Full),
-            Stop::Refused(Refusal::ListFull)
-        );
-    }
-}

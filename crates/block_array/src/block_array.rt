@@ -218,6 +218,3 @@ fn at_least(a: u64, b: u64) -> u64
 {
     if a < b { b } else { a }
 }
-
-#[cfg(test)]
-mod tests;

@@ -14,8 +14,3 @@ pub use epoch::{EpochCommittees, members_stand_once};
 pub use lookup::Lookup;
 pub use proposer::pick_proposer;
 pub use seed::{DOMAIN_BEACON_ATTESTER, DOMAIN_BEACON_PROPOSER, seed_of};
-
-#[cfg(test)]
-mod small_state;
-#[cfg(test)]
-mod tests;

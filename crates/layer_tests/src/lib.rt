@@ -1,4 +1,4 @@
-//! Tests of the layers' public calls, which stand in a crate of their own so that each layer is proved once.
+//! Tests of the public calls of files, of the state and of the layers above it, each layer being proved once.
 #![tactic(auto)]
 
 #[cfg(test)]
@@ -6,13 +6,7 @@ mod blocks;
 #[cfg(test)]
 mod changes;
 #[cfg(test)]
-mod configuration;
-#[cfg(test)]
-mod containers;
-#[cfg(test)]
 mod genesis;
-#[cfg(test)]
-mod hashing;
 #[cfg(test)]
 mod lanes;
 #[cfg(test)]
@@ -21,8 +15,6 @@ mod outside;
 mod records;
 #[cfg(test)]
 mod safety;
-#[cfg(test)]
-mod ssz;
 #[cfg(test)]
 mod texts;
 #[cfg(test)]

@@ -23,6 +23,3 @@ pub use laws::set_after_share;
 pub use numbers::Numbers;
 pub use packed_list::PackedList;
 pub use shared_list::SharedList;
-
-#[cfg(test)]
-mod tests;

@@ -247,39 +247,3 @@ pub fn bits_read_back()
 pub fn one_writing_of_bits()
     ensures { (a b : List Bool) → bit_list_bytes a ≡ bit_list_bytes b → a ≡ b }
 {}
-
-#[cfg(test)]
-mod tests {
-    use super::*;
-    use crate::Writer;
-    use std::test::Fail;
-
-    const ONE_BIT_ROOT: Root = [
-        0x9e, 0x1f, 0xf0, 0x35, 0xa3, 0x2c, 0x3d, 0x30, 0x85, 0x07, 0x4e, 0x67, 0x63, 0x56, 0x98,
-        0x4c, 0x07, 0x7f, 0x70, 0xbe, 0xd4, 0x78, 0x14, 0x95, 0x6a, 0x9e, 0xf8, 0x85, 0x2d, 0xcb,
-        0x81, 0x61,
-    ];
-
-    #[test]
-    fn bits_of_small_writings(rt: HostRuntime) -> Result<(), Fail> {
-        let refused = [b"".as_slice(), b"\x00", b"\x01\x00", b"\x00\x00\x02"];
-        for bytes in refused.iter() {
-            assert!(rt; BitList::read(rt.alloc(), bytes, 16).is_err());
-        }
-        assert!(rt; BitList::read(rt.alloc(), b"\x01", 0)?.is_empty());
-        assert!(rt; BitList::read(rt.alloc(), b"\x03", 0).is_err());
-        let one = BitList::read(rt.alloc(), b"\x03", 1)?;
-        assert_eq!(rt; one.len(), 1);
-        assert_eq!(rt; one.get(0), Some(true));
-        assert_eq!(rt; one.get(1), None);
-        assert_eq!(rt; one.root(2048), ONE_BIT_ROOT);
-        let long = [b"\x00\x01".as_slice(), b"\xff\x80", b"\x02\x03\x05"];
-        for bytes in long.iter() {
-            let bits = BitList::read(rt.alloc(), bytes, 2048)?;
-            let mut out = Writer::new(rt.alloc());
-            bits.write_to(&mut out)?;
-            assert_eq!(rt; out.finish().as_slice(), *bytes);
-        }
-        Ok(())
-    }
-}
