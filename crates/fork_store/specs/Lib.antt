@@ -1,1 +1,2 @@
+pub mod ChainStep
 pub mod inside

@@ -7,6 +7,7 @@
 
 mod accept_block;
 mod block_in;
+mod chain_stepper;
 mod clash_of;
 mod copies;
 mod filter_block_tree;
@@ -29,6 +30,7 @@ mod update_latest_messages;
 mod validate_on_attestation;
 
 pub use block_in::BlockIn;
+pub use chain_stepper::ChainStepper;
 pub use kept_block::{KeptBlock, KeptBlocks};
 pub use latest_messages::{LatestMessage, LatestMessages};
 pub use on_event::Accepted;
