@@ -6,5 +6,6 @@ pub mod Packing
 pub mod Packs
 pub mod Many
 pub mod Walks
+pub mod ChunkChanges
 pub mod Climbs
 pub mod Every

@@ -56,7 +56,7 @@ module _ {A : Type 0} where
         | inr high ↦ ap (before from) (before_no middle c cs high) ∙ (before_before from middle cs h ∙ sym (before_no from c cs (omega arith)))
       ]
 
-  weaker : (low lower len more : ℕ) (cs : List (ℕ × A)) → lower ≤ low → len ≤ more → AreChanges low len cs → AreChanges lower more cs
+  pub weaker : (low lower len more : ℕ) (cs : List (ℕ × A)) → lower ≤ low → len ≤ more → AreChanges low len cs → AreChanges lower more cs
   weaker low lower len more [] a b h = tt
   weaker low lower len more (c ∷ cs) a b h = (omega (arith, h.0), omega (arith, h.1), weaker (suc c.0) (suc c.0) len more cs (omega arith) b h.2)
 

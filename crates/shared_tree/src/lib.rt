@@ -5,6 +5,7 @@
 #![tactic(auto)]
 
 mod build;
+mod chunked;
 mod find;
 mod four;
 mod iter;

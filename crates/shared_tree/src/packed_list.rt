@@ -13,6 +13,7 @@ ghost use Rattle.shared_tree.specs.Lists.{AreChanges, changed};
 ghost use Rattle.shared_tree.specs.inside.Fours.{packed, numbers_in};
 ghost use Rattle.shared_tree.specs.inside.Puts.{put_at};
 
+use crate::chunked::chunk_changes;
 use crate::four::{Four, chunk_at, pack};
 use crate::numbers::Numbers;
 use crate::put::new_items;
@@ -161,8 +162,8 @@ impl PackedList {
         Ok(())
     }
 
-    /// Other numbers at many places, one after another from the last on.
-    fn set_each<L: Ledger>(
+    /// Other numbers at many places: each chunk that has one is changed once.
+    fn set_chunks<L: Ledger>(
         &mut self,
         changes: Vec<(u64, u64)>,
         steps: &mut Steps<L>,
@@ -170,14 +171,12 @@ impl PackedList {
         requires places { AreChanges 0 (length self.old.items) changes.items }
         ensures set { Becomes result self.old self.new (record self.old { items = changed self.old.items changes.items }) }
         ensures at_most { steps.new ≤ steps.old + (length changes.items * depth_for (leaf_count uint64 self.old.limit) + 1) }
+        ensures nodes { steps.new ≤ steps.old + (2 * leaf_count uint64 (length self.old.items) + depth_for (leaf_count uint64 self.old.limit) + 1) }
     {
-        let mut changes = changes;
-        let mut tree = self.tree.share()?;
-        'each: while let Some((at, number)) = changes.pop() {
-            put_number(&mut tree, self.len, at, number, steps)?;
-        }
-        self.root = mix_step(&tree.top(), self.len, steps);
-        self.tree = tree;
+        let alloc = *changes.allocator();
+        let chunks = chunk_changes(&self.tree, self.len, changes, alloc)?;
+        self.tree.put_many(chunks, steps)?;
+        self.root = mix_step(&self.tree.top(), self.len, steps);
         Ok(())
     }
 
@@ -191,6 +190,7 @@ impl PackedList {
         requires every { length numbers.items ≡ length self.old.items }
         ensures set { Becomes result self.old self.new (record self.old { items = numbers.items }) }
         ensures at_most { steps.new ≤ steps.old + (length numbers.items * depth_for (leaf_count uint64 self.old.limit) + 1) }
+        ensures nodes { steps.new ≤ steps.old + (2 * leaf_count uint64 (length self.old.items) + depth_for (leaf_count uint64 self.old.limit) + 1) }
     {
         let fours = pack(*numbers.allocator(), &numbers)?;
         self.tree.put_every(fours, steps)?;
@@ -198,8 +198,9 @@ impl PackedList {
         Ok(())
     }
 
-    /// Other numbers at many places. At most a step for each level of the tree and change, and one for the length. Where
-    /// every number changes, the tree is built layer by layer. Where memory is refused, the list is as before.
+    /// Other numbers at many places. Each node is made anew once: at most a step for each level of the tree and change, and
+    /// one for the length, and no more than the tree over the chunks has nodes, and one for each level above. Where every
+    /// number changes, the tree is built layer by layer. Where memory is refused, the list is as before.
     pub fn set_many<L: Ledger>(
         &mut self,
         changes: Vec<(u64, u64)>,
@@ -208,13 +209,14 @@ impl PackedList {
         requires places { AreChanges 0 (length self.old.items) changes.items }
         ensures set { Becomes result self.old self.new (record self.old { items = changed self.old.items changes.items }) }
         ensures at_most { steps.new ≤ steps.old + (length changes.items * depth_for (leaf_count uint64 self.old.limit) + 1) }
+        ensures nodes { steps.new ≤ steps.old + (2 * leaf_count uint64 (length self.old.items) + depth_for (leaf_count uint64 self.old.limit) + 1) }
     {
         if self.len > 0 && changes.len() as u64 == self.len {
             let alloc = *changes.allocator();
             let numbers = new_items(changes, alloc)?;
             return self.set_every(numbers, steps);
         }
-        self.set_each(changes, steps)
+        self.set_chunks(changes, steps)
     }
 
     /// One more number at the end. Full exactly where there are as many as there may be. A step for each level of the tree,

@@ -159,7 +159,7 @@ pub(crate) fn put_all<T: Leaf + Drop, L: Ledger>(
 }
 
 /// Whether the last change is at this place or behind.
-fn reaches<T>(changes: &[(u64, T)], from: u64) -> bool
+pub(crate) fn reaches<T>(changes: &[(u64, T)], from: u64) -> bool
     ensures { Reaches from changes.now result }
 {
     let count = changes.len();

@@ -149,6 +149,7 @@ impl<T: Leaf + Drop> Tree<T> {
         requires every { length items.items ≡ length self.old.1 }
         ensures put { Becomes result self.old self.new (self.old.0, items.items) }
         ensures at_most { steps.new ≤ steps.old + length items.items * self.old.0 }
+        ensures nodes { steps.new ≤ steps.old + (2 * length self.old.1 + self.old.0) }
     {
         let node = layered(items, self.low, self.alloc, steps)?;
         self.top = lift_steps(node.root(), self.low, self.depth, steps);

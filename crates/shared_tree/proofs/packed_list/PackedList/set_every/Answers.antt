@@ -1,5 +1,5 @@
 -- The list of other numbers.
-use Rattle.std.proofs.Common.{◌≡◌, ℕ, ◌+◌, ◌*◌, ◌≤◌, List, length, ap, subst, ◌∙◌, arith}
+use Rattle.std.proofs.Common.{◌≡◌, ℕ, ◌+◌, ◌*◌, ◌/◌, ◌≤◌, List, length, ap, subst, ◌∙◌, arith}
 use Rattle.std.specs.List.{AllByRecursion}
 use Rattle.hash_tree.specs.Merkle.{depth_of}
 use Rattle.ssz_codec.specs.Basic.{uint64}
@@ -52,3 +52,17 @@ returns-clause-at_most g c =
     let less : length c.in_ok-fours.fours.items ≤ length c.args.numbers.items = omega (arith, ap length packs, length_packed c.args.numbers.items) in
     let few = fewer_items (length c.in_ok-fours.fours.items) (length c.args.numbers.items) c.self.inside.tree.0 c.args.steps.now c.put_every.new.steps less c.put_every.ensures.at_most in
     subst (λ (d : ℕ). c.mix_step-self-inside.new.steps ≤ c.args.steps.now + (length c.args.numbers.items * d + 1)) deep (omega (arith, few, c.mix_step-self-inside.ensures.steps))
+
+pub returns-in_err-put_every-clause-nodes : goal.returns-in_err-put_every-clause-nodes
+returns-in_err-put_every-clause-nodes g c =
+    let long = length_packed (numbers_in c.self.inside.len c.self.inside.tree.1) in
+    let chunks : length c.self.inside.tree.1 ≡ (length c.args.self.now.items + 3) / 4 = omega (arith, ap length c.self.invariant.packs, long, ap (λ (l : Limited ℕ). length l.items) c.self.view_is) in
+    let deep : c.self.inside.tree.0 ≡ depth_of (leaf_count uint64 c.args.self.now.limit) = c.self.invariant.depth_is ∙ ap (λ (l : Limited ℕ). depth_of (leaf_count uint64 l.limit)) c.self.view_is in
+    subst (λ (d : ℕ). c.put_every.new.steps ≤ c.args.steps.now + (2 * leaf_count uint64 (length c.args.self.now.items) + d + 1)) deep (omega (arith, chunks, c.put_every.ensures.nodes))
+
+pub returns-clause-nodes : goal.returns-clause-nodes
+returns-clause-nodes g c =
+    let long = length_packed (numbers_in c.self.inside.len c.self.inside.tree.1) in
+    let chunks : length c.self.inside.tree.1 ≡ (length c.args.self.now.items + 3) / 4 = omega (arith, ap length c.self.invariant.packs, long, ap (λ (l : Limited ℕ). length l.items) c.self.view_is) in
+    let deep : c.self.inside.tree.0 ≡ depth_of (leaf_count uint64 c.args.self.now.limit) = c.self.invariant.depth_is ∙ ap (λ (l : Limited ℕ). depth_of (leaf_count uint64 l.limit)) c.self.view_is in
+    subst (λ (d : ℕ). c.mix_step-self-inside.new.steps ≤ c.args.steps.now + (2 * leaf_count uint64 (length c.args.self.now.items) + d + 1)) deep (omega (arith, chunks, c.put_every.ensures.nodes, c.mix_step-self-inside.ensures.steps))

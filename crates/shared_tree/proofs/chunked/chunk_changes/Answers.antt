@@ -1,0 +1,71 @@
+-- One number more.
+use Rattle.std.proofs.Common.{◌≡◌, ℕ, suc, ◌+◌, ◌/◌, ◌<◌, ◌≤◌, List, [], ◌∷◌, length, take, drop, refl, sym, ap, subst, ◌∙◌, arith}
+use Rattle.std.specs.Prelude.{slice_set}
+use Rattle.std.specs.List.{AllByRecursion}
+use Rattle.std.specs.Vec.Iter.{into_iter_items}
+use Rattle.ssz_codec.specs.Basic.{uint64}
+use Rattle.shared_tree.specs.Lists.{AreChanges, changed}
+use Rattle.shared_tree.specs.inside.Fours.{packed, numbers_in}
+use Rattle.shared_tree.proofs.Changes.{changed_none, length_changed}
+use Rattle.shared_tree.proofs.ChunkChanges.{changed_push, more_places, take_next, wider, set_below}
+use Rattle.shared_tree.proofs.Climbs.{drop_next}
+use Rattle.shared_tree.proofs.Packing.{length_packed}
+use Rattle.shared_tree.proofs.chunked.chunk_changes.Goals as goal
+
+pub numbers-init : goal.numbers-init
+numbers-init c =
+    let none : length c.new-chunks.result.items ≡ 0 = ap length c.new-chunks.ensures.items in
+    let same = changed_none (numbers_in c.args.len c.args.tree.now.1) [] refl in
+    record {
+      rest = c.into_iter-rest.ensures.rest;
+      made = changed_none c.args.tree.now.1 c.new-chunks.result.items none ∙ (c.requires.packs ∙ ap packed (sym same));
+      places = subst (λ (cs : List (ℕ × _)). AreChanges 0 0 cs) (sym c.new-chunks.ensures.items) tt;
+      before = tt;
+      behind = c.requires.places;
+      upto = omega arith;
+      few = omega arith;
+      within = subst (λ (xs : List ℕ). AllByRecursion uint64.Within xs) (sym same) c.requires.within;
+    }
+
+pub add_number-requires-clause-within : goal.add_number-requires-clause-within
+add_number-requires-clause-within c =
+    let head = subst (λ (cs : List (ℕ × ℕ)). AreChanges c.numbers.low c.args.len cs) (sym c.numbers.invariant.rest ∙ c.in-Some.ensures.items) c.numbers.invariant.behind in
+    let below : c.in-Some.at < c.args.len = head.1 in
+    omega (arith, ap length c.requires.packs, length_packed (numbers_in c.args.len c.args.tree.now.1), c.requires.len_is)
+
+pub add_number-requires-clause-places : goal.add_number-requires-clause-places
+add_number-requires-clause-places c =
+    let head = subst (λ (cs : List (ℕ × ℕ)). AreChanges c.numbers.low c.args.len cs) (sym c.numbers.invariant.rest ∙ c.in-Some.ensures.items) c.numbers.invariant.behind in
+    let above : c.numbers.low ≤ c.in-Some.at = head.0 in
+    wider ((c.numbers.low + 3) / 4) (c.in-Some.at / 4 + 1) c.numbers.chunks.items (omega arith) c.numbers.invariant.places
+
+pub numbers-preserved : goal.numbers-preserved
+numbers-preserved c =
+    let dropped : drop c.numbers.k c.args.changes.items ≡ (c.in-Some.at, c.in-Some.number) ∷ into_iter_items c.next.new.self = sym c.numbers.invariant.rest ∙ c.in-Some.ensures.items in
+    let head = subst (λ (cs : List (ℕ × ℕ)). AreChanges c.numbers.low c.args.len cs) dropped c.numbers.invariant.behind in
+    let above : c.numbers.low ≤ c.in-Some.at = head.0 in
+    let below : c.in-Some.at < c.args.len = head.1 in
+    let next_drop = drop_next c.args.changes.items c.numbers.k (c.in-Some.at, c.in-Some.number) (into_iter_items c.next.new.self) dropped in
+    let next_take = take_next c.args.changes.items c.numbers.k (c.in-Some.at, c.in-Some.number) (into_iter_items c.next.new.self) dropped in
+    let before_at = wider c.numbers.low c.in-Some.at (take c.numbers.k c.args.changes.items) above c.numbers.invariant.before in
+    let long = length_changed (numbers_in c.args.len c.args.tree.now.1) (take c.numbers.k c.args.changes.items) in
+    let within : c.in-Some.at < length (changed (numbers_in c.args.len c.args.tree.now.1) (take c.numbers.k c.args.changes.items)) = omega (arith, long, c.requires.len_is) in
+    let now : changed (numbers_in c.args.len c.args.tree.now.1) (take (c.numbers.k + 1) c.args.changes.items) ≡ slice_set (changed (numbers_in c.args.len c.args.tree.now.1) (take c.numbers.k c.args.changes.items)) c.in-Some.at c.in-Some.number = ap (λ (cs : List (ℕ × ℕ)). changed (numbers_in c.args.len c.args.tree.now.1) cs) next_take ∙ changed_push (numbers_in c.args.len c.args.tree.now.1) 0 c.in-Some.at (take c.numbers.k c.args.changes.items) c.in-Some.number before_at in
+    let chunk : c.in-Some.at / 4 + 1 ≡ (c.in-Some.at + 1 + 3) / 4 = omega arith in
+    let after : suc c.in-Some.at ≡ c.in-Some.at + 1 = omega arith in
+    let few = c.numbers.invariant.few in
+    let more = c.in_ok-add_number-in-Some.ensures.few in
+    record {
+      rest = sym next_drop;
+      made = c.in_ok-add_number-in-Some.ensures.made (changed (numbers_in c.args.len c.args.tree.now.1) (take c.numbers.k c.args.changes.items)) within c.numbers.invariant.made ∙ ap packed (sym now);
+      places = subst (λ (n : ℕ). AreChanges 0 n c.add_number.new.chunks.items) chunk c.in_ok-add_number-in-Some.ensures.places;
+      before = subst (λ (cs : List (ℕ × ℕ)). AreChanges 0 (c.in-Some.at + 1) cs) (sym next_take) (more_places 0 c.in-Some.at (take c.numbers.k c.args.changes.items) c.in-Some.number (omega arith) before_at);
+      behind = subst (λ (cs : List (ℕ × ℕ)). AreChanges (c.in-Some.at + 1) c.args.len cs) (sym next_drop) (subst (λ (n : ℕ). AreChanges n c.args.len (into_iter_items c.next.new.self)) after head.2);
+      upto = omega arith;
+      few = omega arith;
+      within = subst (λ (xs : List ℕ). AllByRecursion uint64.Within xs) (sym now) (set_below (changed (numbers_in c.args.len c.args.tree.now.1) (take c.numbers.k c.args.changes.items)) c.in-Some.at c.in-Some.number within c.numbers.invariant.within c.in_ok-add_number-in-Some.ensures.number);
+    }
+
+pub returns-clause-places : goal.returns-clause-places
+returns-clause-places c =
+    wider ((c.numbers.low + 3) / 4) (length c.args.tree.now.1) c.numbers.chunks.items (omega (arith, c.numbers.invariant.upto, ap length c.requires.packs, length_packed (numbers_in c.args.len c.args.tree.now.1), c.requires.len_is)) c.numbers.invariant.places
