@@ -4,4 +4,6 @@
 #[cfg(test)]
 mod adder;
 #[cfg(test)]
+mod chain;
+#[cfg(test)]
 mod states;

@@ -1,0 +1,150 @@
+//! The step of the state transition, as the keeper of states takes it.
+
+ghost use Rattle.std.specs.Prelude.{◌≡◌, IfOk};
+ghost use Rattle.bc_preset.specs.Presets.{IsPreset};
+ghost use Rattle.spec_state.specs.Genesis.{header_root_of};
+ghost use Rattle.spec_state.specs.Soundness.{IsSound};
+
+use bc_preset::{Config, Preset};
+use bc_words::{Refusal, Stop};
+use beacon_body::{BeaconBlock, BeaconBlockBody, SignedBeaconBlock};
+use beacon_state::State;
+use beacon_types::Eth1Data;
+use fork_store::ChainStepper;
+use hash_tree::Root;
+use ssz_codec::{Items, LimitedList, SszFault, VariableList};
+use state_keeper::Stepper;
+use std::alloc::{AllocError, Global};
+use std::process::Abort;
+use std::test::Fail;
+use transition::is_sound;
+use transition::process_block::process_block;
+use transition::process_slots::process_slots;
+
+/// A configuration of the minimal preset.
+const MINIMAL: &[u8] = b"PRESET_BASE: minimal
+SECONDS_PER_SLOT: 6
+MIN_VALIDATOR_WITHDRAWABILITY_DELAY: 256
+SHARD_COMMITTEE_PERIOD: 64
+EJECTION_BALANCE: 16000000000
+MIN_PER_EPOCH_CHURN_LIMIT: 4
+CHURN_LIMIT_QUOTIENT: 32
+PROPOSER_SCORE_BOOST: 40
+";
+
+/// The body whose fields are all zero or empty.
+fn empty_body(alloc: Global) -> BeaconBlockBody {
+    BeaconBlockBody {
+        randao_reveal: [0; 96],
+        eth1_data: Eth1Data {
+            deposit_root: [0; 32],
+            deposit_count: 0,
+            block_hash: [0; 32],
+        },
+        graffiti: [0; 32],
+        proposer_slashings: LimitedList::from_items(Items::new(alloc)),
+        attester_slashings: VariableList::from_items(Items::new(alloc)),
+        attestations: VariableList::from_items(Items::new(alloc)),
+        deposits: LimitedList::from_items(Items::new(alloc)),
+        voluntary_exits: LimitedList::from_items(Items::new(alloc)),
+    }
+}
+
+/// Puts bytes at a place.
+fn put(bytes: &mut Vec<u8>, at: usize, part: &[u8]) {
+    for (i, byte) in part.iter().enumerate() {
+        if let Some(here) = bytes.get_mut(at.wrapping_add(i)) {
+            *here = *byte;
+        }
+    }
+}
+
+/// A state of the minimal preset with one validator, which is active and has the largest effective balance.
+fn state_of_one(alloc: Global) -> Result<Vec<u8>, AllocError> {
+    let mut bytes = vec![in alloc; 0; 7186]?;
+    for at in [4272usize, 4348, 4360] {
+        put(&mut bytes, at, &7057u32.to_le_bytes());
+    }
+    put(&mut bytes, 4364, &7178u32.to_le_bytes());
+    put(&mut bytes, 6928, &7186u32.to_le_bytes());
+    put(&mut bytes, 6932, &7186u32.to_le_bytes());
+    put(&mut bytes, 7137, &32_000_000_000u64.to_le_bytes());
+    put(&mut bytes, 7162, &[255; 16]);
+    put(&mut bytes, 7178, &32_000_000_000u64.to_le_bytes());
+    Ok(bytes)
+}
+
+/// An empty block of a slot on a state.
+fn block_on(alloc: Global, state: &State, slot: u64, state_root: Root) -> SignedBeaconBlock
+    ensures slot { result.message.slot ≡ slot }
+    ensures parent { result.message.parent_root ≡ header_root_of state.now }
+{
+    SignedBeaconBlock {
+        message: BeaconBlock {
+            slot,
+            proposer_index: 0,
+            parent_root: state.header_root(),
+            state_root,
+            body: empty_body(alloc),
+        },
+        signature: [0; 96],
+    }
+}
+
+/// The root of the state behind an empty block of a slot, made part by part.
+fn root_behind(alloc: Global, config: &Config, state: &State, slot: u64) -> Result<Root, Stop>
+    requires { IsSound state.now }
+{
+    let block = block_on(alloc, state, slot, [0; 32]);
+    let mut step = process_slots(alloc, state, slot, config)?;
+    process_block(alloc, &mut step.state, &block.message, config)?;
+    Ok(step.state.root())
+}
+
+/// The root of the state that a step by an empty block gives.
+fn step_root(
+    rt: &(impl AllocGlobal + Abort),
+    config: &Config,
+    state: &State,
+    slot: u64,
+    state_root: Root,
+) -> Result<Root, Stop>
+    requires sound { IsSound state.now }
+    requires preset { state.now.preset ≡ config.now.preset }
+{
+    assert_ne!(rt; state.root(), [0; 32]);
+    let block = block_on(rt.alloc(), state, slot, state_root);
+    let next = ChainStepper::new(config).step(rt.alloc(), state, &block)?;
+    Ok(next.root())
+}
+
+/// A block of slot 0 isn't later, one with a wrong state root is refused, and one with the right root is taken.
+fn steps_hold(rt: &(impl AllocGlobal + Abort), config: &Config, state: &State) -> Result<(), Fail>
+    requires { state.now.preset ≡ config.now.preset }
+{
+    assert!(rt; is_sound(rt.alloc(), state)?);
+    let early = step_root(rt, config, state, 0, [0; 32]);
+    assert!(rt; matches!(early, Err(Stop::Refused(Refusal::SlotNotLater))));
+    let wrong = step_root(rt, config, state, 1, [0; 32]);
+    assert!(rt; matches!(wrong, Err(Stop::Refused(Refusal::StateRoot))));
+    let root = root_behind(rt.alloc(), config, state, 1)?;
+    assert_eq!(rt; step_root(rt, config, state, 1, root)?, root);
+    Ok(())
+}
+
+/// Reads a state of the preset.
+#[tactic(auto, using(spec_state::proofs::Limits::within_preset))]
+fn read_state(alloc: Global, preset: &Preset, bytes: &[u8]) -> Result<State, SszFault>
+    requires { IsPreset preset.now }
+    ensures { IfOk result (λ state. state.preset ≡ preset.now) }
+{
+    State::read(alloc, preset, bytes)
+}
+
+#[test]
+fn blocks_on_a_state_of_one_validator(rt: HostRuntime) -> Result<(), Fail> {
+    let config = Config::read(MINIMAL)?;
+    let bytes = state_of_one(rt.alloc())?;
+    let state = read_state(rt.alloc(), config.preset(), &bytes)?;
+    steps_hold(&rt, &config, &state)
+}
