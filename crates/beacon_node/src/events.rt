@@ -8,6 +8,7 @@ ghost use Rattle.beacon_node.specs.Answers.{HasCauses, Replayed, taken_of};
 ghost use Rattle.beacon_node.specs.inside.Statuses.{unwritten, no_frame};
 ghost use Rattle.beacon_node.specs.inside.Progress.{Progress, OneMore, EventsOver, HasLine, EndsAt, outcome_of};
 
+use crate::head::head_of;
 use crate::lines::{accepted_line, refused_line};
 use crate::reading::unread;
 use crate::status::Status;
@@ -36,10 +37,10 @@ fn handle_event(
     event: &Event,
     store: &mut Store,
 ) -> Result<Vec<u8>, Status>
-    requires few { length store.old.blocks < 2 ^ 32 - 1 }
-    ensures few { IfOk result (λ _. length store.new.blocks ≤ length store.old.blocks + 1) }
-    ensures line { IfOk result (λ line. HasLine number event.now store.old store.new line.items) }
-    ensures over { IfErr result (λ status. EndsAt status number (outcome_of store.old event.now)) }
+    requires few { length store.old.plain.blocks < 2 ^ 32 - 1 }
+    ensures few { IfOk result (λ _. length store.new.plain.blocks ≤ length store.old.plain.blocks + 1) }
+    ensures line { IfOk result (λ line. HasLine number event.now store.old.plain store.new.plain line.items) }
+    ensures over { IfErr result (λ status. EndsAt status number (outcome_of store.old.plain event.now)) }
 {
     match store.on_event(alloc, event.kind, event.payload.as_slice()) {
         Ok(given) => line_or_status(accepted_line(
@@ -93,12 +94,13 @@ fn no_event<S: EventSource>(source: &S, stop: FrameStop) -> Status
 }
 
 /// Tells the slot of the store's head, where it is asked for.
-fn tell_head<O: Sink>(alloc: Global, store: &Store, out: &O) {
+fn tell_head<O: Sink>(store: &mut Store, out: &O)
+    ensures { store.new.plain ≡ store.old.plain }
+{
     if out.asks() {
-        if let Ok(head) = store.head(alloc) {
-            if let Some(block) = store.block(head) {
-                out.hear(block.slot);
-            }
+        let head = head_of(store);
+        if let Some(block) = store.block(head) {
+            out.hear(block.slot);
         }
     }
 }
@@ -112,11 +114,11 @@ fn replay_event<S: EventSource, F: Shelf, O: Sink>(
     out: &mut O,
 ) -> Option<Status>
     requires opened { IsOpenedFile (S.seen source.old).file (F.told shelf.old) }
-    requires few { length store.old.blocks ≤ (S.seen source.old).events + 1 }
-    ensures few { IfNone result (length store.new.blocks ≤ (S.seen source.new).events + 1) }
-    ensures goes_on { IfNone result (Progress store.old (S.seen source.old) (F.told shelf.old) (O.told out.old).taken
-        store.new (S.seen source.new) (F.told shelf.new) (O.told out.new).taken × OneMore (S.seen source.old) (S.seen source.new)) }
-    ensures over { IfSome result (λ status. EventsOver status store.old (S.seen source.old) (F.told shelf.old) (F.told shelf.new)
+    requires few { length store.old.plain.blocks ≤ (S.seen source.old).events + 1 }
+    ensures few { IfNone result (length store.new.plain.blocks ≤ (S.seen source.new).events + 1) }
+    ensures goes_on { IfNone result (Progress store.old.plain (S.seen source.old) (F.told shelf.old) (O.told out.old).taken
+        store.new.plain (S.seen source.new) (F.told shelf.new) (O.told out.new).taken × OneMore (S.seen source.old) (S.seen source.new)) }
+    ensures over { IfSome result (λ status. EventsOver status store.old.plain (S.seen source.old) (F.told shelf.old) (F.told shelf.new)
         (O.told out.old).taken (O.told out.new).taken) }
     ensures causes { IfSome result (λ status. HasCauses status (F.told shelf.old).faults (F.told shelf.new).faults
         (O.told out.old).faults (O.told out.new).faults) }
@@ -134,7 +136,7 @@ fn replay_event<S: EventSource, F: Shelf, O: Sink>(
     };
     match write_all(out, &line) {
         Ok(()) => {
-            tell_head(alloc, store, out);
+            tell_head(store, out);
             None
         }
         Err(trouble) => Some(unwritten(trouble)),
@@ -150,8 +152,8 @@ fn replay_events<S: EventSource, F: Shelf, O: Sink>(
     out: &mut O,
 ) -> Status
     requires opened { IsOpenedFile (S.seen source.old).file (F.told shelf.old) }
-    requires few { length store.old.blocks ≤ (S.seen source.old).events + 1 }
-    ensures over { EventsOver result store.old (S.seen source.old) (F.told shelf.old) (F.told shelf.new) (O.told out.old).taken (O.told out.new).taken }
+    requires few { length store.old.plain.blocks ≤ (S.seen source.old).events + 1 }
+    ensures over { EventsOver result store.old.plain (S.seen source.old) (F.told shelf.old) (F.told shelf.new) (O.told out.old).taken (O.told out.new).taken }
     ensures causes { HasCauses result (F.told shelf.old).faults (F.told shelf.new).faults (O.told out.old).faults (O.told out.new).faults }
     ensures command { result ≢ Status.Words }
     ensures shelf { ShelfKeeps [] (F.told shelf.old) (F.told shelf.new) }
@@ -173,8 +175,8 @@ pub fn replay_record<F: Shelf, O: Sink>(
     out: &mut O,
 ) -> Status
     requires opened { length (F.told shelf.old).files < 2 ^ 32 }
-    requires few { length store.old.blocks ≤ 1 }
-    ensures answers { Replayed (λ contents. with_record store.old (contents name.now)) (λ contents opened. with_record store.old (taken_of 0 opened))
+    requires few { length store.old.plain.blocks ≤ 1 }
+    ensures answers { Replayed (λ contents. with_record store.old.plain (contents name.now)) (λ contents opened. with_record store.old.plain (taken_of 0 opened))
         (name.now ∷ []) result (F.told shelf.old) (F.told shelf.new) (O.told out.old).taken (O.told out.new).taken }
     ensures causes { HasCauses result (F.told shelf.old).faults (F.told shelf.new).faults (O.told out.old).faults (O.told out.new).faults }
     ensures command { result ≢ Status.Words }

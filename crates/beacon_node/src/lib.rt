@@ -4,6 +4,7 @@
 mod events;
 mod explanation;
 mod genesis;
+mod head;
 mod law;
 mod lines;
 mod program;

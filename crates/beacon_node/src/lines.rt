@@ -7,6 +7,7 @@ ghost use Rattle.spec_fork_choice.specs.OnEvent.{block};
 ghost use Rattle.spec_replay.specs.Lines.{root_text, checkpoint_text, refusal_text, accepted_text, kind_text, head_label, justified_label, finalized_label, block_label, state_label, store_text, event_line};
 ghost use Rattle.fork_store.specs.inside.Events.{accepted_of};
 
+use crate::head::head_of;
 use bc_words::{NoMemory, Refusal};
 use beacon_types::Checkpoint;
 use fork_store::{Accepted, BlockIn, Store};
@@ -81,18 +82,20 @@ fn push_finalized_label(line: &mut Vec<u8>) -> Result<(), AllocError>
 }
 
 /// Appends the head of the store.
-fn push_head(line: &mut Vec<u8>, alloc: Global, store: &Store) -> Result<(), NoMemory>
-    ensures { OnOk result (line.new.items ≡ line.old.items ++ root_text (get_head store.now)) }
+fn push_head(line: &mut Vec<u8>, alloc: Global, store: &mut Store) -> Result<(), NoMemory>
+    ensures line { OnOk result (line.new.items ≡ line.old.items ++ root_text (get_head store.old.plain)) }
+    ensures same { store.new.plain ≡ store.old.plain }
 {
-    let head = store.head(alloc)?;
+    let head = head_of(store);
     push_root(line, alloc, &head)?;
     Ok(())
 }
 
 /// Appends the store's head and its two checkpoints.
 #[tactic(auto, unfolding(spec_replay::specs::Lines::store_text))]
-fn push_store(line: &mut Vec<u8>, alloc: Global, store: &Store) -> Result<(), NoMemory>
-    ensures { OnOk result (line.new.items ≡ line.old.items ++ store_text store.now) }
+fn push_store(line: &mut Vec<u8>, alloc: Global, store: &mut Store) -> Result<(), NoMemory>
+    ensures line { OnOk result (line.new.items ≡ line.old.items ++ store_text store.old.plain) }
+    ensures same { store.new.plain ≡ store.old.plain }
 {
     push_head_label(line)?;
     push_head(line, alloc, store)?;
@@ -165,9 +168,10 @@ pub fn accepted_line(
     event: u64,
     kind: u8,
     given: &Accepted,
-    store: &Store,
+    store: &mut Store,
 ) -> Result<Vec<u8>, NoMemory>
-    ensures { IfOk result (λ line. line.items ≡ event_line event kind (accepted_text (accepted_of given.now)) store.now) }
+    ensures line { IfOk result (λ line. line.items ≡ event_line event kind (accepted_text (accepted_of given.now)) store.old.plain) }
+    ensures same { store.new.plain ≡ store.old.plain }
 {
     let mut line = Vec::new(alloc);
     push_number(&mut line, alloc, event)?;
@@ -185,9 +189,10 @@ pub fn refused_line(
     event: u64,
     kind: u8,
     refusal: Refusal,
-    store: &Store,
+    store: &mut Store,
 ) -> Result<Vec<u8>, NoMemory>
-    ensures { IfOk result (λ line. line.items ≡ event_line event kind (refusal_text refusal) store.now) }
+    ensures line { IfOk result (λ line. line.items ≡ event_line event kind (refusal_text refusal) store.old.plain) }
+    ensures same { store.new.plain ≡ store.old.plain }
 {
     let mut line = Vec::new(alloc);
     push_number(&mut line, alloc, event)?;

@@ -1,18 +1,23 @@
 //! Measures what has to be fast, each against the hashes that it can't do without or another part of the run, in one run.
 //!
-//! The word behind the program's name says what to measure: `pairs`, `shuffle`, `state`, `registry`, `slot`, `block`,
-//! `attestation`, `operations` or `epoch`. Without a word nothing is measured.
+//! The word behind the program's name says what to measure: `pairs`, `shuffle`, `state`, `registry`, `change`, `iter`, `many`,
+//! `slots`, `block`, `attestation`, `operations`, `epoch` or `head`. Without a word nothing is measured.
 #![tactic(auto)]
 
 mod attestation;
 mod block;
 mod epoch;
+mod head;
 mod operations;
 mod pairs;
 mod ratio;
 mod shuffle;
 mod state;
 mod states;
+mod tree_change;
+mod tree_iter;
+mod tree_many;
+mod tree_slots;
 
 use anyhow::Result;
 use std::env;
@@ -20,27 +25,38 @@ use std::time::CpuClock;
 
 /// What is printed where no word names a measurement.
 const USAGE: &str =
-    "name what to measure: pairs, shuffle, state, registry, slot, block, attestation, operations or epoch";
+    "name what to measure: pairs, shuffle, state, registry, change, iter, many, slots, block, attestation, operations, epoch or head";
 
 /// Measures what a word names.
 fn measure(rt: &(impl AllocGlobal + Print + CpuClock), word: &str) -> Result<()> {
     match word {
         "pairs" => pairs::measure(rt),
         "shuffle" => shuffle::measure(rt),
+        "head" => head::measure(rt),
+        _ => measure_states(rt, word),
+    }
+}
+
+/// Measures what a word names among states and their trees.
+fn measure_states(rt: &(impl AllocGlobal + Print + CpuClock), word: &str) -> Result<()> {
+    match word {
         "state" => state::measure(rt, 16_384),
         "registry" => state::measure(rt, 262_144),
-        "slot" => state::measure_slot(rt),
+        "change" => tree_change::measure(rt),
+        "iter" => tree_iter::measure(rt),
+        "many" => tree_many::measure(rt),
         _ => measure_steps(rt, word),
     }
 }
 
-/// Measures what a word names among blocks and what they bring, and an epoch's end.
+/// Measures what a word names among blocks and what they bring, slots and an epoch's end.
 fn measure_steps(rt: &(impl AllocGlobal + Print + CpuClock), word: &str) -> Result<()> {
     match word {
         "block" => block::measure(rt),
         "attestation" => attestation::measure(rt),
         "operations" => operations::measure(rt),
         "epoch" => epoch::measure(rt),
+        "slots" => tree_slots::measure(rt),
         _ => Ok(println!(rt; "{USAGE}")?),
     }
 }

@@ -1,5 +1,4 @@
-//! A mainnet state that is read, checked and rooted, against the hashes of its tree; and a slot of it without a block, against
-//! its root.
+//! A mainnet state that is read, checked and rooted, against the hashes of its tree.
 
 ghost use Rattle.std.specs.Prelude.{◌≤◌};
 
@@ -9,7 +8,6 @@ use anyhow::Result;
 use bc_preset::Preset;
 use beacon_state::{State, genesis_check};
 use sha2::{Digest, Sha256};
-use slot_step::process_slot::process_slot;
 use std::time::{CpuClock, Duration};
 
 /// The pairs that are hashed: block and state roots, mixes, slashed balances, eight for each validator, those of their list
@@ -73,33 +71,6 @@ pub fn measure(rt: &(impl AllocGlobal + Print + CpuClock), validators: u32) -> R
     let begin = rt.process_cpu_time()?;
     match State::read(rt.alloc(), &Preset::mainnet(), &bytes) {
         Ok(state) => time_root(rt, &state, validators, begin),
-        Err(fault) => Err(fault.into()),
-    }
-}
-
-/// Roots the state, and ends its slot, which roots it too.
-fn time_slot(rt: &(impl AllocGlobal + Print + CpuClock), state: &mut State) -> Result<()> {
-    let begin = rt.process_cpu_time()?;
-    let root = state.root();
-    let middle = rt.process_cpu_time()?;
-    let done = process_slot(state).is_ok();
-    let end = rt.process_cpu_time()?;
-    let ratio = Ratio {
-        whole: end.saturating_sub(middle),
-        measure: middle.saturating_sub(begin),
-    };
-    let first = root[0];
-    println!(rt;
-        "a slot without a block, against the state's root: {ratio} (root {first:02x}.., done {done})"
-    )?;
-    Ok(())
-}
-
-/// A slot without a block on a state of 16,384 validators.
-pub fn measure_slot(rt: &(impl AllocGlobal + Print + CpuClock)) -> Result<()> {
-    let bytes = state_bytes(rt.alloc(), &Shape::at_genesis(16_384))?;
-    match State::read(rt.alloc(), &Preset::mainnet(), &bytes) {
-        Ok(mut state) => time_slot(rt, &mut state),
         Err(fault) => Err(fault.into()),
     }
 }

@@ -91,6 +91,8 @@ module _ (store : Store) (a : PlainArray) (is : IsArrayOf store a) (good : IsSto
   pub head_is_kept : number_of store.blocks (get_head store) ≡ Some (array_head.get_head a)
   head_is_kept = head_number store a is good.tree good.presets
 
+pub ruleset agreeing = (ancestor, weight, filtered, head)
+
 -- a kept block has a number
 pub found_number : (blocks : List KeptBlock) (root : List ℕ) (kept : KeptBlock) → block_of blocks root ≡ Some kept
     → number_of blocks root ≡ Some (place_of blocks root)

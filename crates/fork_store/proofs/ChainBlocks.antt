@@ -16,10 +16,10 @@ use Rattle.spec_blocks.specs.ProcessBlock.{process_block}
 use Rattle.spec_blocks.proofs.Done.{on_the_way, chosen, same_value}
 use Rattle.spec_transition.specs.ProcessSlots.{Stepped, process_slots}
 use Rattle.spec_transition.specs.StateTransition.{IsLatest, state_transition}
+use Rattle.spec_transition.proofs.Links.{Links, links_of, block_leaves}
 use Rattle.spec_fork_choice.specs.Store.{KeptBlock, block_of}
 use Rattle.fork_store.specs.inside.Stores.{IsRootOf, IsKept}
 use Rattle.fork_store.specs.inside.Chains.{IsReached, IsLinkedTo, IsLinked}
-use Rattle.fork_store.proofs.ChainEpochs.{Links, links_of, block_leaves}
 use Rattle.fork_store.proofs.ChainPrefixes.{passes, passes_before}
 use Rattle.fork_store.proofs.ChainSlots.{same_links, OnWay, first_on_way, slots_go}
 

@@ -1,7 +1,8 @@
 -- The slots behind a kept block keep a state linked: each is told by the block's root.
-use Rattle.std.proofs.Common.{◌≡◌, ◌≢◌, ◌∙◌, ℕ, zero, suc, ◌+◌, ◌-◌, ◌*◌, ◌/◌, ◌%◌, ◌<◌, ◌≤◌, Bool, true, false, not, leb, List, [], length, slice_set, if◌then◌else◌, refl, sym, ap, subst, arith, inl, inr}
+use Rattle.std.proofs.Common.{◌≡◌, ◌≢◌, ◌∙◌, ℕ, zero, suc, ◌+◌, ◌-◌, ◌*◌, ◌/◌, ◌%◌, ◌<◌, ◌≤◌, false, not, List, [], length, slice_set, refl, sym, ap, subst}
+use Rattle.std.proofs.Common.{arith, inl, inr}
 use Rattle.std.specs.Prelude.{slice_index_or}
-use Rattle.std.proofs.lemmas.Bool.{leb-false, cases_lt}
+use Rattle.std.proofs.lemmas.Bool.{cases_lt}
 use Rattle.std.proofs.lemmas.List.{length-set, get_or-set_same, get_or-set_other}
 use Rattle.std.proofs.Math.Nat.{div-add-mod, mod-lt, mul_comm}
 use Rattle.bc_words.specs.Outcome.{done, each_from}
@@ -10,51 +11,25 @@ use Rattle.bc_preset.specs.declared.configuration.ConfigValues.{ConfigValues}
 use Rattle.bc_preset.specs.laws.Bounds.{HasPresetBounds}
 use Rattle.beacon_types.specs.Equality.{same_root}
 use Rattle.beacon_types.specs.Containers.{block_header_codec}
-use Rattle.beacon_types.specs.declared.block_header.BeaconBlockHeader.{BeaconBlockHeader}
-use Rattle.beacon_types.specs.declared.checkpoint.Checkpoint.{Checkpoint}
 use Rattle.spec_state.specs.declared.plain.PlainState.{PlainState}
 use Rattle.spec_state.specs.States.{state_codec}
 use Rattle.spec_state.specs.Genesis.{block_header_of, header_root_of, zero_root}
-use Rattle.spec_state.specs.Accessors.{get_current_epoch, get_previous_epoch, get_block_root, get_block_root_at_slot, get_total_active_balance}
+use Rattle.spec_state.specs.Accessors.{get_current_epoch, get_previous_epoch, get_block_root, get_block_root_at_slot}
 use Rattle.spec_blocks.proofs.Done.{on_the_way, chosen, same_value}
 use Rattle.spec_blocks.proofs.SoundHeads.{apart}
 use Rattle.spec_epochs.specs.declared.justification.Justification.{Justification}
-use Rattle.spec_epochs.specs.Helpers.{get_matching_target_attestations, get_attesting_balance}
-use Rattle.spec_epochs.specs.Weigh.{weigh}
-use Rattle.spec_epochs.specs.WeighJustificationAndFinalization.{weigh_justification_and_finalization, justification_of, with_justification}
+use Rattle.spec_epochs.specs.WeighJustificationAndFinalization.{justification_of, with_justification}
 use Rattle.spec_epochs.specs.ProcessJustificationAndFinalization.{process_justification_and_finalization}
 use Rattle.spec_epochs.specs.ProcessEpoch.{process_epoch}
 use Rattle.spec_epochs.proofs.EpochParts.{parts_of}
-use Rattle.spec_epochs.proofs.SoundJustification.{justification_leaves}
+use Rattle.spec_epochs.proofs.JustifiedCheckpoints.{Holds, weighed_holds}
+use Rattle.spec_epochs.proofs.SoundJustification.{Weighed, either_of, justification_leaves}
 use Rattle.spec_transition.specs.ProcessSlot.{process_slot}
 use Rattle.spec_transition.specs.ProcessSlots.{Stepped, is_last_of_epoch, with_next_slot, end_epoch, next_slot}
+use Rattle.spec_transition.proofs.HeaderChecks.{Filled, header_fills, header_stays}
+use Rattle.spec_transition.proofs.Links.{Links, links_of, links_stay, header_leaves}
 use Rattle.spec_fork_choice.specs.Store.{KeptBlock}
 use Rattle.fork_store.specs.inside.Chains.{IsReached, IsReachedCheckpoint, IsLinkedTo, IsLinked}
-use Rattle.fork_store.proofs.ChainEpochs.{Links, links_of, links_stay, header_stays}
-use Rattle.fork_store.proofs.ChainWeights.{Holds, weighed_holds}
-
--- ---- the header of the latest block
-
--- a header with a state root
-abbrev Filled : BeaconBlockHeader → Type 0
-Filled h = same_root h.state_root zero_root ≡ false
-
-filled : (first : Bool) (h other : BeaconBlockHeader) → same_root h.state_root zero_root ≡ first → Filled other → Filled (if first then other else h)
-filled true h other is fills = fills
-filled false h other is fills = is
-
--- the header is filled once its slot is over
-header_fills : (s : PlainState) → same_root ((state_codec s.preset).hash_tree_root s) zero_root ≡ false → Filled (block_header_of s)
-unfolding block_header_of
-header_fills s some = filled (same_root s.latest_block_header.state_root zero_root) s.latest_block_header
-    (record s.latest_block_header { state_root = (state_codec s.preset).hash_tree_root s }) refl some
-
--- and stays then
-header_is : (s : PlainState) → Filled s.latest_block_header → block_header_of s ≡ s.latest_block_header
-unfolding block_header_of
-header_is s fills =
-    let closed : BeaconBlockHeader = record s.latest_block_header { state_root = (state_codec s.preset).hash_tree_root s } in
-    ap (λ (b : Bool). if b then closed else s.latest_block_header) fills
 
 -- ---- what a linked state's links are
 
@@ -158,40 +133,33 @@ epoch_is : (config : ConfigValues) (s : PlainState) → s.preset ≡ config.pres
 unfolding get_current_epoch
 epoch_is config s preset = ap (λ (p : Preset). s.slot / p.slots_per_epoch) preset
 
-weighed_linked : (config : ConfigValues) (blocks : List KeptBlock) (s t : PlainState) (total previous current : ℕ)
-    → weigh_justification_and_finalization s total previous current ≡ done t → 1 < get_current_epoch s → HasPresetBounds config.preset
+weighed_linked : (config : ConfigValues) (blocks : List KeptBlock) (s t : PlainState) → Weighed s t → HasPresetBounds config.preset
     → IsLinkedTo config blocks (s.slot + 1) s → IsLinkedTo config blocks (s.slot + 1) t
-unfolding weigh_justification_and_finalization get_previous_epoch
-weighed_linked config blocks s t total previous current is late bounds linked =
-    let weighed = on_the_way (weigh (justification_of s) (get_current_epoch s) (get_block_root s (get_previous_epoch s))
-    (get_block_root s (get_current_epoch s)) total previous current) _ t is in
+unfolding get_previous_epoch
+weighed_linked config blocks s t weighed bounds linked =
     let n : ℕ = config.preset.slots_per_epoch in
     let many : ℕ = config.preset.slots_per_historical_root in
-    let P : Checkpoint → Type 0 = IsReachedCheckpoint config blocks in
+    let late : 1 < get_current_epoch s = weighed.late in
     let epoch : get_current_epoch s ≡ s.slot / n = epoch_is config s linked.preset in
     let least : 8 ≤ n = bounds.least_slots_per_epoch in
     let most : n ≤ 32 = bounds.slots_per_epoch in
     let room : 64 ≤ many = bounds.least_slots_per_historical_root in
-    let both : IsRecent n many s.slot (s.slot / n) × IsRecent n many s.slot (s.slot / n - 1) = recent n many s.slot (omega arith) (omega arith) (omega arith) in
+    let both : IsRecent n many s.slot (s.slot / n) × IsRecent n many s.slot (s.slot / n - 1) =
+    recent n many s.slot (omega arith) (omega arith) (omega arith) in
     let here : IsRecent n many s.slot (get_current_epoch s) = subst (IsRecent n many s.slot) (sym epoch) both.0 in
     let before : IsRecent n many s.slot (get_current_epoch s - 1) = subst (λ (e : ℕ). IsRecent n many s.slot (e - 1)) (sym epoch) both.1 in
-    let holds = weighed_holds P (justification_of s) weighed.value (get_current_epoch s) (get_block_root s (get_current_epoch s - 1))
-    (get_block_root s (get_current_epoch s)) total previous current weighed.first late
+    let holds = weighed_holds (IsReachedCheckpoint config blocks) (justification_of s) weighed.checkpoints (get_current_epoch s)
+    (get_block_root s (get_current_epoch s - 1)) (get_block_root s (get_current_epoch s)) weighed.total weighed.previous weighed.current weighed.weighs late
     (root_reached config blocks (s.slot + 1) s (get_current_epoch s - 1) linked before.less before.near)
     (root_reached config blocks (s.slot + 1) s (get_current_epoch s) linked here.less here.near)
     (holds_of config blocks (s.slot + 1) s linked) in
-    subst (IsLinkedTo config blocks (s.slot + 1)) (same_value _ t weighed.then_done) (with_holds config blocks (s.slot + 1) s weighed.value holds linked)
+    subst (IsLinkedTo config blocks (s.slot + 1)) weighed.gives (with_holds config blocks (s.slot + 1) s weighed.checkpoints holds linked)
 
 justified_linked : (config : ConfigValues) (blocks : List KeptBlock) (s t : PlainState) → process_justification_and_finalization s ≡ done t
     → HasPresetBounds config.preset → IsLinkedTo config blocks (s.slot + 1) s → IsLinkedTo config blocks (s.slot + 1) t
-unfolding process_justification_and_finalization
-justified_linked config blocks s t is bounds linked = elim (chosen (leb (get_current_epoch s) 1) _ _ _ is) [
-  | inl early ↦ subst (IsLinkedTo config blocks (s.slot + 1)) (same_value s t early.1) linked
-  | inr later ↦
-      let total = on_the_way (get_total_active_balance s) _ t later.1 in
-      let previous = on_the_way (get_attesting_balance s (get_matching_target_attestations s (get_previous_epoch s))) _ t total.then_done in
-      let current = on_the_way (get_attesting_balance s (get_matching_target_attestations s (get_current_epoch s))) _ t previous.then_done in
-      weighed_linked config blocks s t total.value previous.value current.value current.then_done (leb-false (get_current_epoch s) 1 later.0) bounds linked
+justified_linked config blocks s t is bounds linked = elim (either_of s t is) [
+  | inl same ↦ subst (IsLinkedTo config blocks (s.slot + 1)) same linked
+  | inr weighed ↦ weighed_linked config blocks s t weighed bounds linked
 ]
 
 -- a state at the end of a slot: linked with it, and at the slot and with the header as they were
@@ -209,7 +177,7 @@ epoch_ends config blocks s t is bounds linked =
     record {
       linked = same_links config blocks (s.slot + 1) p.justified t same (justified_linked config blocks s p.justified p.to_justified bounds linked);
       slot = ap (λ (l : Links). l.slot) same ∙ first.slot;
-      header = header_stays s t config p ∙ first.header;
+      header = header_leaves s t config p ∙ first.header;
     }
 
 slot_ends : (config : ConfigValues) (blocks : List KeptBlock) (s t : Stepped) → end_epoch config s ≡ done t → HasPresetBounds config.preset
@@ -271,7 +239,7 @@ header_goes_on : (root : List ℕ) (s t : PlainState) → t.latest_block_header 
 unfolding header_root_of
 header_goes_on root s t is fills header =
     let filled_too : Filled t.latest_block_header = subst Filled (sym is) fills in
-    let same : block_header_of t ≡ block_header_of s = header_is t filled_too ∙ is in
+    let same : block_header_of t ≡ block_header_of s = header_stays t filled_too ∙ is in
     (ap block_header_codec.hash_tree_root same ∙ header, subst Filled (sym same) fills)
 
 -- one slot

@@ -2,7 +2,8 @@
 --
 -- `genesis_is_chained`, `block_stays_chained` and `tick_stays_chained` keep the store's invariant through its definitions, and
 -- the lemmas beside them through their parts; `chained_justified_is_kept` and `chained_justified_state_is_done` say what it gives.
-use Rattle.std.proofs.Common.{◌≡◌, ◌∙◌, ℕ, ◌<◌, ◌&&◌, ◌==◌, Bool, true, false, not, nat_lt, cond, List, [], ◌∷◌, ◌++◌, Option, Some, None, is_some, if◌then◌else◌, refl, sym, ap, subst, arith, inl, inr}
+use Rattle.std.proofs.Common.{◌≡◌, ◌∙◌, ℕ, ◌<◌, ◌&&◌, ◌==◌, Bool, true, false, not, nat_lt, cond, List, length, [], ◌∷◌, ◌++◌, Option, Some, None, is_some}
+use Rattle.std.proofs.Common.{if◌then◌else◌, refl, sym, ap, subst, arith, inl, inr}
 use Rattle.std.specs.Cmp.Lexicographic.{bytes_decides}
 use Rattle.std.proofs.lemmas.Bool.{and_parts, cases_lt, eqb-true, false≢true, ltb-true, not-false}
 use Rattle.bc_words.specs.Outcome.{Outcome, done, bind, Stops}
@@ -19,7 +20,6 @@ use Rattle.beacon_body.specs.Containers.{block_codec}
 use Rattle.beacon_body.specs.declared.block.BeaconBlock.{BeaconBlock}
 use Rattle.beacon_body.specs.declared.signed_block.SignedBeaconBlock.{SignedBeaconBlock}
 use Rattle.spec_state.specs.declared.plain.PlainState.{PlainState}
-use Rattle.spec_state.specs.Limits.{IsState}
 use Rattle.spec_state.specs.Genesis.{genesis_fault, is_genesis_header, is_zero_checkpoint, zero_root}
 use Rattle.spec_blocks.proofs.Done.{chosen, same_value}
 use Rattle.spec_transition.specs.ProcessSlots.{Stepped, process_slots}
@@ -29,7 +29,8 @@ use Rattle.spec_fork_choice.specs.Slots.{get_current_slot, compute_slots_since_e
 use Rattle.spec_fork_choice.specs.GetForkchoiceStore.{genesis_block, get_forkchoice_store}
 use Rattle.spec_fork_choice.specs.ShouldUpdateJustifiedCheckpoint.{should_update_justified_checkpoint}
 use Rattle.spec_fork_choice.specs.StoreTargetCheckpointState.{kept_or, state_at, store_target_checkpoint_state}
-use Rattle.spec_fork_choice.specs.OnBlock.{is_before_attesting_interval, with_block, with_boost, with_best_justified, with_better_justified, with_justified, with_finalized, with_accepted}
+use Rattle.spec_fork_choice.specs.OnBlock.{is_before_attesting_interval, with_block, with_boost, with_best_justified, with_better_justified, with_justified}
+use Rattle.spec_fork_choice.specs.OnBlock.{with_finalized, with_accepted}
 use Rattle.spec_fork_choice.specs.OnTick.{is_better_justified, in_new_epoch, in_new_slot, on_tick}
 use Rattle.fork_store.specs.inside.Stores.{IsKept}
 use Rattle.fork_store.specs.inside.Chains.{IsDone, IsReached, IsReachedCheckpoint, IsLinked, AreChained, IsChained}
@@ -98,7 +99,7 @@ zero_epoch : (c : Checkpoint) → is_zero_checkpoint c ≡ true → c.epoch ≡ 
 zero_epoch c is = eqb-true c.epoch 0 (and_parts (c.epoch == 0) (same_root c.root zero_root) is).0
 
 -- a genesis state tells of no slot, and has justified nothing
-genesis_linked : (config : ConfigValues) (blocks : List KeptBlock) (s : PlainState) → genesis_fault s ≡ None → IsState s → s.preset ≡ config.preset
+genesis_linked : (config : ConfigValues) (blocks : List KeptBlock) (s : PlainState) → genesis_fault s ≡ None → length s.block_roots ≡ s.preset.slots_per_historical_root → s.preset ≡ config.preset
     → IsLinked config blocks s
 unfolding genesis_fault
 genesis_linked config blocks s good is preset =
@@ -112,7 +113,7 @@ genesis_linked config blocks s good is preset =
     let current : s.current_justified_checkpoint.epoch ≡ 0 = zero_epoch s.current_justified_checkpoint others.0 in
     record {
       preset = preset;
-      roots = is.block_roots_len ∙ ap (λ (p : Preset). p.slots_per_historical_root) preset;
+      roots = is ∙ ap (λ (p : Preset). p.slots_per_historical_root) preset;
       history = λ k less near. absurd (omega arith);
       justified = λ some. absurd (omega arith);
       previous = λ none. zero_epoch s.previous_justified_checkpoint first.0;
@@ -125,7 +126,7 @@ unfolding block_of
 only_found kept = ap (λ (b : Bool). if b then Some kept else None) ((bytes_decides kept.root kept.root).1 refl)
 
 -- The genesis block alone
-pub genesis_chained : (config : ConfigValues) (root : List ℕ) (block : BeaconBlock) (s : PlainState) → genesis_fault s ≡ None → IsState s
+pub genesis_chained : (config : ConfigValues) (root : List ℕ) (block : BeaconBlock) (s : PlainState) → genesis_fault s ≡ None → length s.block_roots ≡ s.preset.slots_per_historical_root
     → s.preset ≡ config.preset
     → AreChained config (record { root = root; block = block; state = s } ∷ []) (record { epoch = 0; root = root }) (record { epoch = 0; root = root })
 genesis_chained config root block s good is preset =
@@ -137,7 +138,7 @@ genesis_chained config root block s good is preset =
     } in
     record { linked = (genesis_linked config (kept ∷ []) s good is preset, tt); justified = reached; best_justified = reached }
 
-pub genesis_is_chained : (config : ConfigValues) (s : PlainState) → genesis_fault s ≡ None → IsState s → s.preset ≡ config.preset
+pub genesis_is_chained : (config : ConfigValues) (s : PlainState) → genesis_fault s ≡ None → length s.block_roots ≡ s.preset.slots_per_historical_root → s.preset ≡ config.preset
     → IsChained (get_forkchoice_store config s)
 unfolding get_forkchoice_store
 genesis_is_chained config s good is preset = genesis_chained config (block_codec.hash_tree_root (genesis_block s)) (genesis_block s) s good is preset
@@ -326,3 +327,5 @@ pub done_stops : {A : Type 0} (stop : Stop) (outcome : Outcome A) → IsDone out
 done_stops (Refused why) outcome value stops = absurd (false≢true (ap is_done (sym stops ∙ value.is)))
 done_stops (Limit bound) outcome value stops = absurd (false≢true (ap is_done (sym stops ∙ value.is)))
 done_stops NoMemory outcome value stops = refl
+
+pub ruleset justified_law = (chained_justified_is_kept, chained_justified_state_is_done)

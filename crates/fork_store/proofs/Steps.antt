@@ -101,3 +101,8 @@ genesis_is_kept s root good none is =
       latest = genesis_latest s (genesis_header s (passed (is_genesis_header s.latest_block_header) _ _ slot.1).0);
       some = no_clash [] _ _ _ none;
     }
+
+-- nor is the block's root
+pub is_named : (blocks : List KeptBlock) (root state_root : List ℕ) (block : BeaconBlock) → clash_of blocks root state_root block ≡ None → same_root root zero_root ≡ false
+unfolding clash_of
+is_named blocks root state_root block none = (other (same_root root zero_root) _ _ none).0

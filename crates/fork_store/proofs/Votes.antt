@@ -1,5 +1,5 @@
 -- Who attests, by the committees of an epoch, and an attestation as an event.
-use Rattle.std.proofs.Common.{◌≡◌, ℕ, ◌+◌, ◌*◌, ◌%◌, ◌/◌, ◌^◌, ◌<◌, ◌≤◌, Bool, not, List, [], length, map, Option, Some, None, slice_get, ltb, leb, ◌==◌, Result, refl, sym, ap, ◌∙◌, subst, inl, inr, arith}
+use Rattle.std.proofs.Common.{◌≡◌, ℕ, ◌+◌, ◌*◌, ◌%◌, ◌/◌, ◌^◌, ◌<◌, ◌≤◌, Bool, not, List, [], length, map, Option, Some, None, slice_get, ltb, leb, ◌==◌, Result, refl, sym, ap, ◌∙◌, subst, inl, inr, arith, true}
 use Rattle.std.specs.List.{range_with_len}
 use Rattle.std.proofs.lemmas.Bool.{cases_Bool, ltb-true, ltb-false}
 use Rattle.std.proofs.Math.Nat.{div-mul-le_self, div-le_of_le-mul, mul-le-mul_right}
@@ -20,9 +20,14 @@ use Rattle.spec_state.specs.declared.plain.PlainState.{PlainState}
 use Rattle.spec_state.specs.Misc.{compute_epoch_at_slot}
 use Rattle.spec_state.specs.Accessors.{epoch_committees, get_committee_count_per_slot, get_beacon_committee, get_attesting_indices, get_active_validator_indices, get_seed, members_with_bits}
 use Rattle.spec_state.specs.Constants.{domain_beacon_attester}
-use Rattle.spec_fork_choice.specs.Store.{Store}
+use Rattle.spec_fork_choice.specs.Store.{Store, is_kept}
 use Rattle.spec_fork_choice.specs.StoreTargetCheckpointState.{store_target_checkpoint_state}
-use Rattle.spec_fork_choice.specs.ValidateOnAttestation.{validate_on_attestation}
+use Rattle.spec_fork_choice.specs.ValidateOnAttestation.{check_time, validate_on_attestation}
+use Rattle.spec_blocks.proofs.Done.{on_the_way, check_holds}
+use Rattle.bc_words.specs.declared.refusal.Refusal.TheVariants.{FcSlotEpoch, FcTargetUnknown, FcBlockUnknown}
+use Rattle.block_array.specs.PlainArray.{PlainArray}
+use Rattle.fork_store.specs.inside.Arrays.{Balances}
+use Rattle.fork_store.specs.inside.Wholes.{IsWhole}
 use Rattle.spec_fork_choice.specs.UpdateLatestMessages.{update_latest_messages}
 use Rattle.spec_fork_choice.specs.OnAttestation.{committee_number, check_target_committee, on_attestation}
 use Rattle.fork_store.specs.inside.Votes.{attesters_among, attesters_in, attesters_of, judged, event_of}
@@ -148,3 +153,20 @@ attestation_done store attestation is_from_block indices voters new e same is =
     ∙ ap accepted (ap (λ xs. update_latest_messages store xs attestation) (sym same) ∙ sym is)
 
 pub ruleset handling = (attestation_stops, attestation_done)
+
+-- ---- the block that is voted for
+
+pub voted_is_kept : (store : Store) (attestation : Attestation) (is_from_block : Bool) (indices : List ℕ) → judged store attestation is_from_block ≡ done indices → is_kept store.blocks attestation.content.beacon_block_root ≡ true
+unfolding judged validate_on_attestation
+voted_is_kept store attestation is_from_block indices is =
+    let voted = attestation.content in
+    let valid = on_the_way (validate_on_attestation store attestation is_from_block) _ indices is in
+    let time = on_the_way (check_time store attestation is_from_block) _ _ valid.first in
+    let epoch = on_the_way (check (voted.target.epoch == compute_epoch_at_slot store.config.preset voted.slot) FcSlotEpoch) _ _ time.then_done in
+    let target = on_the_way (check (is_kept store.blocks voted.target.root) FcTargetUnknown) _ _ epoch.then_done in
+    let known = on_the_way (check (is_kept store.blocks voted.beacon_block_root) FcBlockUnknown) _ _ target.then_done in
+    check_holds (is_kept store.blocks voted.beacon_block_root) FcBlockUnknown _ known.first
+
+-- the store where nothing was counted
+pub same_whole : (store after : Store) (a : PlainArray) (ready : Option Balances) → IsWhole store a ready → after ≡ store → IsWhole after a ready
+same_whole store after a ready whole is = subst (λ (s : Store). IsWhole s a ready) (sym is) whole

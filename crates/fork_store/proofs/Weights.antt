@@ -1,21 +1,22 @@
 -- What is weighed from a validator on: what a loop over the registry has still to add.
-use Rattle.std.proofs.Common.{◌≡◌, ℕ, suc, ◌+◌, ◌*◌, ◌/◌, ◌≤◌, true, false, cond, List, [], ◌∷◌, length, filter, drop, Some, None, slice_get, max, refl, sym, ap, ap₂, ◌∙◌, arith}
+use Rattle.std.proofs.Common.{◌≡◌, ℕ, suc, ◌+◌, ◌<◌, ◌≤◌, ◌^◌, true, false, cond, List, [], ◌∷◌, ◌++◌, length, drop, map, take, Some, None, slice_get, refl, sym, ap, ◌∙◌, arith}
 use Rattle.std.specs.List.{sum_by}
-use Rattle.std.proofs.lemmas.List.{drop_all}
+use Rattle.std.proofs.lemmas.List.{drop_all, take_more, take_all, map_push, length-map}
+use Rattle.std.proofs.lemmas.Option.{get_or_from_slice_get, slice_get_within}
 use Rattle.std.proofs.lemmas.List.Sums.{sum_by-cons}
-use Rattle.std.proofs.Math.Nat.{div-le_self, mul-div-le, mul-le-mul_right, zero-mul}
 use Rattle.spec_blocks.proofs.Each.{from_item}
-use Rattle.bc_words.specs.Outcome.{Outcome, done, refused, limited}
 use Rattle.beacon_types.specs.declared.validator.Validator.{Validator}
 use Rattle.spec_state.specs.declared.plain.PlainState.{PlainState}
 use Rattle.spec_state.specs.Misc.{effective_balance}
 use Rattle.spec_state.specs.Predicates.{is_active_validator}
 use Rattle.spec_state.specs.Accessors.{get_current_epoch, get_active_validator_indices, indices_from}
 use Rattle.balance_totals.proofs.LookedUp.{effective_some}
-use Rattle.spec_fork_choice.specs.Store.{Store}
-use Rattle.spec_fork_choice.specs.StoreTargetCheckpointState.{store_target_checkpoint_state}
-use Rattle.spec_fork_choice.specs.GetLatestAttestingBalance.{votes_for, active_in, attestation_score, proposer_score, weight_in, weight_by, get_latest_attesting_balance}
-use Rattle.fork_store.specs.inside.Weights.{active_from, balance_from, score_from, state_if, justified_state}
+use Rattle.spec_fork_choice.specs.GetLatestAttestingBalance.{active_in}
+use Rattle.bc_words.specs.Outcome.{Outcome, done, refused, limited}
+use Rattle.bc_words.specs.declared.refusal.Refusal.{Refusal}
+use Rattle.bc_words.specs.declared.stop.Limit.{Limit}
+use Rattle.fork_store.specs.inside.Arrays.{balance_in, balances_in, no_balances, balances_of}
+use Rattle.fork_store.specs.inside.Weights.{active_from, balance_from}
 use Rattle.fork_store.proofs.Items.{past}
 
 -- ---- one validator among the active ones
@@ -65,96 +66,51 @@ module _ (state : PlainState) (index : ℕ) where
   unfolding balance_from
   balance_over over = ap (sum_by (effective_balance state.validators)) (active_over state index over)
 
-  module _ (store : Store) (root : List ℕ) where
-    abbrev score : List ℕ → ℕ
-    score indices = sum_by (effective_balance state.validators) indices
-
-    score_opens : active_from state index ≡ index ∷ active_from state (index + 1) → score_from store state root index ≡ score (cond (votes_for store root index) (index ∷ filter (votes_for store root) (active_from state (index + 1))) (filter (votes_for store root) (active_from state (index + 1))))
-    unfolding score_from
-    score_opens one = ap (λ xs. score (filter (votes_for store root) xs)) one
-
-    pub score_added : (balance : ℕ) → balance ≡ effective_balance state.validators index → active_from state index ≡ index ∷ active_from state (index + 1) → votes_for store root index ≡ true → score_from store state root index ≡ balance + score_from store state root (index + 1)
-    unfolding score_from
-    score_added balance is one votes =
-        score_opens one
-        ∙ ap (λ b. score (cond b (index ∷ filter (votes_for store root) (active_from state (index + 1))) (filter (votes_for store root) (active_from state (index + 1))))) votes
-        ∙ sum_by-cons (effective_balance state.validators) index (filter (votes_for store root) (active_from state (index + 1)))
-        ∙ ap (λ n. n + score (filter (votes_for store root) (active_from state (index + 1)))) (sym is)
-
-    pub score_absent : active_from state index ≡ index ∷ active_from state (index + 1) → votes_for store root index ≡ false → score_from store state root index ≡ 0 + score_from store state root (index + 1)
-    unfolding score_from
-    score_absent one votes =
-        let e : score_from store state root index ≡ score_from store state root (index + 1) = score_opens one
-        ∙ ap (λ b. score (cond b (index ∷ filter (votes_for store root) (active_from state (index + 1))) (filter (votes_for store root) (active_from state (index + 1))))) votes in
-        omega (arith, e)
-
-    pub score_left : active_from state index ≡ active_from state (index + 1) → score_from store state root index ≡ 0 + score_from store state root (index + 1)
-    unfolding score_from
-    score_left one = let e : score_from store state root index ≡ score_from store state root (index + 1) = ap (λ xs. score (filter (votes_for store root) xs)) one in omega (arith, e)
-
-    pub score_over : length state.validators ≤ index → score_from store state root index ≡ 0
-    unfolding score_from
-    score_over over = ap (λ xs. score (filter (votes_for store root) xs)) (active_over state index over)
-
-    pub score_begins : score_from store state root 0 ≡ attestation_score store state root
-    unfolding score_from active_from attestation_score active_in get_active_validator_indices
-    score_begins = refl
-
   pub balance_begins : balance_from state 0 ≡ sum_by (effective_balance state.validators) (active_in state)
   unfolding balance_from active_from active_in get_active_validator_indices
   balance_begins = refl
 
 pub ruleset adding = (balance_added, balance_left)
 
-pub ruleset scoring = (score_added, score_absent, score_left)
-
 pub ruleset balances = (balance_begins, balance_over)
 
-pub ruleset scores = (score_begins, score_over)
+-- ---- the list of balances
 
--- ---- the average
+pub balance_behind : (validators : List Validator) (index epoch : ℕ) (v : Validator) → Some v ≡ slice_get validators index
+    → map (balance_in epoch) (take (index + 1) validators) ≡ map (balance_in epoch) (take index validators) ++ balance_in epoch v ∷ []
+balance_behind validators index epoch v at =
+    let inside : index < length validators = slice_get_within validators index v (sym at) in
+    ap (map (balance_in epoch)) (take_more validators index v inside ∙ ap (λ w. take index validators ++ w ∷ []) (get_or_from_slice_get validators index v v (sym at)))
+    ∙ map_push (balance_in epoch) (take index validators) v
 
-pub average_fits : (active slots total : ℕ) → active / slots * (total / active) ≤ total
-average_fits active slots total =
-    let few : active / slots * (total / active) ≤ active * (total / active) = mul-le-mul_right (total / active) (div-le_self active slots) in
-    let whole : active * (total / active) ≤ total = mul-div-le total active in
-    omega (arith, few, whole)
+pub no_place : {A : Type 0} (xs : List A) (index : ℕ) → index < length xs → None ≡ slice_get xs index → ⊥
+no_place xs index inside gone = let over : length xs ≤ index = past xs index gone in absurd (omega (arith, inside, over))
 
-pub no_average : (active slots total : ℕ) → active ≡ 0 → 0 ≡ active / slots * (total / active)
-no_average active slots total none =
-    let few : active / slots ≤ active = div-le_self active slots in
-    let zero_each : active / slots ≡ 0 = omega (arith, few) in
-    sym (ap (λ n. n * (total / active)) zero_each ∙ zero-mul (total / active))
+pub ruleset listing = (balance_behind, no_place)
 
-pub ruleset averaging = (average_fits, no_average)
+pub list_ends : (validators : List Validator) (count epoch : ℕ) → length validators ≤ count → map (balance_in epoch) (take count validators) ≡ map (balance_in epoch) validators
+list_ends validators count epoch over = ap (map (balance_in epoch)) (take_all count validators over)
 
-pub boost_is : (store : Store) (state : PlainState) (active total weight boost : ℕ) → active ≡ length (get_active_validator_indices state (get_current_epoch state))
-    → total ≡ max state.preset.effective_balance_increment (sum_by (effective_balance state.validators) (active_in state)) → weight ≡ active / state.preset.slots_per_epoch * (total / active)
-    → boost ≡ store.config.proposer_score_boost → weight * boost / 100 ≡ proposer_score store state
-unfolding proposer_score active_in
-boost_is store state active total weight boost active_is total_is weight_is score_boost =
-    ap₂ (λ w b. w * b / 100) (weight_is ∙ ap₂ (λ n t. n / state.preset.slots_per_epoch * (t / n)) active_is total_is) score_boost
+pub few_listed : (validators : List Validator) (count epoch limit : ℕ) → count ≡ length validators → count ≤ limit → limit ≤ 2 ^ 40 → length (map (balance_in epoch) (take count validators)) ≤ 2 ^ 40
+few_listed validators count epoch limit is most low =
+    let same = ap length (list_ends validators count epoch (omega (arith, is))) in
+    let mapped = length-map validators (balance_in epoch) in
+    omega (arith, is, most, low, same, mapped)
 
--- ---- the state of the justified checkpoint, where it is there
+pub ruleset listed = (list_ends, few_listed)
 
-by_state : (store : Store) (root : List ℕ) (outcome : Outcome PlainState) (state : PlainState) → Some state ≡ state_if outcome → weight_by store outcome root ≡ weight_in store state root
-unfolding weight_by
-by_state store root (done s) state e = let same : state ≡ s = cc in sym (ap (λ x. weight_in store x root) same)
-by_state store root (refused why) state e = absurd cc
-by_state store root (limited bound) state e = absurd cc
+-- ---- where there is no state
 
-by_none : (store : Store) (root : List ℕ) (outcome : Outcome PlainState) → None ≡ state_if outcome → weight_by store outcome root ≡ 0
-unfolding weight_by
-by_none store root (done s) e = absurd cc
-by_none store root (refused why) e = refl
-by_none store root (limited bound) e = refl
+pub none_refused : (outcome : Outcome PlainState) (why : Refusal) → outcome ≡ refused why → no_balances ≡ balances_of outcome
+unfolding balances_of
+none_refused outcome why is = sym (ap balances_of is)
 
-pub weighed : (store : Store) (root : List ℕ) (state : PlainState) → Some state ≡ justified_state store → weight_in store state root ≡ get_latest_attesting_balance store root
-unfolding justified_state get_latest_attesting_balance
-weighed store root state e = sym (by_state store root (store_target_checkpoint_state store store.justified_checkpoint) state e)
+pub none_limited : (outcome : Outcome PlainState) (bound : Limit) → outcome ≡ limited bound → no_balances ≡ balances_of outcome
+unfolding balances_of
+none_limited outcome bound is = sym (ap balances_of is)
 
-pub unweighed : (store : Store) (root : List ℕ) → None ≡ justified_state store → 0 ≡ get_latest_attesting_balance store root
-unfolding justified_state get_latest_attesting_balance
-unweighed store root e = sym (by_none store root (store_target_checkpoint_state store store.justified_checkpoint) e)
+pub some_balances : (outcome : Outcome PlainState) (state : PlainState) → outcome ≡ done state → balances_in state ≡ balances_of outcome
+unfolding balances_of
+some_balances outcome state is = sym (ap balances_of is)
 
-pub ruleset weighing = (weighed, unweighed)
+pub ruleset no_state = (none_refused, none_limited, some_balances)

@@ -1,7 +1,14 @@
 //! The way of a valid block into the store (fork-choice.md, "on_block"): it is kept, a timely one has the boost, and the
 //! store's checkpoints follow its state's.
 
-ghost use Rattle.std.specs.Prelude.{◌≡◌, ◌<◌, ◌^◌};
+ghost use Rattle.std.specs.Prelude.{◌≡◌, ◌<◌, ◌-◌, ◌^◌, ◌++◌, ◌∷◌, [], true, false, length, IfOk};
+ghost use Rattle.beacon_types.specs.Equality.{same_root};
+ghost use Rattle.spec_state.specs.Genesis.{zero_root};
+ghost use Rattle.spec_fork_choice.specs.Store.{is_kept};
+ghost use Rattle.fork_store.specs.inside.Arrays.{IsArrayOf};
+ghost use Rattle.fork_store.specs.inside.Wholes.{IsWhole, IsReady};
+ghost use Rattle.fork_store.specs.inside.Chains.{IsLinked};
+ghost use Rattle.fork_store.specs.inside.Following.{may_move, AreGiven};
 ghost use Rattle.bc_words.specs.Outcome.{Becomes};
 ghost use Rattle.fork_store.specs.inside.Stores.{IsKept};
 ghost use Rattle.fork_store.specs.inside.Trees.{HasParent};
@@ -12,14 +19,18 @@ ghost use Rattle.fork_store.specs.inside.Accepts.{BecomesWith};
 
 use crate::block_in::BlockIn;
 use crate::copies::copy_block;
+use crate::follow::{Given, feed, follow, same_checkpoint, told_of};
 use crate::kept_block::KeptBlock;
+use crate::number_of::number_of;
+use crate::ready_balances::{ReadyBalances, balances_of};
 use crate::should_update_justified_checkpoint::should_update_justified_checkpoint;
 use crate::slots::current_slot;
-use crate::store::Store;
+use crate::store_fields::StoreFields;
 use bc_words::NoMemory;
 use beacon_body::BeaconBlock;
 use beacon_state::State;
 use beacon_types::Checkpoint;
+use block_array::{BlockArray, Facts};
 use hash_tree::Root;
 use std::alloc::Global;
 use transition::Step;
@@ -29,7 +40,7 @@ const INTERVALS_PER_SLOT: u64 = 3;
 
 /// Whether blocks are timely now: the slot's first interval isn't over.
 #[tactic(auto, unfolding(spec_fork_choice::specs::OnBlock::is_before_attesting_interval))]
-fn is_before_attesting_interval(store: &Store) -> bool
+fn is_before_attesting_interval(store: &StoreFields) -> bool
     ensures { result ≡ is_before_attesting_interval store.now }
 {
     let seconds_per_slot = store.config().seconds_per_slot();
@@ -38,7 +49,7 @@ fn is_before_attesting_interval(store: &Store) -> bool
 
 /// A timely block of the current slot has the boost.
 #[tactic(auto, unfolding(crate::specs::inside::Accepted::boosted))]
-fn boost(store: &mut Store, slot: u64, root: Root)
+fn boost(store: &mut StoreFields, slot: u64, root: Root)
     ensures exact { store.new ≡ boosted store.old slot root }
     ensures config { store.new.config ≡ store.old.config }
 {
@@ -49,7 +60,7 @@ fn boost(store: &mut Store, slot: u64, root: Root)
 
 /// The best justified checkpoint is the one of the greatest epoch.
 #[tactic(auto, unfolding(spec_fork_choice::specs::OnBlock::with_best_justified))]
-fn take_best(store: &mut Store, checkpoint: Checkpoint)
+fn take_best(store: &mut StoreFields, checkpoint: Checkpoint)
     requires low { start_slot_of store.old checkpoint < 2 ^ 64 }
     ensures exact { store.new ≡ with_best_justified store.old checkpoint }
     ensures config { store.new.config ≡ store.old.config }
@@ -61,7 +72,7 @@ fn take_best(store: &mut Store, checkpoint: Checkpoint)
 
 /// A better checkpoint is justified at once where it may be.
 #[tactic(auto, unfolding(spec_fork_choice::specs::OnBlock::with_better_justified))]
-fn take_better(store: &mut Store, checkpoint: Checkpoint)
+fn take_better(store: &mut StoreFields, checkpoint: Checkpoint)
     requires low { start_slot_of store.old checkpoint < 2 ^ 64 }
     ensures exact { store.new ≡ with_better_justified store.old checkpoint }
     ensures config { store.new.config ≡ store.old.config }
@@ -74,7 +85,7 @@ fn take_better(store: &mut Store, checkpoint: Checkpoint)
 
 /// The state's justified checkpoint is taken where it is of a greater epoch.
 #[tactic(auto, unfolding(crate::specs::inside::Accepted::justified_by))]
-fn justify(store: &mut Store, checkpoint: Checkpoint)
+fn justify(store: &mut StoreFields, checkpoint: Checkpoint)
     requires low { start_slot_of store.old checkpoint < 2 ^ 64 }
     ensures exact { store.new ≡ justified_by store.old checkpoint }
     ensures config { store.new.config ≡ store.old.config }
@@ -86,7 +97,7 @@ fn justify(store: &mut Store, checkpoint: Checkpoint)
 
 /// The state's finalized checkpoint is taken where it is of a greater epoch, and its justified one with it.
 #[tactic(auto, unfolding(crate::specs::inside::Accepted::finalized_by))]
-fn finalize(store: &mut Store, finalized: Checkpoint, justified: Checkpoint)
+fn finalize(store: &mut StoreFields, finalized: Checkpoint, justified: Checkpoint)
     requires low { start_slot_of store.old justified < 2 ^ 64 }
     ensures { store.new ≡ finalized_by store.old finalized justified }
 {
@@ -98,7 +109,13 @@ fn finalize(store: &mut Store, finalized: Checkpoint, justified: Checkpoint)
 
 /// Boost and checkpoints behind a block of this slot and root whose state has these checkpoints.
 #[tactic(auto, unfolding(crate::specs::inside::Accepted::settled))]
-fn settle(store: &mut Store, slot: u64, root: Root, justified: Checkpoint, finalized: Checkpoint)
+fn settle(
+    store: &mut StoreFields,
+    slot: u64,
+    root: Root,
+    justified: Checkpoint,
+    finalized: Checkpoint,
+)
     requires low { start_slot_of store.old justified < 2 ^ 64 }
     ensures { store.new ≡ settled store.old slot root justified finalized }
 {
@@ -107,48 +124,160 @@ fn settle(store: &mut Store, slot: u64, root: Root, justified: Checkpoint, final
     finalize(store, finalized, justified);
 }
 
-/// Keeps the block with its state, unless it is kept already. Where memory is refused, the store is as before.
-#[tactic(auto, using(crate::proofs::Trees::follows), unfolding(spec_fork_choice::specs::OnBlock::with_block, spec_fork_choice::specs::Store::is_kept))]
-fn keep_block(
+/// Whether a state's checkpoints may move the store's.
+#[tactic(auto, unfolding(crate::specs::inside::Following::may_move))]
+fn may_move(store: &StoreFields, facts: Facts) -> bool
+    ensures { result ≡ may_move store.now facts.justified facts.finalized }
+{
+    store.justified().epoch < facts.justified.epoch
+        || store.finalized().epoch < facts.finalized.epoch
+}
+
+/// The balances that a block's justified checkpoint may need, where it may move the store's and isn't the best justified one.
+#[tactic(auto, using(crate::proofs::Preparing::preparing))]
+fn prepare(alloc: Global, store: &StoreFields, facts: Facts) -> Result<Given, NoMemory>
+    requires { start_slot_of store.now facts.justified < 2 ^ 64 }
+    ensures { IfOk result (λ given. AreGiven store.now given.justified given.best_justified facts.justified facts.finalized) }
+{
+    let best_justified = store.best_justified();
+    if !may_move(store, facts) {
+        return Ok(Given {
+            justified: None,
+            best_justified: None,
+        });
+    }
+    if same_checkpoint(&facts.justified, &best_justified) {
+        return Ok(Given {
+            justified: None,
+            best_justified: None,
+        });
+    }
+    let justified = balances_of(alloc, store, facts.justified)?;
+    let best_justified = balances_of(alloc, store, best_justified)?;
+    Ok(Given {
+        justified: Some(justified),
+        best_justified: Some(best_justified),
+    })
+}
+
+/// Keeps a block that isn't kept yet with its state, and adds its node to the array. All room is made first.
+#[tactic(auto, using(crate::proofs::Adding::adding))]
+fn add_block(
     alloc: Global,
-    store: &mut Store,
+    store: &mut StoreFields,
+    array: &mut BlockArray,
     block: &BeaconBlock,
     root: Root,
     state: State,
 ) -> Result<(), NoMemory>
+    requires array { IsArrayOf store.old array.old }
+    requires few { length store.old.blocks < 2 ^ 32 - 1 }
     requires kept { IsKept (kept_of root block.now state) }
     requires preset { state.preset ≡ store.old.config.preset }
     requires parent { HasParent store.old.blocks block.now }
+    requires fresh { is_kept store.old.blocks root ≡ false }
+    requires named { same_root root zero_root ≡ false }
+    ensures exact { Becomes result store.old store.new (record store.old { blocks = store.old.blocks ++ kept_of root block.now state ∷ [] }) }
+    ensures array { IsArrayOf store.new array.new }
+{
+    store.is_sound();
+    let facts = Facts {
+        justified: state.current_justified_checkpoint(),
+        finalized: state.finalized_checkpoint(),
+    };
+    let Some(parent) = number_of(store.blocks(), block.parent_root) else {
+        unreachable!()
+    };
+    array.reserve(0)?;
+    let copy = copy_block(alloc, block)?;
+    store.keep(KeptBlock::new(root, copy, state))?;
+    let _room = array.push(parent, block.slot, root, facts);
+    Ok(())
+}
+
+/// Keeps the block with its state, unless it is kept already. Where memory is refused, the store is as before.
+#[tactic(auto, using(crate::proofs::Adding::keeping), unfolding(spec_fork_choice::specs::OnBlock::with_block, spec_fork_choice::specs::Store::is_kept))]
+fn keep_block(
+    alloc: Global,
+    store: &mut StoreFields,
+    array: &mut BlockArray,
+    block: &BeaconBlock,
+    root: Root,
+    state: State,
+) -> Result<(), NoMemory>
+    requires array { IsArrayOf store.old array.old }
+    requires few { length store.old.blocks < 2 ^ 32 - 1 }
+    requires kept { IsKept (kept_of root block.now state) }
+    requires preset { state.preset ≡ store.old.config.preset }
+    requires parent { HasParent store.old.blocks block.now }
+    requires named { same_root root zero_root ≡ false }
     ensures exact { Becomes result store.old store.new (with_block store.old (kept_of root block.now state)) }
-    ensures config { store.new.config ≡ store.old.config }
+    ensures array { IsArrayOf store.new array.new }
 {
     if store.kept(root).is_some() {
         return Ok(());
     }
-    let copy = copy_block(alloc, block)?;
-    store.keep(KeptBlock::new(root, copy, state))
+    add_block(alloc, store, array, block, root, state)
 }
 
-/// Takes a valid block into the store. Where memory is refused, the store is as before.
-#[tactic(auto, using(crate::proofs::AcceptedBlocks::settled_is_accepted, crate::proofs::Numbers::justified_is_low))]
+/// Boost and checkpoints behind a kept block of this slot and root whose state has these checkpoints, and the array follows.
+#[tactic(auto, using(crate::proofs::Settling::settling))]
+fn settle_whole(
+    store: &mut StoreFields,
+    array: &mut BlockArray,
+    ready: &mut Option<ReadyBalances>,
+    given: Given,
+    slot: u64,
+    root: Root,
+    facts: Facts,
+)
+    requires low { start_slot_of store.old facts.justified < 2 ^ 64 }
+    requires few { length store.old.blocks < 2 ^ 32 }
+    requires array { IsArrayOf store.old array.old }
+    requires ready { IsReady store.old ready.old }
+    requires given { AreGiven store.old given.justified given.best_justified facts.justified facts.finalized }
+    requires justified { may_move store.old facts.justified facts.finalized ≡ true → is_kept store.old.blocks facts.justified.root ≡ true }
+    requires kept { is_kept store.old.blocks root ≡ true }
+    ensures exact { store.new ≡ settled store.old slot root facts.justified facts.finalized }
+    ensures array { IsArrayOf store.new array.new }
+    ensures ready { IsReady store.new ready.new }
+{
+    let before = told_of(store);
+    settle(store, slot, root, facts.justified, facts.finalized);
+    feed(store, array, ready, given, &before, root, facts);
+    follow(store, array, &before);
+}
+
+/// Takes a valid block into the store. Where memory is refused, the store is as before: all room is made first.
+#[tactic(auto, using(crate::proofs::AcceptedBlocks::accepting, crate::proofs::Numbers::justified_is_low))]
 pub(crate) fn accept(
     alloc: Global,
-    store: &mut Store,
+    store: &mut StoreFields,
+    array: &mut BlockArray,
+    ready: &mut Option<ReadyBalances>,
     block: &BeaconBlock,
     root: Root,
     step: Step,
 ) -> Result<BlockIn, NoMemory>
+    requires whole { IsWhole store.old array.old ready.old }
+    requires few { length store.old.blocks < 2 ^ 32 - 1 }
     requires kept { IsKept (kept_of root block.now step.state) }
     requires preset { step.state.preset ≡ store.old.config.preset }
     requires parent { HasParent store.old.blocks block.now }
-    ensures { BecomesWith result store.old store.new (with_accepted store.old (kept_of root block.now step.state)) (block_in_of root block.now step) }
+    requires named { same_root root zero_root ≡ false }
+    requires linked { IsLinked store.old.config store.old.blocks step.state }
+    ensures exact { BecomesWith result store.old store.new (with_accepted store.old (kept_of root block.now step.state)) (block_in_of root block.now step) }
+    ensures whole { IsWhole store.new array.new ready.new }
 {
     let Step { state, entered } = step;
-    let justified = state.current_justified_checkpoint();
-    let finalized = state.finalized_checkpoint();
+    let facts = Facts {
+        justified: state.current_justified_checkpoint(),
+        finalized: state.finalized_checkpoint(),
+    };
     let _slot = state.slot();
-    keep_block(alloc, store, block, root, state)?;
-    settle(store, block.slot, root, justified, finalized);
+    let given = prepare(alloc, store, facts)?;
+    keep_block(alloc, store, array, block, root, state)?;
+    settle_whole(store, array, ready, given, block.slot, root, facts);
     Ok(BlockIn {
         root,
         state_root: block.state_root,

@@ -11,7 +11,7 @@ use hash_tree::Root;
 
 /// The place of a root's block among the kept ones, and their number where the root isn't kept.
 #[tactic(auto, using(crate::proofs::Finds::find_place))]
-fn place_of(blocks: &[KeptBlock], root: Root) -> usize
+pub(crate) fn place_of(blocks: &[KeptBlock], root: Root) -> usize
     ensures place { result ≡ place_of blocks.now root }
     ensures most { result ≤ length blocks.now }
 {

@@ -7,13 +7,13 @@ ghost use Rattle.spec_fork_choice.specs.Slots.{start_slot_of};
 ghost use Rattle.spec_fork_choice.specs.GetAncestor.{get_ancestor};
 
 use crate::slots::start_slot;
-use crate::store::Store;
+use crate::store_fields::StoreFields;
 use beacon_types::Checkpoint;
 use hash_tree::Root;
 
 /// The slot of a kept block, and 0 of another root.
 #[tactic(auto, unfolding(spec_fork_choice::specs::Store::slot_of))]
-pub(crate) fn slot_of(store: &Store, root: Root) -> u64
+pub(crate) fn slot_of(store: &StoreFields, root: Root) -> u64
     ensures { result ≡ slot_of store.now.blocks root }
 {
     match store.kept(root) {
@@ -24,7 +24,7 @@ pub(crate) fn slot_of(store: &Store, root: Root) -> u64
 
 /// The root of a kept block's parent, and zero of another root.
 #[tactic(auto, unfolding(spec_fork_choice::specs::Store::parent_of))]
-fn parent_of(store: &Store, root: Root) -> Root
+fn parent_of(store: &StoreFields, root: Root) -> Root
     ensures { result ≡ parent_of store.now.blocks root }
 {
     match store.kept(root) {
@@ -36,7 +36,7 @@ fn parent_of(store: &Store, root: Root) -> Root
 /// The block at a slot on the chain of a kept block, or the last one before it (fork-choice.md, `get_ancestor`). The slot may
 /// be any first slot of an epoch, so that it has 128 bits.
 #[tactic(auto, using(crate::proofs::Walks::walk))]
-pub(crate) fn get_ancestor(store: &Store, root: Root, slot: u128) -> Root
+pub(crate) fn get_ancestor(store: &StoreFields, root: Root, slot: u128) -> Root
     ensures { result ≡ get_ancestor store.now root slot }
 {
     let mut root = root;
@@ -52,7 +52,7 @@ pub(crate) fn get_ancestor(store: &Store, root: Root, slot: u128) -> Root
 
 /// Whether a block is behind a checkpoint: whether its ancestor at the first slot of the checkpoint's epoch is the
 /// checkpoint's block.
-pub(crate) fn is_behind(store: &Store, root: Root, checkpoint: Checkpoint) -> bool
+pub(crate) fn is_behind(store: &StoreFields, root: Root, checkpoint: Checkpoint) -> bool
     ensures { result ≡ same_root (get_ancestor store.now root (start_slot_of store.now checkpoint)) checkpoint.root }
 {
     get_ancestor(store, root, start_slot(store, checkpoint)) == checkpoint.root

@@ -112,7 +112,7 @@ fn message_at(items: &[Option<LatestMessage>], validator: u64) -> Option<LatestM
 }
 
 /// How many places a list needs so that it has one for each of these indices. Without memory where no list is so long.
-fn places_for(indices: &[u64]) -> Result<usize, NoMemory>
+pub(crate) fn places_for(indices: &[u64]) -> Result<usize, NoMemory>
     ensures { IfOk result (λ places. AllBelow places indices.now) }
 {
     let mut places = 0;

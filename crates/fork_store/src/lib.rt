@@ -1,34 +1,39 @@
 //! The store of fork choice: kept blocks with their states, checkpoints, the time, and each validator's latest vote.
 //!
-//! Ticks, blocks and votes come from a record's events; the head, the checkpoints and the kept blocks go to its lines. This is
-//! the plain program: it keeps lists, looks blocks up by a scan, walks from block to parent, and computes the state of a
-//! checkpoint each time.
+//! Ticks, blocks and votes come from a record's events; the head, the checkpoints and the kept blocks go to its lines. Beside the
+//! kept blocks there is an array of nodes, by which weights and the head are made. States of checkpoints are kept once a vote
+//! needed them.
 #![tactic(auto)]
 
 mod accept_block;
+mod array_laws;
 mod block_in;
 mod chain_stepper;
+mod checkpoint_states;
 mod clash_of;
 mod copies;
-mod filter_block_tree;
+mod follow;
 mod get_ancestor;
 mod get_head;
-mod get_latest_attesting_balance;
 mod kept_block;
 mod latest_messages;
+mod number_of;
 mod on_attestation;
 mod on_block;
 mod on_event;
 mod on_tick;
+mod ready_balances;
 mod root_clash;
 mod should_update_justified_checkpoint;
 mod slots;
 mod store;
+mod store_fields;
 mod store_new;
 mod store_target_checkpoint_state;
 mod update_latest_messages;
 mod validate_on_attestation;
 
+pub use array_laws::array_agrees;
 pub use block_in::BlockIn;
 pub use chain_stepper::ChainStepper;
 pub use kept_block::{KeptBlock, KeptBlocks};

@@ -2,23 +2,24 @@
 //!
 //! They come from a record's events. The committees are those of the target's state, and what changes is the latest votes.
 
-ghost use Rattle.std.specs.Prelude.{◌≡◌, Some};
+ghost use Rattle.std.specs.Prelude.{◌≡◌, Some, None, IfOk, IfSome};
 ghost use Rattle.bc_words.specs.Outcome.{GivesBy};
 ghost use Rattle.bc_words.specs.Events.{StoreChanges};
 ghost use Rattle.committees.specs.Committees.{committee_at};
 ghost use Rattle.spec_state.specs.Misc.{compute_epoch_at_slot};
 ghost use Rattle.spec_fork_choice.specs.OnAttestation.{on_attestation};
-ghost use Rattle.fork_store.specs.inside.Votes.{attesters_among, attesters_in, attesters_of, judged, event_of};
+ghost use Rattle.fork_store.specs.inside.CheckpointStates.{IsStateOf};
+ghost use Rattle.fork_store.specs.inside.Votes.{attesters_among, attesters_of, judged, event_of};
 
+use crate::checkpoint_states::CheckpointState;
 use crate::store::Store;
-use crate::store_target_checkpoint_state::store_target_checkpoint_state;
+use crate::store_fields::StoreFields;
+use crate::store_target_checkpoint_state::checkpoint_state_anew;
 use crate::update_latest_messages::update_latest_messages;
 use crate::validate_on_attestation::validate_on_attestation;
 use attest_ops::attesting_indices;
-use balance_totals::committees_of_epoch;
-use bc_words::{Refusal, Stop, StoreStop};
+use bc_words::{NoMemory, Refusal, Stop, StoreStop};
 use beacon_body::Attestation;
-use beacon_state::State;
 use beacon_types::{AggregationBits, AttestationData};
 use committees::EpochCommittees;
 use std::alloc::Global;
@@ -59,43 +60,123 @@ fn attesters_at(
     }
 }
 
-/// The attesters of an attestation in the state of its target.
-#[tactic(auto, using(crate::proofs::Votes::attesters_are, crate::proofs::Votes::epoch_is_low))]
-fn attesters_in(alloc: Global, state: &State, attestation: &Attestation) -> Result<Vec<u64>, Stop>
-    requires { compute_epoch_at_slot state.now.preset attestation.now.content.slot ≡ attestation.now.content.target.epoch }
-    ensures { GivesBy (λ members. members.items) result (attesters_in state.now attestation.now) }
-{
-    state.preset().bounds();
-    let voted = &attestation.content;
-    let _slot = voted.slot;
-    let committees = committees_of_epoch(alloc, state, voted.target.epoch)?;
-    attesters_at(alloc, &committees, voted, &attestation.aggregation_bits)
-}
-
-/// The attesters of an attestation whose target's epoch is that of its slot.
-#[tactic(auto, unfolding(crate::specs::inside::Votes::attesters_of), using(crate::proofs::Votes::start_is_low))]
-fn attesters_of(alloc: Global, store: &Store, attestation: &Attestation) -> Result<Vec<u64>, Stop>
+/// The attesters of an attestation whose target's epoch is that of its slot, by the target's state with its committees.
+#[tactic(auto, using(crate::proofs::CheckpointStates::attesters_by_kept))]
+fn attesters_by(
+    alloc: Global,
+    store: &StoreFields,
+    target: &CheckpointState,
+    attestation: &Attestation,
+) -> Result<Vec<u64>, Stop>
     requires epoch { compute_epoch_at_slot store.now.config.preset attestation.now.content.slot ≡ attestation.now.content.target.epoch }
+    requires own { IsStateOf store.now target.now }
+    requires target { target.now.checkpoint ≡ attestation.now.content.target }
     ensures { GivesBy (λ members. members.items) result (attesters_of store.now attestation.now) }
 {
-    let voted = &attestation.content;
-    let _slot = voted.slot;
-    let state = store_target_checkpoint_state(alloc, store, voted.target)?;
-    attesters_in(alloc, &state, attestation)
+    let _store = store;
+    let bits = &attestation.aggregation_bits;
+    attesters_at(alloc, target.committees(), &attestation.content, bits)
+}
+
+/// The attesters of an attestation, and the state of its target where that had to be made.
+#[derive(Drop)]
+struct Judged {
+    indices: Vec<u64>,
+    made: Option<CheckpointState>,
+}
+
+/// The attesters of such an attestation, whose target's state has to be made.
+#[tactic(auto, unfolding(crate::specs::inside::Votes::attesters_of), using(crate::proofs::Votes::start_is_low))]
+fn judge_anew(alloc: Global, store: &StoreFields, attestation: &Attestation) -> Result<Judged, Stop>
+    requires epoch { compute_epoch_at_slot store.now.config.preset attestation.now.content.slot ≡ attestation.now.content.target.epoch }
+    ensures exact { GivesBy (λ judged. judged.indices.items) result (attesters_of store.now attestation.now) }
+    ensures made { IfOk result (λ judged. IfSome judged.made (λ made. IsStateOf store.now made)) }
+{
+    let _slot = attestation.content.slot;
+    let made = checkpoint_state_anew(alloc, store, attestation.content.target)?;
+    let indices = attesters_by(alloc, store, &made, attestation)?;
+    Ok(Judged {
+        indices,
+        made: Some(made),
+    })
+}
+
+/// The attesters of such an attestation, whose target's state is kept.
+fn judge_kept(
+    alloc: Global,
+    store: &StoreFields,
+    target: &CheckpointState,
+    attestation: &Attestation,
+) -> Result<Judged, Stop>
+    requires epoch { compute_epoch_at_slot store.now.config.preset attestation.now.content.slot ≡ attestation.now.content.target.epoch }
+    requires own { IsStateOf store.now target.now }
+    requires target { target.now.checkpoint ≡ attestation.now.content.target }
+    ensures exact { GivesBy (λ judged. judged.indices.items) result (attesters_of store.now attestation.now) }
+    ensures made { IfOk result (λ judged. judged.made ≡ None) }
+{
+    let indices = attesters_by(alloc, store, target, attestation)?;
+    Ok(Judged {
+        indices,
+        made: None,
+    })
+}
+
+/// The attesters of such an attestation.
+fn judge_target(
+    alloc: Global,
+    store: &StoreFields,
+    attestation: &Attestation,
+) -> Result<Judged, Stop>
+    requires epoch { compute_epoch_at_slot store.now.config.preset attestation.now.content.slot ≡ attestation.now.content.target.epoch }
+    ensures exact { GivesBy (λ judged. judged.indices.items) result (attesters_of store.now attestation.now) }
+    ensures made { IfOk result (λ judged. IfSome judged.made (λ made. IsStateOf store.now made)) }
+{
+    match store.checkpoint_state(attestation.content.target) {
+        Some(target) => judge_kept(alloc, store, target, attestation),
+        None => judge_anew(alloc, store, attestation),
+    }
 }
 
 /// The attesters of an attestation that may count now.
 #[tactic(auto, unfolding(crate::specs::inside::Votes::judged))]
 fn judge(
     alloc: Global,
-    store: &Store,
+    store: &StoreFields,
+    attestation: &Attestation,
+    is_from_block: bool,
+) -> Result<Judged, Stop>
+    ensures exact { GivesBy (λ judged. judged.indices.items) result (judged store.now attestation.now is_from_block) }
+    ensures made { IfOk result (λ judged. IfSome judged.made (λ made. IsStateOf store.now made)) }
+{
+    validate_on_attestation(store, attestation, is_from_block)?;
+    judge_target(alloc, store, attestation)
+}
+
+/// Keeps the state of a target that was made. What contracts see of the store stays.
+fn keep_made(store: &mut StoreFields, made: Option<CheckpointState>) -> Result<(), NoMemory>
+    requires { IfSome made (λ state. IsStateOf store.old state) }
+    ensures { store.new ≡ store.old }
+{
+    match made {
+        Some(state) => store.keep_checkpoint_state(state),
+        None => Ok(()),
+    }
+}
+
+/// The attesters of an attestation that may count now. Its target's state is kept. What contracts see of the store stays.
+fn take_attesters(
+    alloc: Global,
+    store: &mut StoreFields,
     attestation: &Attestation,
     is_from_block: bool,
 ) -> Result<Vec<u64>, Stop>
-    ensures { GivesBy (λ members. members.items) result (judged store.now attestation.now is_from_block) }
+    ensures exact { GivesBy (λ members. members.items) result (judged store.old attestation.now is_from_block) }
+    ensures same { store.new ≡ store.old }
 {
-    validate_on_attestation(store, attestation, is_from_block)?;
-    attesters_of(alloc, store, attestation)
+    let judged = judge(alloc, store, attestation, is_from_block)?;
+    let Judged { indices, made } = judged;
+    keep_made(store, made)?;
+    Ok(indices)
 }
 
 impl Store {
@@ -104,17 +185,23 @@ impl Store {
     ///
     /// Refused, in this order: as `validate_on_attestation` has it; as the slots up to the target's first one are, with their
     /// limit; `FcCommittee`, `FcBitsShort`, `FcEmpty`. After a stop the store is as before. It never clashes.
-    #[tactic(auto, using(crate::proofs::Votes::handling))]
+    #[tactic(auto, using(crate::proofs::Votes::handling, crate::proofs::Votes::voted_is_kept))]
     pub fn on_attestation(
         &mut self,
         alloc: Global,
         attestation: &Attestation,
         from_block: bool,
     ) -> Result<(), StoreStop>
-        ensures { StoreChanges result self.old self.new (event_of (on_attestation self.old attestation.now from_block)) }
+        ensures { StoreChanges result self.old.plain self.new.plain (event_of (on_attestation self.old.plain attestation.now from_block)) }
     {
-        let indices = judge(alloc, self, attestation, from_block)?;
-        update_latest_messages(self, &indices, attestation)?;
+        let indices = take_attesters(alloc, &mut self.fields, attestation, from_block)?;
+        update_latest_messages(
+            &mut self.fields,
+            &mut self.array,
+            &self.ready,
+            &indices,
+            attestation,
+        )?;
         Ok(())
     }
 }

@@ -28,7 +28,7 @@ pub enum Accepted {
 /// Takes the time of a tick.
 #[tactic(auto, using(crate::proofs::Events::ticking))]
 fn take_tick(store: &mut Store, time: u64) -> Result<Accepted, StoreStop>
-    ensures { AcceptsBy accepted_of result store.old store.new (without_block (on_tick store.old time)) }
+    ensures { AcceptsBy accepted_of result store.old.plain store.new.plain (without_block (on_tick store.old.plain time)) }
 {
     match store.on_tick(time) {
         Ok(()) => Ok(Accepted::Other),
@@ -39,7 +39,7 @@ fn take_tick(store: &mut Store, time: u64) -> Result<Accepted, StoreStop>
 /// Takes a tick, whose payload is its time in 8 bytes, low byte first.
 #[tactic(auto, unfolding(spec_fork_choice::specs::OnEvent::handle_tick))]
 fn handle_tick(store: &mut Store, payload: &[u8]) -> Result<Accepted, StoreStop>
-    ensures { AcceptsBy accepted_of result store.old store.new (handle_tick store.old payload.now) }
+    ensures { AcceptsBy accepted_of result store.old.plain store.new.plain (handle_tick store.old.plain payload.now) }
 {
     match payload {
         [a, b, c, d, e, f, g, h] => {
@@ -52,8 +52,8 @@ fn handle_tick(store: &mut Store, payload: &[u8]) -> Result<Accepted, StoreStop>
 /// Takes a signed block, whose payload is its writing.
 #[tactic(auto, unfolding(spec_fork_choice::specs::OnEvent::handle_block), using(crate::proofs::Events::blocks))]
 fn handle_block(alloc: Global, store: &mut Store, payload: &[u8]) -> Result<Accepted, StoreStop>
-    requires few { length store.old.blocks < 2 ^ 32 - 1 }
-    ensures { AcceptsBy accepted_of result store.old store.new (handle_block store.old (signed_block_codec.deserialize payload.now)) }
+    requires few { length store.old.plain.blocks < 2 ^ 32 - 1 }
+    ensures { AcceptsBy accepted_of result store.old.plain store.new.plain (handle_block store.old.plain (signed_block_codec.deserialize payload.now)) }
 {
     match SignedBeaconBlock::read(alloc, payload) {
         Ok(block) => Ok(Accepted::Block(store.on_block(alloc, &block)?)),
@@ -70,7 +70,7 @@ fn take_attestation(
     attestation: &Attestation,
     from_block: bool,
 ) -> Result<Accepted, StoreStop>
-    ensures { AcceptsBy accepted_of result store.old store.new (without_block (on_attestation store.old attestation.now from_block)) }
+    ensures { AcceptsBy accepted_of result store.old.plain store.new.plain (without_block (on_attestation store.old.plain attestation.now from_block)) }
 {
     match store.on_attestation(alloc, attestation, from_block) {
         Ok(()) => Ok(Accepted::Other),
@@ -86,7 +86,7 @@ fn handle_attestation(
     payload: &[u8],
     from_block: bool,
 ) -> Result<Accepted, StoreStop>
-    ensures { AcceptsBy accepted_of result store.old store.new (handle_attestation store.old from_block (attestation_codec.deserialize payload.now)) }
+    ensures { AcceptsBy accepted_of result store.old.plain store.new.plain (handle_attestation store.old.plain from_block (attestation_codec.deserialize payload.now)) }
 {
     match Attestation::read(alloc, payload) {
         Ok(attestation) => take_attestation(alloc, store, &attestation, from_block),
@@ -109,8 +109,8 @@ impl Store {
         kind: u8,
         payload: &[u8],
     ) -> Result<Accepted, StoreStop>
-        requires few { length self.old.blocks < 2 ^ 32 - 1 }
-        ensures { AcceptsBy accepted_of result self.old self.new (on_event self.old kind payload.now) }
+        requires few { length self.old.plain.blocks < 2 ^ 32 - 1 }
+        ensures { AcceptsBy accepted_of result self.old.plain self.new.plain (on_event self.old.plain kind payload.now) }
     {
         if kind == 1 {
             handle_tick(self, payload)

@@ -1,17 +1,25 @@
 //! Ticks (fork-choice.md, "on_tick").
 
-ghost use Rattle.std.specs.Prelude.{◌≡◌};
+ghost use Rattle.std.specs.Prelude.{◌≡◌, ◌⊎◌};
 ghost use Rattle.bc_words.specs.Outcome.{ChangesOrRefuses};
 ghost use Rattle.spec_fork_choice.specs.OnTick.{is_better_justified, in_new_epoch, in_new_slot, on_tick};
+ghost use Rattle.spec_state.specs.Genesis.{zero_root};
+ghost use Rattle.fork_store.specs.inside.Arrays.{IsArrayOf};
+ghost use Rattle.fork_store.specs.inside.Wholes.{IsReady};
+ghost use Rattle.fork_store.specs.inside.Following.{with_told, AreKept};
 
+use crate::follow::{Told, feed_best, follow, told_of};
 use crate::get_ancestor::is_behind;
+use crate::ready_balances::ReadyBalances;
 use crate::slots::{current_slot, slots_since_epoch_start};
 use crate::store::Store;
+use crate::store_fields::StoreFields;
 use bc_words::Refusal;
+use block_array::BlockArray;
 
 /// Whether the best justified checkpoint is better than the justified one, and behind the finalized one.
 #[tactic(auto, unfolding(spec_fork_choice::specs::OnTick::is_better_justified))]
-fn is_better_justified(store: &Store) -> bool
+fn is_better_justified(store: &StoreFields) -> bool
     ensures { result ≡ is_better_justified store.now }
 {
     let best = store.best_justified();
@@ -20,7 +28,7 @@ fn is_better_justified(store: &Store) -> bool
 
 /// In an epoch's first slot the best justified checkpoint becomes the justified one, where it is better.
 #[tactic(auto, unfolding(spec_fork_choice::specs::OnTick::in_new_epoch))]
-fn in_new_epoch(store: &mut Store)
+fn in_new_epoch(store: &mut StoreFields)
     ensures { store.new ≡ in_new_epoch store.old }
 {
     if is_better_justified(store) {
@@ -31,7 +39,7 @@ fn in_new_epoch(store: &mut Store)
 
 /// A new slot has no boost.
 #[tactic(auto, unfolding(spec_fork_choice::specs::OnTick::in_new_slot))]
-fn in_new_slot(store: &mut Store)
+fn in_new_slot(store: &mut StoreFields)
     ensures { store.new ≡ in_new_slot store.old }
 {
     let behind = slots_since_epoch_start(store.config().preset(), current_slot(store));
@@ -41,22 +49,52 @@ fn in_new_slot(store: &mut Store)
     }
 }
 
+/// The time, in seconds, is this one now.
+#[tactic(auto, unfolding(spec_fork_choice::specs::OnTick::on_tick))]
+fn tick(store: &mut StoreFields, time: u64) -> Result<(), Refusal>
+    ensures { ChangesOrRefuses result store.old store.new (on_tick store.old time) }
+{
+    if time < store.time() {
+        return Err(Refusal::TickBack);
+    }
+    let before = current_slot(store);
+    store.set_time(time);
+    if before < current_slot(store) {
+        in_new_slot(store);
+    }
+    Ok(())
+}
+
+/// The array follows a tick.
+fn follow_tick(
+    store: &StoreFields,
+    array: &mut BlockArray,
+    ready: &mut Option<ReadyBalances>,
+    before: &Told,
+)
+    requires array { IsArrayOf (with_told store.now before.now) array.old }
+    requires ready { IsReady (with_told store.now before.now) ready.old }
+    requires best { store.now.best_justified_checkpoint ≡ before.now.best_justified }
+    requires moved { (store.now.justified_checkpoint ≡ before.now.justified) ⊎ (store.now.justified_checkpoint ≡ before.now.best_justified) }
+    requires kept { AreKept store.now }
+    ensures array { IsArrayOf store.now array.new }
+    ensures ready { IsReady store.now ready.new }
+{
+    feed_best(store, array, ready, before);
+    follow(store, array, before);
+}
+
 impl Store {
     /// The time, in seconds, is this one now (fork-choice.md, `on_tick`). It takes no memory.
     ///
     /// Refused as `TickBack` where it is before the store's, which is then as it was.
-    #[tactic(auto, unfolding(spec_fork_choice::specs::OnTick::on_tick))]
+    #[tactic(auto, using(crate::proofs::Ticks::ticking))]
     pub fn on_tick(&mut self, time: u64) -> Result<(), Refusal>
-        ensures { ChangesOrRefuses result self.old self.new (on_tick self.old time) }
+        ensures { ChangesOrRefuses result self.old.plain self.new.plain (on_tick self.old.plain time) }
     {
-        if time < self.time() {
-            return Err(Refusal::TickBack);
-        }
-        let before = current_slot(self);
-        self.set_time(time);
-        if before < current_slot(self) {
-            in_new_slot(self);
-        }
+        let before = told_of(&self.fields);
+        tick(&mut self.fields, time)?;
+        follow_tick(&self.fields, &mut self.array, &mut self.ready, &before);
         Ok(())
     }
 }

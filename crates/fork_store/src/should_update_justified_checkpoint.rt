@@ -5,13 +5,16 @@ ghost use Rattle.spec_fork_choice.specs.ShouldUpdateJustifiedCheckpoint.{should_
 
 use crate::get_ancestor::is_behind;
 use crate::slots::{current_slot, slots_since_epoch_start};
-use crate::store::Store;
+use crate::store_fields::StoreFields;
 use beacon_types::Checkpoint;
 
 /// Whether a better justified checkpoint becomes the justified one at once: early in an epoch, or where it is behind the
 /// justified one (fork-choice.md, `should_update_justified_checkpoint`).
 #[tactic(auto, unfolding(spec_fork_choice::specs::ShouldUpdateJustifiedCheckpoint::should_update_justified_checkpoint))]
-pub(crate) fn should_update_justified_checkpoint(store: &Store, checkpoint: Checkpoint) -> bool
+pub(crate) fn should_update_justified_checkpoint(
+    store: &StoreFields,
+    checkpoint: Checkpoint,
+) -> bool
     ensures { result ≡ should_update_justified_checkpoint store.now checkpoint }
 {
     let preset = store.config().preset();

@@ -6,13 +6,13 @@ ghost use Rattle.std.specs.Prelude.{◌≡◌, ◌<◌, ◌^◌};
 ghost use Rattle.bc_preset.specs.Presets.{IsPreset};
 ghost use Rattle.spec_fork_choice.specs.Slots.{get_current_slot, compute_slots_since_epoch_start, start_slot_of};
 
-use crate::store::Store;
+use crate::store_fields::StoreFields;
 use bc_preset::Preset;
 use beacon_types::Checkpoint;
 
 /// The slot that the time is in (fork-choice.md, `get_current_slot`).
 #[tactic(auto, unfolding(spec_fork_choice::specs::Slots::get_slots_since_genesis))]
-pub(crate) fn current_slot(store: &Store) -> u64
+pub(crate) fn current_slot(store: &StoreFields) -> u64
     ensures { result ≡ get_current_slot store.now }
 {
     (store.time() - store.genesis_time()) / store.config().seconds_per_slot()
@@ -30,7 +30,7 @@ pub(crate) fn slots_since_epoch_start(preset: &Preset, slot: u64) -> u64
 
 /// The first slot of a checkpoint's epoch (beacon-chain.md, `compute_start_slot_at_epoch`).
 #[tactic(auto, using(crate::proofs::Numbers::start_fits))]
-pub(crate) fn start_slot(store: &Store, checkpoint: Checkpoint) -> u128
+pub(crate) fn start_slot(store: &StoreFields, checkpoint: Checkpoint) -> u128
     ensures { result ≡ start_slot_of store.now checkpoint }
 {
     let preset = store.config().preset();

@@ -1,235 +1,98 @@
 //! The store of fork choice (fork-choice.md, "Store").
 //!
-//! It comes from genesis, and the handlers of events change it.
+//! Beside its fields it keeps the array of nodes, by which blocks are weighed, and holds ready the balances of the best justified
+//! checkpoint, so that neither a tick nor the head takes memory.
 
-ghost use Rattle.std.specs.Prelude.{◌≡◌, ◌∷◌, ◌++◌, ◌≤◌, ◌<◌, ◌^◌, [], IfSome, IfOk};
+ghost use Rattle.std.specs.Prelude.{◌≡◌, true, IfOk};
 ghost use Rattle.std.specs.Option.{option_map};
-ghost use Rattle.bc_words.specs.Outcome.{Becomes};
-ghost use Rattle.std.specs.List.{AllByRecursion};
-ghost use Rattle.fork_store.specs.inside.Stores.{HasPreset};
-ghost use Rattle.fork_store.specs.inside.Trees.{Follows, IsTree};
-ghost use Rattle.spec_fork_choice.specs.Store.{block_of};
-ghost use Rattle.spec_fork_choice.specs.Slots.{start_slot_of};
-ghost use Rattle.fork_store.specs.inside.Messages.{updated};
-ghost use Rattle.fork_store.specs.inside.Genesis.{at_genesis};
+ghost use Rattle.spec_fork_choice.specs.Store.{block_of, is_kept};
+ghost use Rattle.spec_fork_choice.specs.StoreTargetCheckpointState.{store_target_checkpoint_state};
+ghost use Rattle.fork_store.specs.inside.Arrays.{IsArrayOf};
+ghost use Rattle.fork_store.specs.inside.Chains.{IsDone};
 ghost use Rattle.fork_store.specs.inside.Roots.{roots_of};
 
-use crate::kept_block::{KeptBlock, KeptBlocks};
-use crate::latest_messages::{LatestMessage, LatestMessages};
-use bc_preset::Config;
+use crate::ready_balances::ReadyBalances;
+use crate::store_fields::StoreFields;
 use bc_words::NoMemory;
 use beacon_body::BeaconBlock;
 use beacon_state::State;
 use beacon_types::Checkpoint;
+use block_array::BlockArray;
 use hash_tree::Root;
 use std::marker::Model;
 
-/// The store: its configuration, the time, three checkpoints, the boosted block's root, the kept blocks with their states, and
-/// the latest votes.
+/// The store. Contracts see the plain store, and beside it the array, which is always that of the plain store.
 #[derive(Drop)]
 pub struct Store {
-    config: Config,
-    time: u64,
-    genesis_time: u64,
-    justified: Checkpoint,
-    finalized: Checkpoint,
-    best_justified: Checkpoint,
-    boost_root: Root,
-    blocks: KeptBlocks,
-    messages: LatestMessages,
+    pub(crate) fields: StoreFields,
+    pub(crate) array: BlockArray,
+    pub(crate) ready: Option<ReadyBalances>,
 }
 
 impl Model for Store {
-    ghost use Rattle.spec_fork_choice.specs.Store.{Store as PlainStore};
-    ghost use Rattle.fork_store.specs.inside.Plain.{plain_of};
-    ghost use Rattle.fork_store.specs.inside.Stores.{IsStore};
+    ghost use Rattle.fork_store.specs.inside.Seen.{Seen};
+    ghost use Rattle.fork_store.specs.inside.Wholes.{IsWhole};
 
-    ghost Value = { PlainStore };
+    ghost Value = { Seen };
 
-    ghost view = { plain_of };
+    ghost view = { λ s. record { plain = s.fields; array = s.array } };
 
-    ghost invariant = { λ store. IsStore (plain_of store) };
+    ghost invariant = { λ s. IsWhole s.fields s.array s.ready };
 }
 
 impl Store {
-    /// The store at genesis: its time and its three checkpoints are these, and there is no boost.
-    pub(crate) fn at_genesis(
-        config: Config,
-        time: u64,
-        checkpoint: Checkpoint,
-        blocks: KeptBlocks,
-        messages: LatestMessages,
-    ) -> Store
-        requires presets { AllByRecursion (HasPreset config.preset) blocks }
-        requires tree { IsTree blocks }
-        requires first { checkpoint.epoch ≡ 0 }
-        ensures { result ≡ at_genesis config time checkpoint blocks messages }
+    /// The array of nodes: the kept blocks in order, with the latest messages, the checkpoints, the boost, and the balances of the
+    /// justified checkpoint.
+    pub fn array(&self) -> &BlockArray
+        ensures same { result.now ≡ self.now.array }
+        ensures of_store { IsArrayOf self.now.plain self.now.array }
     {
-        Store {
-            config,
-            time,
-            genesis_time: time,
-            justified: checkpoint,
-            finalized: checkpoint,
-            best_justified: checkpoint,
-            boost_root: [0; 32],
-            blocks,
-            messages,
-        }
+        &self.array
     }
 
-    /// The configuration.
-    pub(crate) fn config(&self) -> &Config
-        ensures { result.now ≡ self.now.config }
+    /// The law that the justified checkpoint's block is kept and that its state is there: the slots up to its epoch are neither
+    /// refused nor limited, since an accepted block passed them. It does nothing when it runs.
+    #[tactic(auto, using(crate::proofs::Chains::justified_law))]
+    pub fn justified_state_is_done(&self)
+        ensures kept { is_kept self.now.plain.blocks self.now.plain.justified_checkpoint.root ≡ true }
+        ensures done { IsDone (store_target_checkpoint_state self.now.plain self.now.plain.justified_checkpoint) }
     {
-        &self.config
+        let _store = &self.fields;
     }
 
-    /// The time, in seconds, and not before genesis.
-    pub(crate) fn time(&self) -> u64
-        ensures same { result ≡ self.now.time }
-        ensures later { self.now.genesis_time ≤ self.now.time }
-    {
-        self.time
-    }
-
-    /// The time of genesis, in seconds.
-    pub(crate) fn genesis_time(&self) -> u64
-        ensures { result ≡ self.now.genesis_time }
-    {
-        self.genesis_time
-    }
-
-    /// The justified checkpoint, whose epoch begins at a slot of 64 bits.
+    /// The justified checkpoint.
     pub fn justified(&self) -> Checkpoint
-        ensures same { result ≡ self.now.justified_checkpoint }
-        ensures low { start_slot_of self.now self.now.justified_checkpoint < 2 ^ 64 }
+        ensures { result ≡ self.now.plain.justified_checkpoint }
     {
-        self.justified
+        self.fields.justified()
     }
 
     /// The finalized checkpoint.
     pub fn finalized(&self) -> Checkpoint
-        ensures { result ≡ self.now.finalized_checkpoint }
+        ensures { result ≡ self.now.plain.finalized_checkpoint }
     {
-        self.finalized
-    }
-
-    /// The best justified checkpoint, whose epoch begins at a slot of 64 bits.
-    pub(crate) fn best_justified(&self) -> Checkpoint
-        ensures same { result ≡ self.now.best_justified_checkpoint }
-        ensures low { start_slot_of self.now self.now.best_justified_checkpoint < 2 ^ 64 }
-    {
-        self.best_justified
-    }
-
-    /// The root of the boosted block, and zero where none is boosted.
-    pub(crate) fn boost_root(&self) -> Root
-        ensures { result ≡ self.now.proposer_boost_root }
-    {
-        self.boost_root
-    }
-
-    /// The kept blocks.
-    pub(crate) fn blocks(&self) -> &KeptBlocks
-        ensures { result.now ≡ self.now.blocks }
-    {
-        &self.blocks
-    }
-
-    /// The kept block of a root. None exactly where the root isn't kept.
-    #[tactic(auto, using(crate::proofs::Presets::found_preset))]
-    pub(crate) fn kept(&self, root: Root) -> Option<&KeptBlock>
-        ensures found { option_map (λ kept. kept.now) result ≡ block_of self.now.blocks root }
-        ensures preset { IfSome result (λ kept. kept.now.state.preset ≡ self.now.config.preset) }
-    {
-        self.blocks.find(root)
-    }
-
-    /// The latest votes.
-    pub(crate) fn messages(&self) -> &LatestMessages
-        ensures { result.now ≡ self.now.latest_messages }
-    {
-        &self.messages
-    }
-
-    /// Takes a vote for each of some validators to whom it is news. Where memory is refused, the store is as before.
-    pub(crate) fn update_messages(
-        &mut self,
-        indices: &[u64],
-        message: LatestMessage,
-    ) -> Result<(), NoMemory>
-        ensures { Becomes result self.old self.new (record self.old { latest_messages = updated self.old.latest_messages indices.now message }) }
-    {
-        self.messages.update(indices, message)
-    }
-
-    /// Takes another time, which isn't before genesis.
-    pub(crate) fn set_time(&mut self, time: u64)
-        requires { self.old.genesis_time ≤ time }
-        ensures { self.new ≡ record self.old { time = time } }
-    {
-        self.time = time;
-    }
-
-    /// Takes another justified checkpoint.
-    pub(crate) fn set_justified(&mut self, checkpoint: Checkpoint)
-        requires low { start_slot_of self.old checkpoint < 2 ^ 64 }
-        ensures { self.new ≡ record self.old { justified_checkpoint = checkpoint } }
-    {
-        self.justified = checkpoint;
-    }
-
-    /// Takes another finalized checkpoint.
-    pub(crate) fn set_finalized(&mut self, checkpoint: Checkpoint)
-        ensures { self.new ≡ record self.old { finalized_checkpoint = checkpoint } }
-    {
-        self.finalized = checkpoint;
-    }
-
-    /// Takes another best justified checkpoint.
-    pub(crate) fn set_best_justified(&mut self, checkpoint: Checkpoint)
-        requires low { start_slot_of self.old checkpoint < 2 ^ 64 }
-        ensures { self.new ≡ record self.old { best_justified_checkpoint = checkpoint } }
-    {
-        self.best_justified = checkpoint;
-    }
-
-    /// Boosts the block of another root, or none where it is zero.
-    pub(crate) fn set_boost_root(&mut self, root: Root)
-        ensures { self.new ≡ record self.old { proposer_boost_root = root } }
-    {
-        self.boost_root = root;
-    }
-
-    /// Keeps a block behind the others. Where memory is refused, the store is as before.
-    pub(crate) fn keep(&mut self, kept: KeptBlock) -> Result<(), NoMemory>
-        requires preset { kept.state.preset ≡ self.old.config.preset }
-        requires follows { Follows self.old.blocks kept }
-        ensures { Becomes result self.old self.new (record self.old { blocks = self.old.blocks ++ kept ∷ [] }) }
-    {
-        self.blocks.push(kept)
+        self.fields.finalized()
     }
 
     /// The roots of the kept blocks in the order of their acceptance, that of genesis first.
     pub fn accepted(&self) -> &[Root]
-        ensures { result.now ≡ roots_of self.now.blocks }
+        ensures { result.now ≡ roots_of self.now.plain.blocks }
     {
-        self.blocks.roots()
+        self.fields.blocks().roots()
     }
 
     /// The block of a root. None exactly where the root isn't kept.
     pub fn block(&self, root: Root) -> Option<&BeaconBlock>
-        ensures { option_map (λ block. block.now) result ≡ option_map (λ kept. kept.block) (block_of self.now.blocks root) }
+        ensures { option_map (λ block. block.now) result ≡ option_map (λ kept. kept.block) (block_of self.now.plain.blocks root) }
     {
-        self.blocks.block(root)
+        self.fields.blocks().block(root)
     }
 
     /// The state behind the block of a root. None exactly where the root isn't kept.
     pub fn state(&self, root: Root) -> Result<Option<State>, NoMemory>
-        ensures { IfOk result (λ state. state ≡ option_map (λ kept. kept.state) (block_of self.now.blocks root)) }
+        ensures { IfOk result (λ state. state ≡ option_map (λ kept. kept.state) (block_of self.now.plain.blocks root)) }
     {
-        match self.blocks.find(root) {
+        match self.fields.blocks().find(root) {
             Some(kept) => Ok(Some(kept.state().share()?)),
             None => Ok(None),
         }

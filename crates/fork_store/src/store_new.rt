@@ -6,17 +6,22 @@ ghost use Rattle.beacon_body.specs.Containers.{default_block_body};
 ghost use Rattle.spec_state.specs.Genesis.{genesis_fault};
 ghost use Rattle.spec_fork_choice.specs.GetForkchoiceStore.{genesis_block, get_forkchoice_store};
 ghost use Rattle.fork_store.specs.inside.Stores.{IsRootOf};
+ghost use Rattle.fork_store.specs.inside.Genesis.{array_at_genesis};
 ghost use Rattle.spec_fork_choice.specs.OnEvent.{genesis_clash, open_store};
 
+use crate::checkpoint_states::CheckpointStates;
 use crate::clash_of::clash_of;
 use crate::kept_block::{KeptBlock, KeptBlocks};
 use crate::latest_messages::LatestMessages;
+use crate::ready_balances::balances_of;
 use crate::store::Store;
+use crate::store_fields::StoreFields;
 use bc_preset::Config;
 use bc_words::{ClashKind, NoMemory, StoreStop};
 use beacon_body::{BeaconBlock, BeaconBlockBody};
 use beacon_state::State;
 use beacon_types::{Checkpoint, Eth1Data};
+use block_array::{BlockArray, Facts};
 use hash_tree::{Leaf, Root};
 use ssz_codec::{Items, LimitedList, VariableList};
 use std::alloc::Global;
@@ -72,15 +77,15 @@ fn genesis_clash(
     clash_of(&KeptBlocks::new(alloc), root, block)
 }
 
-/// The store whose one block is that of genesis.
+/// The fields of the store whose one block is that of genesis.
 #[tactic(auto, using(crate::proofs::Steps::genesis_is_kept, crate::proofs::Trees::tree_of_one), unfolding(spec_fork_choice::specs::GetForkchoiceStore::get_forkchoice_store, crate::specs::inside::Stores::IsRootOf))]
-fn forkchoice_store(
+fn forkchoice_fields(
     alloc: Global,
     config: &Config,
     genesis: State,
     block: BeaconBlock,
     root: Root,
-) -> Result<Store, NoMemory>
+) -> Result<StoreFields, NoMemory>
     requires genesis { genesis_fault genesis ≡ None }
     requires preset { genesis.preset ≡ config.now.preset }
     requires block { block ≡ genesis_block genesis }
@@ -94,7 +99,58 @@ fn forkchoice_store(
     blocks.push(KeptBlock::new(root, block, genesis))?;
     let checkpoint = Checkpoint { epoch: 0, root };
     let messages = LatestMessages::new(alloc);
-    Ok(Store::at_genesis(*config, time, checkpoint, blocks, messages))
+    let states = CheckpointStates::new(alloc);
+    Ok(StoreFields::at_genesis(*config, time, checkpoint, blocks, messages, states))
+}
+
+/// The array whose one node is that of genesis, with the balances of the justified checkpoint.
+fn genesis_array(
+    alloc: Global,
+    store: &StoreFields,
+    root: Root,
+    facts: Facts,
+) -> Result<BlockArray, NoMemory>
+    ensures { IfOk result (λ array. array ≡ array_at_genesis store.now root facts) }
+{
+    let config = store.config();
+    let preset = config.preset();
+    preset.bounds();
+    let slots_per_epoch = preset.slots_per_epoch;
+    let percent = config.proposer_score_boost();
+    let balances = balances_of(alloc, store, store.justified())?;
+    let mut array = BlockArray::new(alloc, slots_per_epoch, percent, 0, root, facts)?;
+    balances.give(&mut array);
+    Ok(array)
+}
+
+/// The store whose one block is that of genesis.
+#[tactic(auto, using(crate::proofs::AtGenesis::opening))]
+fn forkchoice_store(
+    alloc: Global,
+    config: &Config,
+    genesis: State,
+    block: BeaconBlock,
+    root: Root,
+) -> Result<Store, NoMemory>
+    requires genesis { genesis_fault genesis ≡ None }
+    requires preset { genesis.preset ≡ config.now.preset }
+    requires block { block ≡ genesis_block genesis }
+    requires root { IsRootOf root (genesis_block genesis) }
+    requires none { genesis_clash genesis ≡ None }
+    ensures { IfOk result (λ store. store.plain ≡ get_forkchoice_store config.now genesis) }
+{
+    let _roots = genesis.block_roots_len();
+    let facts = Facts {
+        justified: genesis.current_justified_checkpoint(),
+        finalized: genesis.finalized_checkpoint(),
+    };
+    let fields = forkchoice_fields(alloc, config, genesis, block, root)?;
+    let array = genesis_array(alloc, &fields, root, facts)?;
+    Ok(Store {
+        fields,
+        array,
+        ready: None,
+    })
 }
 
 impl Store {
@@ -104,7 +160,7 @@ impl Store {
     pub fn new(alloc: Global, config: &Config, genesis: State) -> Result<Store, StoreStop>
         requires genesis { genesis_fault genesis ≡ None }
         requires preset { genesis.preset ≡ config.now.preset }
-        ensures { StoreGivesBy (λ store. store) result (open_store config.now genesis) }
+        ensures { StoreGivesBy (λ store. store.plain) result (open_store config.now genesis) }
     {
         let block = genesis_block(alloc, &genesis);
         let root = block.root();

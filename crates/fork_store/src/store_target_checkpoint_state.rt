@@ -1,13 +1,16 @@
-//! The state of a checkpoint (fork-choice.md, "store_target_checkpoint_state"), computed each time.
+//! The state of a checkpoint (fork-choice.md, "store_target_checkpoint_state"), computed where it isn't kept yet.
 
 ghost use Rattle.std.specs.Prelude.{◌≡◌, ◌<◌, ◌^◌, IfOk};
-ghost use Rattle.bc_words.specs.Outcome.{Gives};
+ghost use Rattle.bc_words.specs.Outcome.{Gives, GivesBy};
 ghost use Rattle.spec_state.specs.Soundness.{IsSound};
 ghost use Rattle.spec_fork_choice.specs.Slots.{start_slot_of};
 ghost use Rattle.spec_fork_choice.specs.StoreTargetCheckpointState.{state_at, store_target_checkpoint_state};
+ghost use Rattle.fork_store.specs.inside.CheckpointStates.{IsStateOf};
 
+use crate::checkpoint_states::CheckpointState;
 use crate::slots::start_slot;
-use crate::store::Store;
+use crate::store_fields::StoreFields;
+use balance_totals::committees_of_epoch;
 use bc_words::{Refusal, Stop};
 use beacon_state::State;
 use beacon_types::Checkpoint;
@@ -16,7 +19,7 @@ use transition::process_slots::process_slots;
 
 /// The state taken on to a slot, where it is earlier.
 #[tactic(auto, unfolding(spec_fork_choice::specs::StoreTargetCheckpointState::state_at))]
-fn state_at(alloc: Global, store: &Store, state: &State, slot: u64) -> Result<State, Stop>
+fn state_at(alloc: Global, store: &StoreFields, state: &State, slot: u64) -> Result<State, Stop>
     requires sound { IsSound state.now }
     requires preset { state.now.preset ≡ store.now.config.preset }
     ensures exact { Gives result (state_at store.now state.now slot) }
@@ -30,16 +33,12 @@ fn state_at(alloc: Global, store: &Store, state: &State, slot: u64) -> Result<St
     Ok(step.state)
 }
 
-/// The state of a checkpoint whose epoch begins at a slot of 64 bits (fork-choice.md, `store_target_checkpoint_state`): that
-/// of its root, taken on to the first slot of its epoch.
+/// The state of a checkpoint whose epoch begins at a slot of 64 bits, made anew: that of its root, taken on to the first slot of
+/// its epoch.
 ///
 /// Refused as `FcTargetUnknown` where the root isn't kept, and refused and limited as the slots are.
 #[tactic(auto, unfolding(spec_fork_choice::specs::StoreTargetCheckpointState::store_target_checkpoint_state, spec_fork_choice::specs::StoreTargetCheckpointState::kept_or))]
-pub(crate) fn store_target_checkpoint_state(
-    alloc: Global,
-    store: &Store,
-    target: Checkpoint,
-) -> Result<State, Stop>
+fn state_anew(alloc: Global, store: &StoreFields, target: Checkpoint) -> Result<State, Stop>
     requires low { start_slot_of store.now target < 2 ^ 64 }
     ensures exact { Gives result (store_target_checkpoint_state store.now target) }
     ensures sound { IfOk result (λ state. IsSound state) }
@@ -50,4 +49,38 @@ pub(crate) fn store_target_checkpoint_state(
     };
     let slot = start_slot(store, target) as u64;
     state_at(alloc, store, kept.state(), slot)
+}
+
+/// The state of a checkpoint whose epoch begins at a slot of 64 bits (fork-choice.md, `store_target_checkpoint_state`): the
+/// one that is kept of it, or else one made anew, with the refusals and limits of that.
+pub(crate) fn store_target_checkpoint_state(
+    alloc: Global,
+    store: &StoreFields,
+    target: Checkpoint,
+) -> Result<State, Stop>
+    requires low { start_slot_of store.now target < 2 ^ 64 }
+    ensures { Gives result (store_target_checkpoint_state store.now target) }
+{
+    match store.checkpoint_state(target) {
+        Some(kept) => Ok(kept.state().share()?),
+        None => state_anew(alloc, store, target),
+    }
+}
+
+/// The state of such a checkpoint, made anew, with the committees of its epoch.
+#[tactic(auto, using(crate::proofs::CheckpointStates::epoch_is_low))]
+pub(crate) fn checkpoint_state_anew(
+    alloc: Global,
+    store: &StoreFields,
+    target: Checkpoint,
+) -> Result<CheckpointState, Stop>
+    requires low { start_slot_of store.now target < 2 ^ 64 }
+    ensures exact { GivesBy (λ made. made.state) result (store_target_checkpoint_state store.now target) }
+    ensures own { IfOk result (λ made. IsStateOf store.now made) }
+    ensures checkpoint { IfOk result (λ made. made.checkpoint ≡ target) }
+{
+    store.config().preset().bounds();
+    let state = state_anew(alloc, store, target)?;
+    let committees = committees_of_epoch(alloc, &state, target.epoch)?;
+    Ok(CheckpointState::new(target, state, committees))
 }

@@ -1,24 +1,57 @@
 //! The votes of an attestation (fork-choice.md, "update_latest_messages").
 
+ghost use Rattle.std.specs.Prelude.{◌≡◌, ◌<◌, true, length};
 ghost use Rattle.bc_words.specs.Outcome.{Becomes};
+ghost use Rattle.spec_fork_choice.specs.Store.{is_kept};
 ghost use Rattle.spec_fork_choice.specs.UpdateLatestMessages.{update_latest_messages};
+ghost use Rattle.fork_store.specs.inside.Messages.{AllBelow};
+ghost use Rattle.fork_store.specs.inside.ArrayVotes.{updated_array};
+ghost use Rattle.fork_store.specs.inside.Wholes.{IsWhole};
 
-use crate::latest_messages::LatestMessage;
-use crate::store::Store;
+use crate::latest_messages::{LatestMessage, places_for};
+use crate::number_of::number_of;
+use crate::ready_balances::ReadyBalances;
+use crate::store_fields::StoreFields;
 use bc_words::NoMemory;
 use beacon_body::Attestation;
+use block_array::BlockArray;
+
+/// Takes the votes of these validators for a node. There is room for all.
+#[tactic(auto, using(crate::proofs::Voting::each_votes))]
+fn vote_all(array: &mut BlockArray, indices: &[u64], node: u32, epoch: u64)
+    requires room { AllBelow array.old.spare_validators indices.now }
+    requires node { node < length array.old.nodes }
+    ensures { array.new ≡ updated_array array.old indices.now (record { epoch = epoch; node = node }) }
+{
+    for i in 0..indices.len() {
+        let _room = array.vote(indices[i], node, epoch);
+    }
+}
 
 /// Takes the attestation's vote for each of these validators to whom it is news. Where memory is refused, the store is as
 /// before: all room is made first.
-#[tactic(auto, using(crate::proofs::Messages::messages_updated))]
+#[tactic(auto, using(crate::proofs::Voting::voting))]
 pub(crate) fn update_latest_messages(
-    store: &mut Store,
+    store: &mut StoreFields,
+    array: &mut BlockArray,
+    ready: &Option<ReadyBalances>,
     attesting_indices: &[u64],
     attestation: &Attestation,
 ) -> Result<(), NoMemory>
-    ensures { Becomes result store.old store.new (update_latest_messages store.old attesting_indices.now attestation.now) }
+    requires whole { IsWhole store.old array.old ready.now }
+    requires kept { is_kept store.old.blocks attestation.now.content.beacon_block_root ≡ true }
+    ensures exact { Becomes result store.old store.new (update_latest_messages store.old attesting_indices.now attestation.now) }
+    ensures whole { IsWhole store.new array.new ready.now }
 {
+    store.is_sound();
     let voted = &attestation.content;
+    let Some(node) = number_of(store.blocks(), voted.beacon_block_root) else {
+        unreachable!()
+    };
+    let places = places_for(attesting_indices)?;
+    array.reserve(places as u64)?;
     let message = LatestMessage::new(voted.target.epoch, voted.beacon_block_root);
-    store.update_messages(attesting_indices, message)
+    store.update_messages(attesting_indices, message)?;
+    vote_all(array, attesting_indices, node, voted.target.epoch);
+    Ok(())
 }

@@ -9,7 +9,7 @@ ghost use Rattle.fork_store.specs.inside.Votes.{check_voted, check_known, check_
 
 use crate::get_ancestor::{is_behind, slot_of};
 use crate::slots::current_slot;
-use crate::store::Store;
+use crate::store_fields::StoreFields;
 use bc_words::{Refusal, Stop};
 use beacon_body::Attestation;
 use beacon_types::AttestationData;
@@ -17,14 +17,14 @@ use hash_tree::Root;
 
 /// Whether a root is kept.
 #[tactic(auto, unfolding(spec_fork_choice::specs::Store::is_kept))]
-fn is_kept(store: &Store, root: Root) -> bool
+fn is_kept(store: &StoreFields, root: Root) -> bool
     ensures { result ≡ is_kept store.now.blocks root }
 {
     store.kept(root).is_some()
 }
 
 /// The epoch of a slot.
-fn epoch_at_slot(store: &Store, slot: u64) -> u64
+fn epoch_at_slot(store: &StoreFields, slot: u64) -> u64
     ensures { result ≡ compute_epoch_at_slot store.now.config.preset slot }
 {
     let preset = store.config().preset();
@@ -35,7 +35,7 @@ fn epoch_at_slot(store: &Store, slot: u64) -> u64
 /// Refused where the target is neither of the current epoch nor of the one before.
 #[tactic(auto, unfolding(spec_fork_choice::specs::ValidateOnAttestation::validate_target_epoch_against_current_time))]
 fn validate_target_epoch_against_current_time(
-    store: &Store,
+    store: &StoreFields,
     attestation: &Attestation,
 ) -> Result<(), Stop>
     ensures { GivesExactly result (validate_target_epoch_against_current_time store.now attestation.now) }
@@ -50,7 +50,11 @@ fn validate_target_epoch_against_current_time(
 
 /// The check that an attestation from the wire has besides.
 #[tactic(auto, unfolding(spec_fork_choice::specs::ValidateOnAttestation::check_time))]
-fn check_time(store: &Store, attestation: &Attestation, is_from_block: bool) -> Result<(), Stop>
+fn check_time(
+    store: &StoreFields,
+    attestation: &Attestation,
+    is_from_block: bool,
+) -> Result<(), Stop>
     ensures { GivesExactly result (check_time store.now attestation.now is_from_block) }
 {
     if is_from_block {
@@ -62,7 +66,7 @@ fn check_time(store: &Store, attestation: &Attestation, is_from_block: bool) -> 
 /// Refused where the block that is voted for is later than the vote, where the target isn't on its chain, and where the vote's
 /// slot isn't over.
 #[tactic(auto, unfolding(crate::specs::inside::Votes::check_voted))]
-fn check_voted(store: &Store, voted: &AttestationData) -> Result<(), Stop>
+fn check_voted(store: &StoreFields, voted: &AttestationData) -> Result<(), Stop>
     ensures { GivesExactly result (check_voted store.now voted.now) }
 {
     if voted.slot < slot_of(store, voted.beacon_block_root) {
@@ -79,7 +83,7 @@ fn check_voted(store: &Store, voted: &AttestationData) -> Result<(), Stop>
 
 /// Refused where the target or the block isn't known, and as above.
 #[tactic(auto, unfolding(crate::specs::inside::Votes::check_known))]
-fn check_known(store: &Store, voted: &AttestationData) -> Result<(), Stop>
+fn check_known(store: &StoreFields, voted: &AttestationData) -> Result<(), Stop>
     ensures { GivesExactly result (check_known store.now voted.now) }
 {
     if !is_kept(store, voted.target.root) {
@@ -93,7 +97,7 @@ fn check_known(store: &Store, voted: &AttestationData) -> Result<(), Stop>
 
 /// Refused where the target's epoch isn't that of the slot, and as above.
 #[tactic(auto, unfolding(crate::specs::inside::Votes::check_vote))]
-fn check_vote(store: &Store, voted: &AttestationData) -> Result<(), Stop>
+fn check_vote(store: &StoreFields, voted: &AttestationData) -> Result<(), Stop>
     ensures epoch { OnOk result (compute_epoch_at_slot store.now.config.preset voted.now.slot ≡ voted.now.target.epoch) }
     ensures exact { GivesExactly result (check_vote store.now voted.now) }
 {
@@ -107,7 +111,7 @@ fn check_vote(store: &Store, voted: &AttestationData) -> Result<(), Stop>
 /// `FcTargetUnknown`, `FcBlockUnknown`, `FcBlockAfter`, `FcTargetChain`, `FcTooEarly`.
 #[tactic(auto, unfolding(spec_fork_choice::specs::ValidateOnAttestation::validate_on_attestation, crate::specs::inside::Votes::check_vote, crate::specs::inside::Votes::check_known, crate::specs::inside::Votes::check_voted))]
 pub(crate) fn validate_on_attestation(
-    store: &Store,
+    store: &StoreFields,
     attestation: &Attestation,
     is_from_block: bool,
 ) -> Result<(), Stop>

@@ -1,8 +1,10 @@
-//! The root of the default body, and operations copied and compared. Whole blocks, read and damaged, are in call_vectors.
+//! The root of the default body, operations copied and compared, and clashes. Whole blocks, read and damaged, are in call_vectors.
 
 use beacon_body::{Attestation, AttesterSlashing, BeaconBlock, SignedBeaconBlock, empty_body_root};
+use fork_store::clash;
 use hash_tree::{Leaf, Root};
-use ssz_codec::{Ssz, VariableSsz, one_writing, reads_back};
+use ssz_codec::{Ssz, SszFault, VariableSsz, one_writing, reads_back};
+use std::alloc::Global;
 use std::test::Fail;
 
 // The roots below were computed beside this code, from simple-serialize.md alone.
@@ -56,16 +58,43 @@ fn copies_are_equal(rt: HostRuntime) -> Result<(), Fail> {
     Ok(())
 }
 
-#[test]
-fn blocks_are_compared(rt: HostRuntime) -> Result<(), Fail> {
+/// The writing of a block that is empty but for its graffiti's first byte.
+fn empty_block(graffiti: u8) -> [u8; 304] {
     let mut bytes = [0; 304];
     bytes[80] = 84;
     for at in [284, 288, 292, 296, 300] {
         bytes[at] = 220;
     }
-    let block = BeaconBlock::read(rt.alloc(), &bytes)?;
-    assert!(rt; block.equals(&BeaconBlock::read(rt.alloc(), &bytes)?));
-    bytes[252] = 1;
-    assert!(rt; !block.equals(&BeaconBlock::read(rt.alloc(), &bytes)?));
+    bytes[252] = graffiti;
+    bytes
+}
+
+/// Whether an empty block with these roots clashes where none is kept.
+fn clashes_alone(alloc: Global, root: Root, state_root: Root) -> Result<bool, SszFault> {
+    let block = BeaconBlock::read(alloc, &empty_block(0))?;
+    Ok(clash(root, state_root, None, &block))
+}
+
+/// Whether a block clashes with the empty one that is kept.
+fn clashes_with_a_kept(alloc: Global, graffiti: u8) -> Result<bool, SszFault> {
+    let kept = BeaconBlock::read(alloc, &empty_block(0))?;
+    let block = BeaconBlock::read(alloc, &empty_block(graffiti))?;
+    Ok(clash([1; 32], [2; 32], Some(&kept), &block))
+}
+
+#[test]
+fn roots_clash(rt: HostRuntime) {
+    assert_eq!(rt; clashes_alone(rt.alloc(), [1; 32], [2; 32]), Ok(false));
+    assert_eq!(rt; clashes_alone(rt.alloc(), [0; 32], [2; 32]), Ok(true));
+    assert_eq!(rt; clashes_alone(rt.alloc(), [1; 32], [0; 32]), Ok(true));
+    assert_eq!(rt; clashes_with_a_kept(rt.alloc(), 0), Ok(false));
+    assert_eq!(rt; clashes_with_a_kept(rt.alloc(), 1), Ok(true));
+}
+
+#[test]
+fn blocks_are_compared(rt: HostRuntime) -> Result<(), Fail> {
+    let block = BeaconBlock::read(rt.alloc(), &empty_block(0))?;
+    assert!(rt; block.equals(&BeaconBlock::read(rt.alloc(), &empty_block(0))?));
+    assert!(rt; !block.equals(&BeaconBlock::read(rt.alloc(), &empty_block(1))?));
     Ok(())
 }

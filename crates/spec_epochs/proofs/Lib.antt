@@ -7,3 +7,4 @@ pub mod SoundParts
 pub mod SoundUpdates
 pub mod SoundWithin
 pub mod Totals
+pub mod JustifiedCheckpoints

@@ -1,5 +1,6 @@
 -- Justification and finalisation leave a sound state sound within its epoch.
-use Rattle.std.proofs.Common.{◌≡◌, ◌⊎◌, ℕ, ◌+◌, ◌-◌, ◌≤◌, Bool, ◌&&◌, leb, ◌==◌, if◌then◌else◌, List, refl, subst, arith, inl, inr}
+use Rattle.std.proofs.Common.{◌≡◌, ◌⊎◌, ℕ, ◌-◌, ◌<◌, ◌≤◌, Bool, leb, List, refl, subst, arith, inl, inr}
+use Rattle.std.proofs.lemmas.Bool.{leb-false}
 use Rattle.bc_words.specs.Outcome.{done}
 use Rattle.beacon_types.specs.declared.checkpoint.Checkpoint.{Checkpoint}
 use Rattle.spec_state.specs.declared.plain.PlainState.{PlainState}
@@ -9,9 +10,10 @@ use Rattle.spec_blocks.proofs.Done.{on_the_way, chosen, same_value}
 use Rattle.spec_blocks.proofs.Sound.{SameCommittees, all_pending_stay}
 use Rattle.spec_epochs.specs.declared.justification.Justification.{Justification}
 use Rattle.spec_epochs.specs.Helpers.{get_matching_target_attestations, get_attesting_balance}
-use Rattle.spec_epochs.specs.Weigh.{weigh, reaches_two_thirds, shifted, bit, justified, justified_where, finalizing, finalized_by, previous_of}
+use Rattle.spec_epochs.specs.Weigh.{weigh, reaches_two_thirds, shifted, justified, justified_where, finalizing, finalized_by, previous_of}
 use Rattle.spec_epochs.specs.WeighJustificationAndFinalization.{weigh_justification_and_finalization, justification_of, with_justification}
 use Rattle.spec_epochs.specs.ProcessJustificationAndFinalization.{process_justification_and_finalization}
+use Rattle.spec_epochs.proofs.JustifiedCheckpoints.{finalized_is}
 
 -- epochs of the checkpoints of a record
 record Below (justified finalized : ℕ) (j : Justification) : Type 0 where
@@ -19,25 +21,11 @@ record Below (justified finalized : ℕ) (j : Justification) : Type 0 where
   current : j.current.epoch ≤ justified
   final : j.finalized.epoch ≤ finalized
 
-one_of : (P : Checkpoint → Type 0) (first : Bool) (x y : Checkpoint) → P x → P y → P (if first then x else y)
-one_of P first x y px py = elim (chosen first x y _ refl) [
-  | inl takes ↦ subst P takes.1 px
-  | inr leaves ↦ subst P leaves.1 py
-]
-
 -- what is finalised was justified before, or is as before
-finalized_low : (bits : List Bool) (epoch low : ℕ) (old_previous old_current finalized : Checkpoint) → old_previous.epoch ≤ low → old_current.epoch ≤ low → finalized.epoch ≤ low → (finalized_by bits epoch old_previous old_current finalized).epoch ≤ low
-unfolding finalized_by
-finalized_low bits epoch low old_previous old_current finalized a b c =
-    let P : Checkpoint → Type 0 = λ (x : Checkpoint). x.epoch ≤ low in
-    let one : Bool = bit bits 1 && bit bits 2 && bit bits 3 && (old_previous.epoch + 3 == epoch) in
-    let two : Bool = bit bits 1 && bit bits 2 && (old_previous.epoch + 2 == epoch) in
-    let three : Bool = bit bits 0 && bit bits 1 && bit bits 2 && (old_current.epoch + 2 == epoch) in
-    let four : Bool = bit bits 0 && bit bits 1 && (old_current.epoch + 1 == epoch) in
-    let first : Checkpoint = if one then old_previous else finalized in
-    let second : Checkpoint = if two then old_previous else first in
-    let third : Checkpoint = if three then old_current else second in
-    one_of P four old_current third b (one_of P three old_current second b (one_of P two old_previous first a (one_of P one old_previous finalized a c)))
+finalized_low : (bits : List Bool) (epoch low : ℕ) (old_previous old_current finalized : Checkpoint) → old_previous.epoch ≤ low → old_current.epoch ≤ low
+    → finalized.epoch ≤ low → (finalized_by bits epoch old_previous old_current finalized).epoch ≤ low
+finalized_low bits epoch low old_previous old_current finalized a b c = finalized_is (λ (x : Checkpoint). x.epoch ≤ low) bits epoch old_previous old_current
+    finalized a b c
 
 justified_low : (enough : Bool) (j : Justification) (back : ℕ) (checkpoint : Checkpoint) (high low : ℕ) → checkpoint.epoch ≤ high → Below high low j → Below high low (justified_where enough j back checkpoint)
 unfolding justified_where
@@ -108,23 +96,35 @@ with_justification_leaves : (s : PlainState) (j : Justification) → LeavesRegis
 unfolding with_justification
 with_justification_leaves s j = record { preset = refl; slot = refl; header = refl; validators = refl; balances = refl; randao_mixes = refl; slashings = refl; previous_attestations = refl; current_attestations = refl }
 
--- the bits and checkpoints that weighing gave
-record Weighed (s t : PlainState) : Type 0 where
-  checkpoints : Justification
-  total : ℕ
-  previous : ℕ
-  current : ℕ
-  weighs : weigh (justification_of s) (get_current_epoch s) (get_block_root s (get_previous_epoch s)) (get_block_root s (get_current_epoch s)) total previous current ≡ done checkpoints
-  gives : with_justification s checkpoints ≡ t
+-- the bits and checkpoints that weighing gave, from epoch 2 on
+pub record Weighed (s t : PlainState) : Type 0 where
+  pub checkpoints : Justification
+  pub total : ℕ
+  pub previous : ℕ
+  pub current : ℕ
+  pub late : 1 < get_current_epoch s
+  pub weighs : weigh (justification_of s) (get_current_epoch s) (get_block_root s (get_previous_epoch s)) (get_block_root s (get_current_epoch s)) total
+      previous current ≡ done checkpoints
+  pub gives : with_justification s checkpoints ≡ t
 
-weighed_of : (s t : PlainState) (total previous current : ℕ) → weigh_justification_and_finalization s total previous current ≡ done t → Weighed s t
+weighed_of : (s t : PlainState) (total previous current : ℕ) → 1 < get_current_epoch s → weigh_justification_and_finalization s total previous current ≡ done t
+    → Weighed s t
 unfolding weigh_justification_and_finalization
-weighed_of s t total previous current is =
-    let weighed = on_the_way (weigh (justification_of s) (get_current_epoch s) (get_block_root s (get_previous_epoch s)) (get_block_root s (get_current_epoch s)) total previous current) _ t is in
-    record { checkpoints = weighed.value; total = total; previous = previous; current = current; weighs = weighed.first; gives = same_value (with_justification s weighed.value) t weighed.then_done }
+weighed_of s t total previous current late is =
+    let weighed = on_the_way (weigh (justification_of s) (get_current_epoch s) (get_block_root s (get_previous_epoch s))
+    (get_block_root s (get_current_epoch s)) total previous current) _ t is in
+    record {
+      checkpoints = weighed.value;
+      total = total;
+      previous = previous;
+      current = current;
+      late = late;
+      weighs = weighed.first;
+      gives = same_value (with_justification s weighed.value) t weighed.then_done;
+    }
 
 -- the state is as before, or was weighed
-either_of : (s t : PlainState) → process_justification_and_finalization s ≡ done t → (s ≡ t) ⊎ Weighed s t
+pub either_of : (s t : PlainState) → process_justification_and_finalization s ≡ done t → (s ≡ t) ⊎ Weighed s t
 unfolding process_justification_and_finalization
 either_of s t is = elim (chosen (leb (get_current_epoch s) 1) _ _ _ is) [
   | inl early ↦ inl (same_value s t early.1)
@@ -132,7 +132,7 @@ either_of s t is = elim (chosen (leb (get_current_epoch s) 1) _ _ _ is) [
       let total = on_the_way (get_total_active_balance s) _ t later.1 in
       let previous = on_the_way (get_attesting_balance s (get_matching_target_attestations s (get_previous_epoch s))) _ t total.then_done in
       let current = on_the_way (get_attesting_balance s (get_matching_target_attestations s (get_current_epoch s))) _ t previous.then_done in
-      inr (weighed_of s t total.value previous.value current.value current.then_done)
+      inr (weighed_of s t total.value previous.value current.value (leb-false (get_current_epoch s) 1 later.0) current.then_done)
 ]
 
 weighed_sound : (s t : PlainState) → Weighed s t → IsSound s → IsSoundWithinEpoch t

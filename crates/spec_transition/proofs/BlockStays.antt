@@ -51,7 +51,7 @@ module _ {X : Type 0} (part : PlainState → X)
   moved : (s x t : PlainState) → done x ≡ done t → part x ≡ part s → part t ≡ part s
   moved s x t is same = subst (λ (y : PlainState). part y ≡ part s) (same_value x t is) same
 
-  exit_stays : (s t : PlainState) (index : ℕ) (config : ConfigValues) → initiate_validator_exit s index config ≡ done t → part t ≡ part s
+  pub exit_stays : (s t : PlainState) (index : ℕ) (config : ConfigValues) → initiate_validator_exit s index config ≡ done t → part t ≡ part s
   unfolding initiate_validator_exit
   exit_stays s t index config is =
       let validator = on_the_way (item_at s.validators index) _ t is in

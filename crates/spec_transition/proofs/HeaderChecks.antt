@@ -26,7 +26,7 @@ use Rattle.spec_transition.specs.ProcessSlot.{process_slot}
 use Rattle.spec_transition.specs.ProcessSlots.{Stepped, is_last_of_epoch, with_next_slot, end_epoch, next_slot, process_slots}
 
 -- a header with a state root
-abbrev Filled : BeaconBlockHeader → Type 0
+abbrev pub Filled : BeaconBlockHeader → Type 0
 Filled h = same_root h.state_root zero_root ≡ false
 
 filled : (first : Bool) (h other : BeaconBlockHeader) → same_root h.state_root zero_root ≡ first → Filled other → Filled (if first then other else h)
@@ -34,12 +34,12 @@ filled true h other is fills = fills
 filled false h other is fills = is
 
 -- the header is filled once its slot is over
-header_fills : (s : PlainState) → same_root ((state_codec s.preset).hash_tree_root s) zero_root ≡ false → Filled (block_header_of s)
+pub header_fills : (s : PlainState) → same_root ((state_codec s.preset).hash_tree_root s) zero_root ≡ false → Filled (block_header_of s)
 unfolding block_header_of
 header_fills s some = filled (same_root s.latest_block_header.state_root zero_root) s.latest_block_header (record s.latest_block_header { state_root = (state_codec s.preset).hash_tree_root s }) refl some
 
 -- and stays then
-header_stays : (s : PlainState) → Filled s.latest_block_header → block_header_of s ≡ s.latest_block_header
+pub header_stays : (s : PlainState) → Filled s.latest_block_header → block_header_of s ≡ s.latest_block_header
 unfolding block_header_of
 header_stays s fills = ap (λ (b : Bool). if b then record s.latest_block_header { state_root = (state_codec s.preset).hash_tree_root s } else s.latest_block_header) fills
 

@@ -3,3 +3,4 @@ pub mod HeaderChecks
 pub mod SoundSlots
 pub mod BlockStays
 pub mod HeaderRoot
+pub mod Links

@@ -35,7 +35,8 @@ IsReachedCheckpoint config blocks checkpoint =
 pub record IsLinkedTo (config : ConfigValues) (blocks : List KeptBlock) (end : ℕ) (state : PlainState) : Type 0 where
   pub preset : state.preset ≡ config.preset
   pub roots : length state.block_roots ≡ config.preset.slots_per_historical_root
-  pub history : (slot : ℕ) → slot < end → end ≤ slot + config.preset.slots_per_historical_root → IsReached config blocks (get_block_root_at_slot state slot) slot
+  pub history : (slot : ℕ) → slot < end → end ≤ slot + config.preset.slots_per_historical_root
+      → IsReached config blocks (get_block_root_at_slot state slot) slot
   pub justified : 0 < state.current_justified_checkpoint.epoch → IsReachedCheckpoint config blocks state.current_justified_checkpoint
   pub previous : state.current_justified_checkpoint.epoch ≡ 0 → state.previous_justified_checkpoint.epoch ≡ 0
   pub finalized : state.current_justified_checkpoint.epoch ≡ 0 → state.finalized_checkpoint.epoch ≡ 0

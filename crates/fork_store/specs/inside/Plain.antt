@@ -1,6 +1,6 @@
 -- What the fields of a store stand for.
 use Rattle.spec_fork_choice.specs.Store.{Store}
-use Rattle.fork_store.specs.declared.store.Store.TheInside.{Inside}
+use Rattle.fork_store.specs.declared.store_fields.StoreFields.TheInside.{Inside}
 
 abbrev pub plain_of : Inside → Store
 plain_of s = record {

@@ -4,24 +4,24 @@ use Rattle.beacon_node.proofs.events.replay_event.Goals as goal
 
 pub returns-in-Ok-None-clause-over : goal.returns-in-Ok-None-clause-over
 returns-in-Ok-None-clause-over g c =
-    over_done c.args.store.now (g.S.EventSource.seen c.args.source.now) (g.S.EventSource.seen c.next_event.new.self) _ _ _ (rw c.in-Ok-None.field-0-is at c.in-Ok-None.ensures.next)
+    over_done c.args.store.now.plain (g.S.EventSource.seen c.args.source.now) (g.S.EventSource.seen c.next_event.new.self) _ _ _ (rw c.in-Ok-None.field-0-is at c.in-Ok-None.ensures.next)
 
 pub returns-in-Err-clause-over : goal.returns-in-Err-clause-over
 returns-in-Err-clause-over g c =
-    rw (c.no_event.ensures, c.in-Err.ensures.counts) (over_stop c.in-Err.stop c.args.store.now (g.S.EventSource.seen c.args.source.now) (g.S.EventSource.seen c.next_event.new.self) _ _ _ c.in-Err.ensures.next)
+    rw (c.no_event.ensures, c.in-Err.ensures.counts) (over_stop c.in-Err.stop c.args.store.now.plain (g.S.EventSource.seen c.args.source.now) (g.S.EventSource.seen c.next_event.new.self) _ _ _ c.in-Err.ensures.next)
 
 pub returns-in-Err-handle_event-clause-over : goal.returns-in-Err-handle_event-clause-over
 returns-in-Err-handle_event-clause-over g c =
     let next = rw c.in-Ok-Some.field-0-is at c.in-Ok-Some.ensures.next in
     let counts = rw c.in-Ok-Some.field-0-is at c.in-Ok-Some.ensures.counts in
-    over_at c.in-Ok-Some.event (g.S.EventSource.seen c.args.source.now) (g.S.EventSource.seen c.next_event.new.self) c.args.store.now _ _ next counts.0 c.in-Err-handle_event.status _ (rw c.given.ensures at c.in-Err-handle_event.ensures.over)
+    over_at c.in-Ok-Some.event (g.S.EventSource.seen c.args.source.now) (g.S.EventSource.seen c.next_event.new.self) c.args.store.now.plain _ _ next counts.0 c.in-Err-handle_event.status _ (rw c.given.ensures at c.in-Err-handle_event.ensures.over)
 
 pub returns-in-Ok-write_all-clause-goes_on : goal.returns-in-Ok-write_all-clause-goes_on
 returns-in-Ok-write_all-clause-goes_on g c =
     let next = rw c.in-Ok-Some.field-0-is at c.in-Ok-Some.ensures.next in
     let counts = rw c.in-Ok-Some.field-0-is at c.in-Ok-Some.ensures.counts in
     let has = rw c.given.ensures at c.in-Ok.ensures.line in (
-      line_progress c.in-Ok-Some.event (g.S.EventSource.seen c.args.source.now) (g.S.EventSource.seen c.next_event.new.self) c.args.store.now _ _ next counts.0 _ _ has _ _ c.in-Ok-Some.ensures.file (rw c.deref.ensures.value at c.in-Ok-write_all.ensures.writes),
+      rw c.tell_head.ensures (line_progress c.in-Ok-Some.event (g.S.EventSource.seen c.args.source.now) (g.S.EventSource.seen c.next_event.new.self) c.args.store.now.plain _ _ next counts.0 _ _ has _ _ c.in-Ok-Some.ensures.file (rw c.deref.ensures.value at c.in-Ok-write_all.ensures.writes)),
       record { events = counts.0; within = counts.1 },
     )
 
@@ -30,4 +30,4 @@ returns-clause-over g c =
     let next = rw c.in-Ok-Some.field-0-is at c.in-Ok-Some.ensures.next in
     let counts = rw c.in-Ok-Some.field-0-is at c.in-Ok-Some.ensures.counts in
     let has = rw c.given.ensures at c.in-Ok.ensures.line in
-    rw c.unwritten.ensures (line_over c.in-Ok-Some.event (g.S.EventSource.seen c.args.source.now) (g.S.EventSource.seen c.next_event.new.self) c.args.store.now _ _ next counts.0 _ _ has c.in-Err-write_all.trouble _ _ (rw c.deref.ensures.value at c.in-Err-write_all.ensures.writes))
+    rw c.unwritten.ensures (line_over c.in-Ok-Some.event (g.S.EventSource.seen c.args.source.now) (g.S.EventSource.seen c.next_event.new.self) c.args.store.now.plain _ _ next counts.0 _ _ has c.in-Err-write_all.trouble _ _ (rw c.deref.ensures.value at c.in-Err-write_all.ensures.writes))

@@ -8,7 +8,7 @@ use Rattle.beacon_node.proofs.events.replay_events.Goals as goal
 
 pub events-init : goal.events-init
 events-init g c = record {
-  progress = no_progress c.args.store.now (g.S.EventSource.seen c.args.source.now) (g.F.Shelf.told c.args.shelf.now) (g.O.Sink.told c.args.out.now).taken;
+  progress = no_progress c.args.store.now.plain (g.S.EventSource.seen c.args.source.now) (g.F.Shelf.told c.args.shelf.now) (g.O.Sink.told c.args.out.now).taken;
   shelf = keeps_none (g.F.Shelf.told c.args.shelf.now);
   sink = sink_keeps_none (g.O.Sink.told c.args.out.now);
   few = c.requires.few;

@@ -7,10 +7,10 @@ use Rattle.beacon_node.proofs.events.replay_events.Given as goal
 
 abbrev pub invariant-events : goal.invariant-events
 invariant-events g l = record {
-  progress : Progress l.initial.store (g.S.EventSource.seen l.initial.source) (g.F.Shelf.told l.initial.shelf) (g.O.Sink.told l.initial.out).taken l.store (g.S.EventSource.seen l.source) (g.F.Shelf.told l.shelf) (g.O.Sink.told l.out).taken;
+  progress : Progress l.initial.store.plain (g.S.EventSource.seen l.initial.source) (g.F.Shelf.told l.initial.shelf) (g.O.Sink.told l.initial.out).taken l.store.plain (g.S.EventSource.seen l.source) (g.F.Shelf.told l.shelf) (g.O.Sink.told l.out).taken;
   shelf : ShelfKeeps [] (g.F.Shelf.told l.initial.shelf) (g.F.Shelf.told l.shelf);
   sink : SinkKeeps (g.O.Sink.told l.initial.out) (g.O.Sink.told l.out);
-  few : length l.store.blocks ≤ (g.S.EventSource.seen l.source).events + 1;
+  few : length l.store.plain.blocks ≤ (g.S.EventSource.seen l.source).events + 1;
 }
 
 abbrev pub decreases-events : goal.decreases-events

@@ -8,4 +8,4 @@ returns-in-Err-clause-answers g c =
 
 pub returns-clause-answers : goal.returns-clause-answers
 returns-clause-answers g c =
-    opened_goes_on c.args.config.now c.args.genesis c.in-Ok.store c.args.record_name.now c.replay_record.result _ _ _ _ c.in-Ok.ensures c.replay_record.ensures.answers
+    opened_goes_on c.args.config.now c.args.genesis c.in-Ok.store.plain c.args.record_name.now c.replay_record.result _ _ _ _ c.in-Ok.ensures c.replay_record.ensures.answers

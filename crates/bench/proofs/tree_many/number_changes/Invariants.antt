@@ -1,0 +1,6 @@
+-- A change of each place so far.
+use Rattle.shared_tree.specs.Lists.{AreChanges}
+use Rattle.bench.proofs.tree_many.number_changes.Given as goal
+
+abbrev pub invariant-loop-i : goal.invariant-loop-i
+invariant-loop-i l = AreChanges 0 l.i l.changes.items

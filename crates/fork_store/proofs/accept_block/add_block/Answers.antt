@@ -1,0 +1,36 @@
+use Rattle.std.proofs.Common.{◌≡◌, List, Some, None, rules, subst}
+use Rattle.beacon_types.specs.declared.checkpoint.Checkpoint.{Checkpoint}
+use Rattle.block_array.specs.Calls.{with_node}
+use Rattle.spec_fork_choice.specs.Store.{KeptBlock}
+use Rattle.fork_store.specs.inside.Arrays.{number_of}
+use Rattle.fork_store.proofs.Adding.{parent_numbered, parent_fits, node_added, spare_array, block_array, array_same}
+use Rattle.fork_store.proofs.accept_block.add_block.Goals as goal
+
+pub unreachable-requires : goal.unreachable-requires
+unreachable-requires c = parent_numbered c.args.store.now.blocks c.args.block.now c.requires.parent
+    (subst (λ (blocks : List KeptBlock). None ≡ number_of blocks c.args.block.now.parent_root) c.blocks-2.ensures c.in_default.ensures)
+
+pub returns-in_err-copy-clause-array : goal.returns-in_err-copy-clause-array
+returns-in_err-copy-clause-array c = spare_array c.args.store.now c.args.array.now c.reserve.new.self c.requires.array c.in_ok-reserve.ensures
+
+pub returns-in_err-keep-clause-array : goal.returns-in_err-keep-clause-array
+returns-in_err-keep-clause-array c =
+    array_same c.args.store.now c.keep.new.self c.reserve.new.self
+    (spare_array c.args.store.now c.args.array.now c.reserve.new.self c.requires.array c.in_ok-reserve.ensures) c.in_err-keep.ensures
+
+pub push-room-requires-clause-parent : goal.push-room-requires-clause-parent
+push-room-requires-clause-parent c =
+    parent_fits c.args.store.now c.args.array.now c.reserve.new.self c.args.block.now c.in-Some.parent c.requires.array c.in_ok-reserve.ensures
+    (subst (λ (blocks : List KeptBlock). Some c.in-Some.parent ≡ number_of blocks c.args.block.now.parent_root) c.blocks-2.ensures c.in-Some.ensures)
+
+pub returns-clause-array : goal.returns-clause-array
+returns-clause-array c =
+    block_array c.args.store.now c.keep.new.self c.args.array.now c.reserve.new.self c.push-room.new.self c.args.root c.args.block.now c.args.state c.in-Some.parent
+    c.requires.array c.in_ok-reserve.ensures c.requires.named
+    (subst (λ (blocks : List KeptBlock). Some c.in-Some.parent ≡ number_of blocks c.args.block.now.parent_root) c.blocks-2.ensures c.in-Some.ensures)
+    (search rules)
+    (subst (λ (j : Checkpoint). c.push-room.new.self ≡ with_node c.reserve.new.self c.in-Some.parent c.args.block.now.slot c.args.root (record { justified = j; finalized = c.args.state.finalized_checkpoint })) c.current_justified_checkpoint.ensures
+    (subst (λ (f : Checkpoint). c.push-room.new.self ≡ with_node c.reserve.new.self c.in-Some.parent c.args.block.now.slot c.args.root (record { justified = c.current_justified_checkpoint.result; finalized = f })) c.finalized_checkpoint.ensures
+    (node_added c.push-room.result c.args.array.now c.reserve.new.self c.push-room.new.self
+    (with_node c.reserve.new.self c.in-Some.parent c.args.block.now.slot c.args.root (record { justified = c.current_justified_checkpoint.result; finalized = c.finalized_checkpoint.result }))
+    c.in_ok-reserve.ensures c.push-room.ensures.pushed c.push-room.ensures.spare)))

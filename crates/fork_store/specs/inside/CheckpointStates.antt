@@ -1,0 +1,40 @@
+-- The states of checkpoints that are kept.
+use Rattle.std.specs.Prelude.{◌≡◌, ℕ, List, [], ◌∷◌, ◌++◌, leb, filter, Option}
+use Rattle.std.specs.List.{find, AllByRecursion}
+use Rattle.bc_words.specs.Outcome.{done}
+use Rattle.bc_preset.specs.declared.configuration.ConfigValues.{ConfigValues}
+use Rattle.beacon_types.specs.Equality.{same_checkpoint}
+use Rattle.beacon_types.specs.declared.checkpoint.Checkpoint.{Checkpoint}
+use Rattle.spec_state.specs.declared.plain.PlainState.{PlainState}
+use Rattle.spec_state.specs.Genesis.{zero_root}
+use Rattle.spec_state.specs.Soundness.{IsSound}
+use Rattle.spec_fork_choice.specs.Store.{KeptBlock, Store}
+use Rattle.spec_fork_choice.specs.StoreTargetCheckpointState.{store_target_checkpoint_state}
+use Rattle.fork_store.specs.inside.Genesis.{at_genesis}
+
+-- A checkpoint with its state
+pub record CheckpointState : Type 0 where
+  pub checkpoint : Checkpoint
+  pub state : PlainState
+
+-- what is kept of a checkpoint
+unfoldable pub checkpoint_state_of : List CheckpointState → Checkpoint → Option CheckpointState
+checkpoint_state_of states checkpoint = find (λ kept. same_checkpoint kept.checkpoint checkpoint) states
+
+-- the kept states and another one, without those before an epoch
+unfoldable pub with_checkpoint_state : List CheckpointState → ℕ → CheckpointState → List CheckpointState
+with_checkpoint_state states epoch kept = filter (λ k. leb epoch k.checkpoint.epoch) (states ++ kept ∷ [])
+
+-- A state is the one of its checkpoint in a store, sound and of the store's preset
+pub record IsStateOf (store : Store) (kept : CheckpointState) : Type 0 where
+  pub same : store_target_checkpoint_state store kept.checkpoint ≡ done kept.state
+  pub sound : IsSound kept.state
+  pub preset : kept.state.preset ≡ store.config.preset
+
+-- a store of a configuration with some blocks: the state of a checkpoint is made of nothing else that a store has
+abbrev pub store_with : ConfigValues → List KeptBlock → Store
+store_with config blocks = at_genesis config 0 (record { epoch = 0; root = zero_root }) blocks []
+
+-- all kept states are those of their checkpoints
+abbrev pub AreStatesOf : ConfigValues → List KeptBlock → List CheckpointState → Type 0
+AreStatesOf config blocks states = AllByRecursion (IsStateOf (store_with config blocks)) states

@@ -1,0 +1,242 @@
+//! The fields of the store of fork choice (fork-choice.md, "Store").
+//!
+//! They come from genesis, and the handlers of events change them.
+
+ghost use Rattle.std.specs.Prelude.{◌≡◌, ◌∷◌, ◌++◌, ◌≤◌, ◌<◌, ◌^◌, [], IfSome};
+ghost use Rattle.std.specs.Option.{option_map};
+ghost use Rattle.bc_words.specs.Outcome.{Becomes};
+ghost use Rattle.std.specs.List.{AllByRecursion};
+ghost use Rattle.bc_preset.specs.Presets.{IsPreset};
+ghost use Rattle.fork_store.specs.inside.Stores.{HasPreset, IsStore};
+ghost use Rattle.fork_store.specs.inside.Trees.{Follows, IsTree};
+ghost use Rattle.spec_fork_choice.specs.Store.{block_of};
+ghost use Rattle.spec_fork_choice.specs.Slots.{start_slot_of};
+ghost use Rattle.fork_store.specs.inside.Messages.{updated};
+ghost use Rattle.fork_store.specs.inside.Genesis.{at_genesis};
+ghost use Rattle.fork_store.specs.inside.CheckpointStates.{IsStateOf};
+
+use crate::checkpoint_states::{CheckpointState, CheckpointStates};
+use crate::kept_block::{KeptBlock, KeptBlocks};
+use crate::latest_messages::{LatestMessage, LatestMessages};
+use bc_preset::Config;
+use bc_words::NoMemory;
+use beacon_types::Checkpoint;
+use hash_tree::Root;
+use std::marker::Model;
+
+/// The fields: the configuration, the time, three checkpoints, the boosted block's root, the kept blocks with their states, and
+/// the latest votes.
+#[derive(Drop)]
+pub(crate) struct StoreFields {
+    config: Config,
+    time: u64,
+    genesis_time: u64,
+    justified: Checkpoint,
+    finalized: Checkpoint,
+    best_justified: Checkpoint,
+    boost_root: Root,
+    blocks: KeptBlocks,
+    messages: LatestMessages,
+    states: CheckpointStates,
+}
+
+impl Model for StoreFields {
+    ghost use Rattle.spec_fork_choice.specs.Store.{Store as PlainStore};
+    ghost use Rattle.fork_store.specs.inside.Plain.{plain_of};
+    ghost use Rattle.fork_store.specs.inside.Stores.{IsStore};
+    ghost use Rattle.fork_store.specs.inside.CheckpointStates.{AreStatesOf};
+
+    ghost Value = { PlainStore };
+
+    ghost view = { plain_of };
+
+    ghost invariant = { λ store. IsStore (plain_of store) × AreStatesOf store.config store.blocks store.states };
+}
+
+impl StoreFields {
+    /// The store at genesis: its time and its three checkpoints are these, and there is no boost.
+    pub(crate) fn at_genesis(
+        config: Config,
+        time: u64,
+        checkpoint: Checkpoint,
+        blocks: KeptBlocks,
+        messages: LatestMessages,
+        states: CheckpointStates,
+    ) -> StoreFields
+        requires presets { AllByRecursion (HasPreset config.preset) blocks }
+        requires tree { IsTree blocks }
+        requires first { checkpoint.epoch ≡ 0 }
+        requires none { states ≡ [] }
+        ensures { result ≡ at_genesis config time checkpoint blocks messages }
+    {
+        StoreFields {
+            config,
+            time,
+            genesis_time: time,
+            justified: checkpoint,
+            finalized: checkpoint,
+            best_justified: checkpoint,
+            boost_root: [0; 32],
+            blocks,
+            messages,
+            states,
+        }
+    }
+
+    /// The law that holds of all fields. It does nothing when it runs.
+    pub(crate) fn is_sound(&self)
+        ensures store { IsStore self.now }
+        ensures preset { IsPreset self.now.config.preset }
+    {
+        let _preset = self.config.preset();
+    }
+
+    /// The configuration.
+    pub(crate) fn config(&self) -> &Config
+        ensures { result.now ≡ self.now.config }
+    {
+        &self.config
+    }
+
+    /// The time, in seconds, and not before genesis.
+    pub(crate) fn time(&self) -> u64
+        ensures same { result ≡ self.now.time }
+        ensures later { self.now.genesis_time ≤ self.now.time }
+    {
+        self.time
+    }
+
+    /// The time of genesis, in seconds.
+    pub(crate) fn genesis_time(&self) -> u64
+        ensures { result ≡ self.now.genesis_time }
+    {
+        self.genesis_time
+    }
+
+    /// The justified checkpoint, whose epoch begins at a slot of 64 bits.
+    pub(crate) fn justified(&self) -> Checkpoint
+        ensures same { result ≡ self.now.justified_checkpoint }
+        ensures low { start_slot_of self.now self.now.justified_checkpoint < 2 ^ 64 }
+    {
+        self.justified
+    }
+
+    /// The finalized checkpoint.
+    pub(crate) fn finalized(&self) -> Checkpoint
+        ensures { result ≡ self.now.finalized_checkpoint }
+    {
+        self.finalized
+    }
+
+    /// The best justified checkpoint, whose epoch begins at a slot of 64 bits.
+    pub(crate) fn best_justified(&self) -> Checkpoint
+        ensures same { result ≡ self.now.best_justified_checkpoint }
+        ensures low { start_slot_of self.now self.now.best_justified_checkpoint < 2 ^ 64 }
+    {
+        self.best_justified
+    }
+
+    /// The root of the boosted block, and zero where none is boosted.
+    pub(crate) fn boost_root(&self) -> Root
+        ensures { result ≡ self.now.proposer_boost_root }
+    {
+        self.boost_root
+    }
+
+    /// The kept blocks.
+    pub(crate) fn blocks(&self) -> &KeptBlocks
+        ensures { result.now ≡ self.now.blocks }
+    {
+        &self.blocks
+    }
+
+    /// The kept block of a root. None exactly where the root isn't kept.
+    #[tactic(auto, using(crate::proofs::Presets::found_preset))]
+    pub(crate) fn kept(&self, root: Root) -> Option<&KeptBlock>
+        ensures found { option_map (λ kept. kept.now) result ≡ block_of self.now.blocks root }
+        ensures preset { IfSome result (λ kept. kept.now.state.preset ≡ self.now.config.preset) }
+    {
+        self.blocks.find(root)
+    }
+
+    /// The latest votes.
+    pub(crate) fn messages(&self) -> &LatestMessages
+        ensures { result.now ≡ self.now.latest_messages }
+    {
+        &self.messages
+    }
+
+    /// Takes a vote for each of some validators to whom it is news. Where memory is refused, the store is as before.
+    pub(crate) fn update_messages(
+        &mut self,
+        indices: &[u64],
+        message: LatestMessage,
+    ) -> Result<(), NoMemory>
+        ensures { Becomes result self.old self.new (record self.old { latest_messages = updated self.old.latest_messages indices.now message }) }
+    {
+        self.messages.update(indices, message)
+    }
+
+    /// Takes another time, which isn't before genesis.
+    pub(crate) fn set_time(&mut self, time: u64)
+        requires { self.old.genesis_time ≤ time }
+        ensures { self.new ≡ record self.old { time = time } }
+    {
+        self.time = time;
+    }
+
+    /// Takes another justified checkpoint.
+    pub(crate) fn set_justified(&mut self, checkpoint: Checkpoint)
+        requires low { start_slot_of self.old checkpoint < 2 ^ 64 }
+        ensures { self.new ≡ record self.old { justified_checkpoint = checkpoint } }
+    {
+        self.justified = checkpoint;
+    }
+
+    /// Takes another finalized checkpoint.
+    pub(crate) fn set_finalized(&mut self, checkpoint: Checkpoint)
+        ensures { self.new ≡ record self.old { finalized_checkpoint = checkpoint } }
+    {
+        self.finalized = checkpoint;
+    }
+
+    /// Takes another best justified checkpoint.
+    pub(crate) fn set_best_justified(&mut self, checkpoint: Checkpoint)
+        requires low { start_slot_of self.old checkpoint < 2 ^ 64 }
+        ensures { self.new ≡ record self.old { best_justified_checkpoint = checkpoint } }
+    {
+        self.best_justified = checkpoint;
+    }
+
+    /// Boosts the block of another root, or none where it is zero.
+    pub(crate) fn set_boost_root(&mut self, root: Root)
+        ensures { self.new ≡ record self.old { proposer_boost_root = root } }
+    {
+        self.boost_root = root;
+    }
+
+    /// Keeps a block behind the others. Where memory is refused, the store is as before.
+    pub(crate) fn keep(&mut self, kept: KeptBlock) -> Result<(), NoMemory>
+        requires preset { kept.state.preset ≡ self.old.config.preset }
+        requires follows { Follows self.old.blocks kept }
+        ensures { Becomes result self.old self.new (record self.old { blocks = self.old.blocks ++ kept ∷ [] }) }
+    {
+        self.blocks.push(kept)
+    }
+
+    /// The state that is kept of a checkpoint, if one is. It is the checkpoint's own.
+    pub(crate) fn checkpoint_state(&self, checkpoint: Checkpoint) -> Option<&CheckpointState>
+        ensures own { IfSome result (λ kept. IsStateOf self.now kept.now) }
+        ensures checkpoint { IfSome result (λ kept. kept.now.checkpoint ≡ checkpoint) }
+    {
+        self.states.find(checkpoint)
+    }
+
+    /// Keeps the state of a checkpoint, and lets those of epochs before the finalized one go. Contracts see none of them.
+    pub(crate) fn keep_checkpoint_state(&mut self, made: CheckpointState) -> Result<(), NoMemory>
+        requires { IsStateOf self.old made }
+        ensures { self.new ≡ self.old }
+    {
+        self.states.keep(made, self.finalized.epoch)
+    }
+}
