@@ -1,7 +1,9 @@
 pub mod Lanes
 pub mod Schedules
+pub mod Expansion
 pub mod Padding
 pub mod Hashes
 pub mod Layers
 pub mod Maps
 pub mod SourceBlocks
+pub mod Rotations

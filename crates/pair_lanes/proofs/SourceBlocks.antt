@@ -1,10 +1,10 @@
 -- The words of the block that a seed, a round and a page's number fill with their padding.
-use Rattle.std.proofs.Common.{◌≡◌, ◌∙◌, ℕ, ◌+◌, ◌-◌, ◌*◌, ◌<◌, ◌≤◌, List, ◌∷◌, ◌++◌, length, slice_index, refl, sym, ap, inl, inr, append_assoc, arith}
+use Rattle.std.proofs.Common.{◌≡◌, ◌≢◌, ◌∙◌, ℕ, zero, suc, ◌+◌, ◌-◌, ◌*◌, ◌^◌, ◌<◌, ◌≤◌, List, ◌∷◌, ◌++◌, length, slice_index, refl, sym, ap, inl, inr, append_assoc, arith}
 use Rattle.std.proofs.lemmas.List.{get_or_append_left, get_or-append_right}
-use Rattle.std.proofs.lemmas.Bool.{cases_eq}
+use Rattle.std.proofs.lemmas.Bool.{cases_eq, cases_lt}
 use Rattle.std.specs.Int.{w32, to_le_bytes}
 use Rattle.sha2.specs.Sha256.{word_at, padding, schedule, rounds}
-use Rattle.pair_lanes.proofs.Schedules.{block_word, same_rounds}
+use Rattle.pair_lanes.proofs.Schedules.{block_word, further_word, same_next, same_rounds}
 use Rattle.pair_lanes.specs.inside.Lanes.{source_block}
 
 -- what stands in the block behind the seed
@@ -87,3 +87,46 @@ begun_alike seed h round page round′ page′ long =
     ∙ seed_word seed round page k long less
     ∙ sym (seed_word seed round′ page′ k long less)
     ∙ sym (block_word (source_block seed round′ page′) 48 k (omega arith)))
+
+-- the word of a page below 2 ^ 24 that holds its last byte
+near_word : (round page : ℕ) → page < 2 ^ 24 → word_at (behind round page) 4 ≡ 8388608
+near_word round page near = omega arith
+
+module _ (seed : List ℕ) (round page round′ page′ : ℕ) (long : length seed ≡ 32) (near : page < 2 ^ 24) (near′ : page′ < 2 ^ 24) where
+  abbrev one : List ℕ
+  one = source_block seed round page
+
+  abbrev other : List ℕ
+  other = source_block seed round′ page′
+
+  block_alike : (k : ℕ) → k < 16 → k ≢ 8 → word_at one (4 * k) ≡ word_at other (4 * k)
+  block_alike k less apart = elim (cases_lt k 8) [
+    | inl low ↦ seed_word seed round page k long low ∙ sym (seed_word seed round′ page′ k long low)
+    | inr more ↦ elim (cases_eq k 9) [
+      | inl e ↦ rw e (page_word seed round page long ∙ near_word round page near ∙ sym (page_word seed round′ page′ long ∙ near_word round′ page′ near′))
+      | inr a ↦ elim (cases_eq k 15) [
+        | inl e ↦ rw e (length_word seed round page long ∙ sym (length_word seed round′ page′ long))
+        | inr b ↦ zero_word seed round page k long (omega arith) (omega arith) ∙ sym (zero_word seed round′ page′ k long (omega arith) (omega arith))
+      ]
+    ]
+  ]
+
+  -- the words before a place
+  alike : (n : ℕ) → n ≤ 23 → (k : ℕ) → k < n → k ≢ 8 → slice_index (schedule one 48) k ≡ slice_index (schedule other 48) k
+  alike zero fits k less apart = absurd (omega arith)
+  alike (suc n) fits k less apart = elim (cases_lt k n) [
+    | inl before ↦ alike n (omega arith) k before apart
+    | inr last ↦ elim (cases_lt k 16) [
+      | inl low ↦ block_word one 48 k low ∙ block_alike k low apart ∙ sym (block_word other 48 k low)
+      | inr high ↦
+          further_word one 48 k high (omega arith)
+          ∙ same_next (schedule one 48) (schedule other 48) k
+          (alike n (omega arith) (k - 2) (omega arith) (omega arith)) (alike n (omega arith) (k - 7) (omega arith) (omega arith))
+          (alike n (omega arith) (k - 15) (omega arith) (omega arith)) (alike n (omega arith) (k - 16) (omega arith) (omega arith))
+          ∙ sym (further_word other 48 k high (omega arith))
+    ]
+  ]
+
+  -- the words before place 23 but one are the same for each round and each page below 2 ^ 24 of a seed
+  pub common_alike : (k : ℕ) → k < 23 → k ≢ 8 → slice_index (schedule one 48) k ≡ slice_index (schedule other 48) k
+  common_alike = alike 23 (omega arith)

@@ -1,8 +1,9 @@
 //! The block function of SHA-256 (FIPS 180-4, 6.2.2), on eight blocks at a time.
 
-ghost use Rattle.std.specs.Prelude.{◌≡◌, ℕ, ◌+◌, ◌*◌, ◌<◌, ◌≤◌, List, slice_index};
-ghost use Rattle.sha2.specs.Sha256.{add_state, compress, initial_hash_256, next_word, round, round_constants, rounds, schedule, word_at};
-ghost use Rattle.pair_lanes.specs.inside.Lanes.{lane, lane_at, variables, padding_block};
+ghost use Rattle.std.specs.Prelude.{◌≡◌, ℕ, ◌+◌, ◌-◌, ◌*◌, ◌^◌, ◌<◌, ◌≤◌, List, slice_index};
+ghost use Rattle.sha2.specs.Sha256.{add32, add_state, compress, initial_hash_256, next_word, round, round_constants};
+ghost use Rattle.sha2.specs.Sha256.{rounds, schedule, small_sigma0, small_sigma1, word_at};
+ghost use Rattle.pair_lanes.specs.inside.Lanes.{Ahead, lane, lane_at, variables, padding_block, source_block};
 
 use crate::constants::{PADDING_WORDS, ROUND_CONSTANTS};
 use crate::words::{add, big_sigma0, big_sigma1, choose, majority, small_sigma0, small_sigma1};
@@ -36,15 +37,74 @@ fn following(w: &[u32x8; 64], t: usize) -> u32x8
     add(add(near, small_sigma0(w[t - 15])), w[t - 16])
 }
 
+/// What the word at a place takes from the words fifteen and sixteen before it.
+#[inline(always)]
+pub(crate) fn far_sum(w: &[u32x8; 64], t: usize) -> u32x8
+    requires low { 16 ≤ t }
+    requires high { t < 64 }
+    ensures { (j : ℕ) → j < 8 → slice_index result j ≡ add32 (small_sigma0 (lane_at w.now (t - 15) j)) (lane_at w.now (t - 16) j) }
+{
+    add(small_sigma0(w[t - 15]), w[t - 16])
+}
+
+/// The word at a place, where that sum is the same in each lane.
+#[inline(always)]
+fn following_sum(w: &[u32x8; 64], t: usize, sum: u32) -> u32x8
+    requires low { 16 ≤ t }
+    requires high { t < 64 }
+    ensures { (j : ℕ) → j < 8 → slice_index result j ≡ add32 (add32 (small_sigma1 (lane_at w.now (t - 2) j)) (lane_at w.now (t - 7) j)) sum }
+{
+    let near = add(small_sigma1(w[t - 2]), w[t - 7]);
+    add(near, u32x8::splat(sum))
+}
+
+/// The word at a place of the schedules of a seed's sources, from the words before it and the sums that they have in common.
+#[inline(always)]
+fn following_near(w: &[u32x8; 64], sums: &[u32; 13], t: usize) -> u32x8
+    requires low { 23 ≤ t }
+    requires high { t < 38 }
+    ensures { (j round page : ℕ) (seed : List ℕ) → j < 8 → page < 2 ^ 24 → Ahead seed sums.now
+        → ((k : ℕ) → k < t → lane_at w.now k j ≡ slice_index (schedule (source_block seed round page) 48) k)
+        → slice_index result j ≡ slice_index (schedule (source_block seed round page) 48) t }
+{
+    if t < 25 {
+        return following(w, t);
+    }
+    following_sum(w, t, sums[t - 25])
+}
+
+/// Fills the schedules of a seed's sources from place 23 up to but not 38, likewise.
+#[inline(always)]
+pub(crate) fn expand_near(w: &mut [u32x8; 64], sums: &[u32; 13])
+    ensures { (j round page : ℕ) (seed : List ℕ) → j < 8 → page < 2 ^ 24 → Ahead seed sums.now
+        → ((k : ℕ) → k < 23 → lane_at w.old k j ≡ slice_index (schedule (source_block seed round page) 48) k)
+        → (k : ℕ) → k < 38 → lane_at w.new k j ≡ slice_index (schedule (source_block seed round page) 48) k }
+{
+    'words: for t in 23..38 {
+        w[t] = following_near(w, sums, t);
+    }
+}
+
+/// Fills the schedule from a place on, from the words before it.
+#[inline(always)]
+pub(crate) fn expand_from(w: &mut [u32x8; 64], from: usize)
+    requires low { 16 ≤ from }
+    requires high { from ≤ 64 }
+    ensures { (j : ℕ) (b : List ℕ) → j < 8 → ((k : ℕ) → k < from → lane_at w.old k j ≡ slice_index (schedule b 48) k)
+        → (k : ℕ) → k < 64 → lane_at w.new k j ≡ slice_index (schedule b 48) k }
+{
+    'words: for t in from..64 {
+        w[t] = following(w, t);
+    }
+}
+
 /// Fills the schedule behind the words of the block.
 #[inline(always)]
 pub(crate) fn expand(w: &mut [u32x8; 64])
     ensures { (j : ℕ) (b : List ℕ) → j < 8 → ((k : ℕ) → k < 16 → lane_at w.old k j ≡ word_at b (4 * k))
         → (k : ℕ) → k < 64 → lane_at w.new k j ≡ slice_index (schedule b 48) k }
 {
-    'words: for t in 16..64 {
-        w[t] = following(w, t);
-    }
+    expand_from(w, 16);
 }
 
 /// One round.

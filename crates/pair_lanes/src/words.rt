@@ -72,20 +72,20 @@ pub(crate) fn majority(x: u32x8, y: u32x8, z: u32x8) -> u32x8
     xor(xor(and(x, y), and(x, z)), and(y, z))
 }
 
-/// The upper case Σ 0.
+/// The upper case Σ 0. Its rotations are nested, which takes fewer copies of the words than each from the first.
 #[inline(always)]
 pub(crate) fn big_sigma0(x: u32x8) -> u32x8
     ensures { (j : ℕ) → j < 8 → slice_index result j ≡ big_sigma0 (slice_index x j) }
 {
-    xor(xor(turn(x, 2), turn(x, 13)), turn(x, 22))
+    turn(xor(x, turn(xor(x, turn(x, 9)), 11)), 2)
 }
 
-/// The upper case Σ 1.
+/// The upper case Σ 1, likewise.
 #[inline(always)]
 pub(crate) fn big_sigma1(x: u32x8) -> u32x8
     ensures { (j : ℕ) → j < 8 → slice_index result j ≡ big_sigma1 (slice_index x j) }
 {
-    xor(xor(turn(x, 6), turn(x, 11)), turn(x, 25))
+    turn(xor(x, turn(xor(x, turn(x, 14)), 5)), 6)
 }
 
 /// The lower case σ 0.

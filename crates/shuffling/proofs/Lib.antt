@@ -1,4 +1,5 @@
 pub mod Bits
-pub mod FourLanes
+pub mod Joined
 pub mod Pass
 pub mod Rounds
+pub mod SixteenLanes

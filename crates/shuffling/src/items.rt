@@ -1,9 +1,10 @@
-//! The items of a list while it is shuffled: in 32 bits where all of them fit and memory isn't refused, else in 64.
+//! The items of a list while it is shuffled: in three bytes each where all of them fit and memory isn't refused, else in
+//! 64 bits.
 
 ghost use Rattle.std.specs.Prelude.{◌≡◌, ℕ, ◌+◌, ◌<◌, ◌≤◌, ◌^◌, List, length, Option, Some, None, IfSome};
 ghost use Rattle.shuffling.specs.inside.Pass.{by_word, Passed};
 
-use crate::narrow::{narrowed, swap_narrow, widen};
+use crate::planes::Planes;
 use crate::wide::swap_wide;
 use std::alloc::Global;
 use std::marker::Model;
@@ -12,15 +13,15 @@ use std::marker::Model;
 #[derive(Drop)]
 pub struct Items {
     list: Vec<u64>,
-    narrow: Option<Vec<u32>>,
+    narrow: Option<Planes>,
 }
 
 impl Model for Items {
     ghost Value = { List ℕ };
 
-    ghost view = { λ s. elim s.narrow [ Some narrow ↦ narrow.items | None ↦ s.list.items ] };
+    ghost view = { λ s. elim s.narrow [ Some narrow ↦ narrow | None ↦ s.list.items ] };
 
-    ghost invariant = { λ s. IfSome s.narrow (λ narrow. length narrow.items ≡ length s.list.items) };
+    ghost invariant = { λ s. IfSome s.narrow (λ narrow. length narrow ≡ length s.list.items) };
 }
 
 impl Items {
@@ -28,7 +29,7 @@ impl Items {
     pub fn new(alloc: Global, list: Vec<u64>) -> Self
         ensures { result ≡ list.items }
     {
-        let narrow = narrowed(alloc, &list);
+        let narrow = Planes::new(alloc, &list);
         Items { list, narrow }
     }
 
@@ -50,7 +51,7 @@ impl Items {
         ensures length { length self.new ≡ length self.old }
     {
         match &mut self.narrow {
-            Some(narrow) => swap_narrow(narrow, sum, first, last, word),
+            Some(narrow) => narrow.swap_where_set(sum, first, last, word),
             None => swap_wide(&mut self.list, sum, first, last, word),
         }
     }
@@ -61,7 +62,7 @@ impl Items {
     {
         let Items { mut list, narrow } = self;
         if let Some(narrow) = narrow {
-            widen(&narrow, &mut list);
+            narrow.widen(&mut list);
         }
         list
     }

@@ -10,6 +10,7 @@ mod lanes;
 mod list;
 mod narrow;
 mod pages;
+mod planes;
 mod round;
 mod wide;
 
@@ -41,10 +42,10 @@ mod tests {
         assert_eq!(rt; shuffled_index(999, 1000, &seed, 256), 296);
     }
 
-    // Items that fit in 32 bits, and items that don't.
+    // Items that fit in three bytes, and items that don't.
     #[test]
     fn a_list_is_shuffled_as_its_places(rt: HostRuntime) -> Result<(), Fail> {
-        for first in [0, 1 << 40] {
+        for first in [(1 << 24) - 3000, 1 << 40] {
             let mut list = Vec::new(rt.alloc());
             for i in 0..3000u64 {
                 list.push(first + i)?;

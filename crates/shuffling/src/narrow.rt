@@ -1,71 +1,30 @@
-//! Pairs of 32-bit items that swap, four at a time: each pair is a position and its mirror image, and a bit says whether
+//! Pairs of bytes that swap, sixteen at a time: each pair is a position and its mirror image, and a bit says whether
 //! it swaps.
 
-ghost use Rattle.std.specs.Prelude.{◌≡◌, ℕ, ◌+◌, ◌<◌, ◌≤◌, ◌^◌, length, IfSome};
+ghost use Rattle.std.specs.Prelude.{◌≡◌, ℕ, ◌+◌, ◌-◌, ◌<◌, ◌≤◌, ◌^◌, length, slice_index};
 ghost use Rattle.shuffling.specs.inside.Pass.{by_word, Passed};
 
-use crate::lanes::{load, mixed, store, turned};
-use std::alloc::Global;
+use crate::lanes::{load, load_turned, mixed, store, turned};
+use std::simd::u8x16;
 
-/// The items in 32 bits, where all of them fit and memory isn't refused.
-pub fn narrowed(alloc: Global, list: &[u64]) -> Option<Vec<u32>>
-    ensures { IfSome result (λ narrow. narrow.items ≡ list.now) }
-{
-    let mut narrow = match Vec::with_capacity(alloc, list.len()) {
-        Ok(narrow) => narrow,
-        Err(_) => return None,
-    };
-    for item in list {
-        if *item >= 1 << 32 {
-            return None;
-        }
-        match narrow.push(*item as u32) {
-            Ok(()) => {}
-            Err(_) => return None,
-        }
-    }
-    Some(narrow)
-}
-
-/// Writes the items over a list of 64 bits.
-pub fn widen(narrow: &[u32], list: &mut [u64])
-    requires { length narrow.now ≡ length list.old }
-    ensures { list.new ≡ narrow.now }
-{
-    for i in 0..narrow.len() {
-        list[i] = u64::from(narrow[i]);
-    }
-}
-
-/// Swaps four positions with their mirror images where their bits are 1. The lowest bit is that of `first`.
+/// Swaps sixteen positions with their mirror images where their bits are 1. The lowest bit is that of `first`, and the
+/// items of both were loaded, those of the images in the order of the positions.
 #[inline(always)]
-fn swap_four(list: &mut [u32], sum: usize, first: usize, bits: u64)
-    requires in_list { first + 4 ≤ length list.old }
+fn swap_loaded(list: &mut [u8], sum: usize, first: usize, one: u8x16, other: u8x16, bits: u64)
+    requires in_list { first + 16 ≤ length list.old }
     requires earlier { sum < first + first }
-    requires images { first + 4 ≤ sum + 1 }
-    ensures { Passed (by_word bits first sum) sum first (first + 4) list.old list.new }
+    requires images { first + 16 ≤ sum + 1 }
+    requires one { (j : ℕ) → j < 16 → slice_index one j ≡ slice_index list.old (first + j) }
+    requires other { (j : ℕ) → j < 16 → slice_index other j ≡ slice_index list.old (sum - first - 15 + (15 - j)) }
+    ensures { Passed (by_word bits first sum) sum first (first + 16) list.old list.new }
 {
-    let images = sum - first - 3;
-    let one = load(list, first);
-    let other = turned(load(list, images));
+    let images = sum - first - 15;
     store(list, first, mixed(one, other, bits));
     store(list, images, turned(mixed(other, one, bits)));
 }
 
-/// Swaps eight positions with their mirror images where their bits are 1.
-#[inline(always)]
-fn swap_eight(list: &mut [u32], sum: usize, first: usize, bits: u64)
-    requires in_list { first + 8 ≤ length list.old }
-    requires earlier { sum < first + first }
-    requires images { first + 8 ≤ sum + 1 }
-    ensures { Passed (by_word bits first sum) sum first (first + 8) list.old list.new }
-{
-    swap_four(list, sum, first, bits);
-    swap_four(list, sum, first + 4, bits >> 4);
-}
-
 /// Swaps one position with its mirror image where its bit is 1.
-fn swap_one(list: &mut [u32], sum: usize, position: usize, bits: u64)
+fn swap_one(list: &mut [u8], sum: usize, position: usize, bits: u64)
     requires in_list { position < length list.old }
     requires earlier { sum < position + position }
     requires image { position ≤ sum }
@@ -77,7 +36,7 @@ fn swap_one(list: &mut [u32], sum: usize, position: usize, bits: u64)
 }
 
 /// Swaps positions with their mirror images one by one where their bits are 1.
-fn swap_rest(list: &mut [u32], sum: usize, first: usize, last: usize, word: u64)
+fn swap_rest(list: &mut [u8], sum: usize, first: usize, last: usize, word: u64)
     requires ordered { first ≤ last }
     requires in_list { last ≤ length list.old }
     requires fits { length list.old ≤ 2 ^ 40 }
@@ -92,23 +51,48 @@ fn swap_rest(list: &mut [u32], sum: usize, first: usize, last: usize, word: u64)
     }
 }
 
-/// Swaps the positions from `first` up to but not `last` with their mirror images where their bits are 1.
+/// Swaps the positions from `first` up to but not `last` of three lists with their mirror images where their bits are 1.
 ///
 /// A position and its mirror image, the earlier one, add up to `sum`. The lowest bit is that of `first`.
-pub fn swap_narrow(list: &mut [u32], sum: usize, first: usize, last: usize, word: u64)
+pub fn swap_planes(
+    low: &mut [u8],
+    middle: &mut [u8],
+    high: &mut [u8],
+    sum: usize,
+    first: usize,
+    last: usize,
+    word: u64,
+)
     requires ordered { first ≤ last }
-    requires in_list { last ≤ length list.old }
-    requires fits { length list.old ≤ 2 ^ 40 }
+    requires in_low { last ≤ length low.old }
+    requires in_middle { last ≤ length middle.old }
+    requires in_high { last ≤ length high.old }
+    requires fits_low { length low.old ≤ 2 ^ 40 }
+    requires fits_middle { length middle.old ≤ 2 ^ 40 }
+    requires fits_high { length high.old ≤ 2 ^ 40 }
     requires earlier { sum < first + first }
     requires images { last ≤ sum + 1 }
-    ensures { Passed (by_word word first sum) sum first last list.old list.new }
+    ensures low { Passed (by_word word first sum) sum first last low.old low.new }
+    ensures middle { Passed (by_word word first sum) sum first last middle.old middle.new }
+    ensures high { Passed (by_word word first sum) sum first last high.old high.new }
 {
     let mut bits = word;
     let mut position = first;
-    while position + 8 <= last {
-        swap_eight(list, sum, position, bits);
-        bits >>= 8;
-        position += 8;
+    while position + 16 <= last {
+        let images = sum - position - 15;
+        let low_one = load(low, position);
+        let low_other = load_turned(low, images);
+        let middle_one = load(middle, position);
+        let middle_other = load_turned(middle, images);
+        let high_one = load(high, position);
+        let high_other = load_turned(high, images);
+        swap_loaded(low, sum, position, low_one, low_other, bits);
+        swap_loaded(middle, sum, position, middle_one, middle_other, bits);
+        swap_loaded(high, sum, position, high_one, high_other, bits);
+        bits >>= 16;
+        position += 16;
     }
-    swap_rest(list, sum, position, last, bits);
+    swap_rest(low, sum, position, last, bits);
+    swap_rest(middle, sum, position, last, bits);
+    swap_rest(high, sum, position, last, bits);
 }

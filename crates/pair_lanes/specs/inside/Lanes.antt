@@ -1,7 +1,7 @@
 -- Eight messages side by side: each word is a vector, with one lane for each message.
-use Rattle.std.specs.Prelude.{◌≡◌, ℕ, List, [], ◌∷◌, ◌++◌, map, slice_index, slice_index_or}
+use Rattle.std.specs.Prelude.{◌≡◌, ◌≢◌, ℕ, ◌+◌, ◌^◌, ◌<◌, List, [], ◌∷◌, ◌++◌, map, slice_index, slice_index_or}
 use Rattle.std.specs.Int.{w32, to_le_bytes}
-use Rattle.sha2.specs.Sha256.{initial_hash_256, padding, rounds, schedule}
+use Rattle.sha2.specs.Sha256.{add32, initial_hash_256, padding, rounds, schedule, small_sigma0}
 
 -- lane j of each vector
 abbrev pub lane : ℕ → List (List ℕ) → List ℕ
@@ -28,3 +28,15 @@ source_block seed round page = (seed ++ round ∷ to_le_bytes w32 page) ++ paddi
 -- the variables behind the first eight rounds of any source of a seed
 abbrev pub Begun : List ℕ → List ℕ → Type 0
 Begun seed v = (round page : ℕ) → v ≡ rounds initial_hash_256 (schedule (source_block seed round page) 48) 8
+
+-- the words before place 23 of the schedule of any source of a seed whose page is below 2 ^ 24, but for the one that holds the
+-- round and the page
+abbrev pub Common : List ℕ → List ℕ → Type 0
+Common seed words = (round page k : ℕ) → page < 2 ^ 24 → k < 23 → k ≢ 8
+    → slice_index words k ≡ slice_index (schedule (source_block seed round page) 48) k
+
+-- what the words at the places from 25 up to but not 38 of those schedules take from the words fifteen and sixteen before them
+abbrev pub Ahead : List ℕ → List ℕ → Type 0
+Ahead seed sums = (round page k : ℕ) → page < 2 ^ 24 → k < 13
+    → slice_index sums k
+    ≡ add32 (small_sigma0 (slice_index (schedule (source_block seed round page) 48) (k + 10))) (slice_index (schedule (source_block seed round page) 48) (k + 9))

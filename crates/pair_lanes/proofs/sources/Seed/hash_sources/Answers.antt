@@ -26,9 +26,9 @@ hashes-preserved c =
     let long : length seed ≡ 32 = omega arith in
     let start = c.initial.ensures j less in
     let begun : variables j c.spread.result ≡ rounds (variables j c.initial.result) (schedule block 48) 8 =
-    c.spread.ensures j less ∙ c.self.invariant c.args.round page ∙ ap (λ (h : List ℕ). rounds h (schedule block 48) 8) (sym start) in
+    c.spread.ensures j less ∙ c.self.invariant.0 c.args.round page ∙ ap (λ (h : List ℕ). rounds h (schedule block 48) 8) (sym start) in
     let h : variables j c.compress_rest-h.result ≡ compress initial_hash_256 block =
-    c.compress_rest-h.ensures j block less (λ k below. c.fill.ensures j k less below) begun ∙ ap (λ (h : List ℕ). compress h block) start in
+    c.compress_rest-h.ensures j block less (λ k below. c.fill_sources.ensures j k less below) begun ∙ ap (λ (h : List ℕ). compress h block) start in
     let here : c.digest.result ≡ sha256 (c.args.self.now ++ c.args.round ∷ to_le_bytes w32 page) =
     c.digest.ensures ∙ (ap (λ (h : List ℕ). digest_bytes h 8) (c.turned.ensures ∙ h)
     ∙ sym (hash_of_source seed c.args.round page long) ∙ ap (λ (s : List ℕ). sha256 (s ++ c.args.round ∷ to_le_bytes w32 page)) view) in

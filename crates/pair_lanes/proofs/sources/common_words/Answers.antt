@@ -1,0 +1,7 @@
+use Rattle.std.proofs.Common.{◌∙◌}
+use Rattle.std.proofs.lemmas.Simd.{get_or-replicate}
+use Rattle.pair_lanes.proofs.sources.common_words.Goals as goal
+
+pub returns : goal.returns
+returns c round page j near less =
+    get_or-replicate 8 j _ 0 less ∙ c.requires.common round page c.args.place near c.requires.place c.requires.no_round
