@@ -34,95 +34,126 @@ fn fault_of(bytes: &[u8]) -> Option<ConfigFault> {
     }
 }
 
+/// The fault of the plain lines with this one in the place of the line of that number.
+fn fault_with(
+    alloc: Global,
+    number: usize,
+    line: &[u8],
+    end: &[u8],
+) -> Result<Option<ConfigFault>, AllocError> {
+    let bytes = with_line(alloc, number, line, end)?;
+    Ok(fault_of(&bytes))
+}
+
+/// The number of a line, what takes its place, and the fault that this makes.
+static CASES: [(usize, &[u8], Option<ConfigFault>); 18] = [
+    (0, b"PRESET_BASE: Minimal", Some(ConfigFault::BadPreset(1))),
+    (
+        0,
+        b"PRESET_BASE: 'minimal' x",
+        Some(ConfigFault::BadLine(1)),
+    ),
+    (0, b"PRESET_BASE: 'minimal\"", Some(ConfigFault::BadLine(1))),
+    (
+        0,
+        b"\xef\xbb\xbfPRESET_BASE: minimal",
+        Some(ConfigFault::BadLine(1)),
+    ),
+    (0, b"PRESET_BASE: 'minimal'  # x", None),
+    (1, b"SECONDS_PER_SLOT:\t\"6\"# y", None),
+    (
+        1,
+        b"SECONDS_PER_SLOT: 6# x",
+        Some(ConfigFault::BadNumber(2)),
+    ),
+    (1, b"SECONDS_PER_SLOT: 06", Some(ConfigFault::BadNumber(2))),
+    (
+        1,
+        b"SECONDS_PER_SLOT: ' 6'",
+        Some(ConfigFault::BadNumber(2)),
+    ),
+    (1, b"SECONDS_PER_SLOT:", Some(ConfigFault::BadNumber(2))),
+    (1, b"SECONDS_PER_SLOT:6", Some(ConfigFault::BadLine(2))),
+    (1, b" SECONDS_PER_SLOT: 6", Some(ConfigFault::BadLine(2))),
+    (
+        1,
+        b"SECONDS_PER_SLOT: 0",
+        Some(ConfigFault::OutOfRange(Key::SecondsPerSlot)),
+    ),
+    (
+        3,
+        b"# none",
+        Some(ConfigFault::Missing(Key::ShardCommitteePeriod)),
+    ),
+    (4, b"EJECTION_BALANCE: 18446744073709551615", None),
+    (
+        4,
+        b"EJECTION_BALANCE: 18446744073709551616",
+        Some(ConfigFault::BadNumber(5)),
+    ),
+    (
+        7,
+        b"PROPOSER_SCORE_BOOST: +40",
+        Some(ConfigFault::BadNumber(8)),
+    ),
+    (
+        7,
+        b"PROPOSER_SCORE_BOOST: 40\nCHURN_LIMIT_QUOTIENT: x",
+        Some(ConfigFault::Twice(9)),
+    ),
+];
+
 #[test]
 fn changed_lines(rt: HostRuntime) -> Result<(), Fail> {
-    let cases: [(usize, &[u8], Option<ConfigFault>); 18] = [
-        (0, b"PRESET_BASE: Minimal", Some(ConfigFault::BadPreset(1))),
-        (
-            0,
-            b"PRESET_BASE: 'minimal' x",
-            Some(ConfigFault::BadLine(1)),
-        ),
-        (0, b"PRESET_BASE: 'minimal\"", Some(ConfigFault::BadLine(1))),
-        (
-            0,
-            b"\xef\xbb\xbfPRESET_BASE: minimal",
-            Some(ConfigFault::BadLine(1)),
-        ),
-        (0, b"PRESET_BASE: 'minimal'  # x", None),
-        (1, b"SECONDS_PER_SLOT:\t\"6\"# y", None),
-        (
-            1,
-            b"SECONDS_PER_SLOT: 6# x",
-            Some(ConfigFault::BadNumber(2)),
-        ),
-        (1, b"SECONDS_PER_SLOT: 06", Some(ConfigFault::BadNumber(2))),
-        (
-            1,
-            b"SECONDS_PER_SLOT: ' 6'",
-            Some(ConfigFault::BadNumber(2)),
-        ),
-        (1, b"SECONDS_PER_SLOT:", Some(ConfigFault::BadNumber(2))),
-        (1, b"SECONDS_PER_SLOT:6", Some(ConfigFault::BadLine(2))),
-        (1, b" SECONDS_PER_SLOT: 6", Some(ConfigFault::BadLine(2))),
-        (
-            1,
-            b"SECONDS_PER_SLOT: 0",
-            Some(ConfigFault::OutOfRange(Key::SecondsPerSlot)),
-        ),
-        (
-            3,
-            b"# none",
-            Some(ConfigFault::Missing(Key::ShardCommitteePeriod)),
-        ),
-        (4, b"EJECTION_BALANCE: 18446744073709551615", None),
-        (
-            4,
-            b"EJECTION_BALANCE: 18446744073709551616",
-            Some(ConfigFault::BadNumber(5)),
-        ),
-        (
-            7,
-            b"PROPOSER_SCORE_BOOST: +40",
-            Some(ConfigFault::BadNumber(8)),
-        ),
-        (
-            7,
-            b"PROPOSER_SCORE_BOOST: 40\nCHURN_LIMIT_QUOTIENT: x",
-            Some(ConfigFault::Twice(9)),
-        ),
-    ];
-    for (number, line, fault) in cases {
-        let bytes = with_line(rt.alloc(), number, line, b"\n")?;
-        assert_eq!(rt; fault_of(&bytes), fault);
+    for (number, line, fault) in CASES.iter() {
+        assert_eq!(rt; fault_with(rt.alloc(), *number, line, b"\n")?, *fault);
     }
     assert_eq!(rt; fault_of(b""), Some(ConfigFault::Missing(Key::PresetBase)));
-    let windows = with_line(rt.alloc(), 8, b"", b"\r\n")?;
-    assert_eq!(rt; fault_of(&windows), None);
+    assert_eq!(rt; fault_with(rt.alloc(), 8, b"", b"\r\n")?, None);
     Ok(())
 }
 
+/// What is read of the plain lines.
+fn plain_config(alloc: Global) -> Result<Config, Fail> {
+    let bytes = with_line(alloc, 8, b"", b"\n")?;
+    Ok(Config::read(&bytes)?)
+}
+
 #[test]
-fn values_and_texts(rt: HostRuntime) -> Result<(), Fail> {
-    let bytes = with_line(rt.alloc(), 8, b"", b"\n")?;
-    let config = Config::read(&bytes).ok().ok_or("the lines are plain")?;
-    assert_eq!(rt; config.preset().slots_per_epoch, 8);
-    assert_eq!(rt; config.seconds_per_slot(), 6);
-    assert_eq!(rt; config.min_validator_withdrawability_delay(), 256);
-    assert_eq!(rt; config.shard_committee_period(), 64);
-    assert_eq!(rt; config.ejection_balance(), 16_000_000_000);
-    assert_eq!(rt; config.min_per_epoch_churn_limit(), 4);
-    assert_eq!(rt; config.churn_limit_quotient(), 32);
-    assert_eq!(rt; config.proposer_score_boost(), 40);
-    let text = format!(in rt.alloc(); "{}", ConfigFault::OutOfRange(Key::SecondsPerSlot))?;
-    assert_eq!(rt;
-        text.as_str(),
-        "SECONDS_PER_SLOT is out of range: expected 1 to 4294967295"
-    );
-    let text = format!(in rt.alloc(); "{}", ConfigFault::BadPreset(1))?;
-    assert_eq!(rt;
-        text.as_str(),
-        "line 1: expected the name of a preset, mainnet or minimal"
-    );
+fn values(rt: HostRuntime) -> Result<(), Fail> {
+    let config = plain_config(rt.alloc())?;
+    let found = [
+        config.preset().slots_per_epoch,
+        config.seconds_per_slot(),
+        config.min_validator_withdrawability_delay(),
+        config.shard_committee_period(),
+        config.ejection_balance(),
+        config.min_per_epoch_churn_limit(),
+        config.churn_limit_quotient(),
+        config.proposer_score_boost(),
+    ];
+    assert_eq!(rt; found, [8, 6, 256, 64, 16_000_000_000, 4, 32, 40]);
     Ok(())
+}
+
+/// Whether a fault has this text.
+fn has_text(alloc: Global, fault: ConfigFault, text: &str) -> bool {
+    match format!(in alloc; "{fault}") {
+        Ok(said) => said.as_str() == text,
+        Err(_refused) => false,
+    }
+}
+
+#[test]
+fn texts(rt: HostRuntime) {
+    let range = "SECONDS_PER_SLOT is out of range: expected 1 to 4294967295";
+    assert!(rt;
+        has_text(
+            rt.alloc(),
+            ConfigFault::OutOfRange(Key::SecondsPerSlot),
+            range
+        )
+    );
+    let preset = "line 1: expected the name of a preset, mainnet or minimal";
+    assert!(rt; has_text(rt.alloc(), ConfigFault::BadPreset(1), preset));
 }

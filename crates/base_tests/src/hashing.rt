@@ -29,22 +29,21 @@ const EMPTY_NUMBERS: Root = [
     0x1e, 0x92, 0x05, 0x12, 0xad, 0xd9, 0x18, 0x17, 0x79, 0x0d, 0x35, 0x5e, 0x09, 0x84, 0x6c, 0xd0,
 ];
 
+const BYTES: &[u8; 40] =
+    b"\x01\x02\x03\x04\x05\x06\x07\x08\x09\x0a\x0b\x0c\x0d\x0e\x0f\x10\x11\x12\x13\x14\x15\x16\x17\x18\x19\x1a\x1b\x1c\x1d\x1e\x1f\x20\x21\x22\x23\x24\x25\x26\x27\x28";
+
 #[test]
 fn roots_of_small_values(rt: HostRuntime) {
     let zero = chunk_root(&[]);
-    assert_eq!(rt; merkle(&[zero, zero], 1), TWO_ZEROS);
-    assert_eq!(rt; zero_hash(1), TWO_ZEROS);
-    assert_eq!(rt; mix_in_length(&zero_hash(38), 0), EMPTY_NUMBERS);
-    assert_eq!(rt; merkle_u64(&[1, 2, 3, 4, u64::MAX], 3), FIVE_NUMBERS);
-    assert_eq!(rt;
-        merkle_bytes(
-            b"\x01\x02\x03\x04\x05\x06\x07\x08\x09\x0a\x0b\x0c\x0d\x0e\x0f\x10\x11\x12\x13\x14\x15\x16\x17\x18\x19\x1a\x1b\x1c\x1d\x1e\x1f\x20\x21\x22\x23\x24\x25\x26\x27\x28",
-            2
-        ),
-        FORTY_BYTES
-    );
-    assert_eq!(rt;
-        merkle_leaves(&[[1; 32], [2; 32], [3; 32]], 2),
-        THREE_CHUNKS
-    );
+    let roots = [
+        (merkle(&[zero, zero], 1), TWO_ZEROS),
+        (zero_hash(1), TWO_ZEROS),
+        (mix_in_length(&zero_hash(38), 0), EMPTY_NUMBERS),
+        (merkle_u64(&[1, 2, 3, 4, u64::MAX], 3), FIVE_NUMBERS),
+        (merkle_bytes(BYTES, 2), FORTY_BYTES),
+        (merkle_leaves(&[[1; 32], [2; 32], [3; 32]], 2), THREE_CHUNKS),
+    ];
+    for (found, expected) in roots {
+        assert_eq!(rt; found, expected);
+    }
 }

@@ -122,8 +122,8 @@ fn lists_of_any_length(rt: HostRuntime) -> Result<(), Fail> {
     Ok(())
 }
 
-/// The root of a list of five after three of its items were set at once.
-fn set_three<L: Ledger>(
+/// The root of a list after some of its items were set at once.
+fn set_some<L: Ledger>(
     list: &mut SharedList<u64>,
     changes: Vec<(u64, u64)>,
     steps: &mut Steps<L>,
@@ -143,7 +143,7 @@ fn many_set<L: Ledger>(alloc: Global, blank: Blank) -> Result<Root, NoMemory>
     let items = vec![in alloc; 1, 2, 3, 4, 5]?;
     let mut list = SharedList::<u64>::from_vec(items, 1 << 40)?;
     let mut steps = Steps::<L>::new(blank);
-    set_three(&mut list, changes, &mut steps)
+    set_some(&mut list, changes, &mut steps)
 }
 
 #[test]
@@ -152,6 +152,41 @@ fn many_items_are_set(rt: HostRuntime) -> Result<(), Fail> {
     assert_eq!(rt;
         root,
         mix_in_length(&merkle_leaves(&[6u64, 2, 3, 7, 8], 40), 5)
+    );
+    Ok(())
+}
+
+fn nine_set<L: Ledger>(alloc: Global, blank: Blank) -> Result<Root, NoMemory>
+    requires name { blank.name ≡ L.name }
+    requires parts { blank.parts ≡ L.parts }
+    requires some { 0 < blank.parts }
+{
+    let changes = vec![in alloc;
+        (0, 20),
+        (1, 21),
+        (2, 22),
+        (4, 23),
+        (5, 24),
+        (6, 25),
+        (9, 26),
+        (10, 27),
+        (11, 28),
+    ]?;
+    let items = vec![in alloc; 1, 2, 3, 4, 5, 6, 7, 8, 9, 10, 11, 12, 13]?;
+    let mut list = SharedList::<u64>::from_vec(items, 1 << 40)?;
+    let mut steps = Steps::<L>::new(blank);
+    set_some(&mut list, changes, &mut steps)
+}
+
+#[test]
+fn so_many_items_are_set_that_layers_are_hashed(rt: HostRuntime) -> Result<(), Fail> {
+    let root = nine_set::<Brand>(rt.alloc(), Blank::new(1))?;
+    assert_eq!(rt;
+        root,
+        mix_in_length(
+            &merkle_leaves(&[20u64, 21, 22, 4, 23, 24, 25, 8, 9, 26, 27, 28, 13], 40),
+            13
+        )
     );
     Ok(())
 }

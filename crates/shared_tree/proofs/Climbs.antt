@@ -24,6 +24,13 @@ drop_next (x ∷ xs) (suc k) y ys e =
     let more : suc k + 1 ≡ suc (k + 1) = omega arith in
     ap (λ (n : ℕ). drop n (x ∷ xs)) more ∙ drop_next xs k y ys e
 
+pub drop_at : {A : Type 0} (xs : List A) (k : ℕ) (d : A) → k < length xs → drop k xs ≡ slice_index_or xs k d ∷ drop (k + 1) xs
+drop_at [] k d low = absurd (omega arith)
+drop_at (x ∷ xs) zero d low = refl
+drop_at (x ∷ xs) (suc k) d low =
+    let more : suc k + 1 ≡ suc (k + 1) = omega arith in
+    drop_at xs k d (omega arith) ∙ ap (λ (n : ℕ). slice_index_or xs k d ∷ drop n (x ∷ xs)) (sym more)
+
 -- a slice that was written whole
 pub written_back : {A : Type 0} (n : ℕ) (xs ys : List A) → length xs ≡ n → length ys ≡ n → take n (xs ++ drop (length xs) ys) ≡ xs
 written_back n xs ys new old =
@@ -53,24 +60,49 @@ module _ {A : Type 0} where
   leaves_layer [] = tt
   leaves_layer (x ∷ xs) = (refl, omega arith, (λ some. omega arith), leaves_layer xs)
 
-  pub leaf_roots : (root_of : A → List ℕ) (xs : List A) → node_roots root_of (leaves xs) ≡ map root_of xs
-  unfolding leaves node_roots merkle_root
-  leaf_roots root_of [] = refl
-  leaf_roots root_of (x ∷ xs) = ap (λ (r : List (List ℕ)). root_of x ∷ r) (leaf_roots root_of xs)
-
   pub length_roots : (root_of : A → List ℕ) (nodes : List (ℕ × List A)) → length (node_roots root_of nodes) ≡ length nodes
   unfolding node_roots
   length_roots root_of nodes = length-map nodes (λ (n : ℕ × List A). merkle_root n.0 (map root_of n.1))
 
+  pub leaves_append : (xs ys : List A) → leaves (xs ++ ys) ≡ leaves xs ++ leaves ys
+  unfolding leaves
+  leaves_append [] ys = refl
+  leaves_append (x ∷ xs) ys = ap (λ (r : List (ℕ × List A)). (0, x ∷ []) ∷ r) (leaves_append xs ys)
+
   -- one more leaf
-  pub leaf_more : (front : List (ℕ × List A)) (x : A) (xs all : List A) → front ++ leaves (x ∷ xs) ≡ leaves all → (front ++ (0, x ∷ []) ∷ []) ++ leaves xs ≡ leaves all
+  pub leaf_more : (front : List (ℕ × List A)) (x : A) (xs : List A) (all : List (ℕ × List A)) → front ++ leaves (x ∷ xs) ≡ all → (front ++ (0, x ∷ []) ∷ []) ++ leaves xs ≡ all
   unfolding leaves
   leaf_more front x xs all h = append_assoc front ((0, x ∷ []) ∷ []) (leaves xs) ∙ h
 
-  pub leaf_all : (front : List (ℕ × List A)) (xs all : List A) → length xs ≡ 0 → front ++ leaves xs ≡ leaves all → front ≡ leaves all
+  pub leaf_all : (front : List (ℕ × List A)) (xs : List A) (all : List (ℕ × List A)) → length xs ≡ 0 → front ++ leaves xs ≡ all → front ≡ all
   unfolding leaves
   leaf_all front [] all none h = sym (append-nil front) ∙ h
   leaf_all front (x ∷ xs) all none h = absurd (omega arith)
+
+  -- a batch of items
+  pub taken_more : (front now : List A) (x : A) (rest next all : List A) → rest ≡ x ∷ next → now ≡ front ++ x ∷ [] → front ++ rest ≡ all → now ++ next ≡ all
+  taken_more front now x rest next all first push made =
+      ap (λ (xs : List A). xs ++ next) push ∙ (append_assoc front (x ∷ []) next ∙ (ap (λ (xs : List A). front ++ xs) (sym first) ∙ made))
+
+  pub batch_more : (front now : List (ℕ × List A)) (batch rest next : List A) (all : List (ℕ × List A)) → batch ++ next ≡ rest → now ≡ front ++ leaves batch → front ++ leaves rest ≡ all → now ++ leaves next ≡ all
+  batch_more front now batch rest next all taken added made =
+      ap (λ (ns : List (ℕ × List A)). ns ++ leaves next) added
+      ∙ (append_assoc front (leaves batch) (leaves next)
+      ∙ (ap (λ (ns : List (ℕ × List A)). front ++ ns) (sym (leaves_append batch next) ∙ ap (λ (xs : List A). leaves xs) taken) ∙ made))
+
+  -- one more root
+  pub root_more : (root_of : A → List ℕ) (nodes : List (ℕ × List A)) (k : ℕ) (roots now : List (List ℕ)) (root : List ℕ) (node : ℕ × List A) → k < length nodes → node ≡ slice_index_or nodes k node → root ≡ merkle_root node.0 (map root_of node.1) → now ≡ roots ++ root ∷ [] → roots ++ node_roots root_of (drop k nodes) ≡ node_roots root_of nodes → now ++ node_roots root_of (drop (k + 1) nodes) ≡ node_roots root_of nodes
+  unfolding node_roots
+  root_more root_of nodes k roots now root node low at is push made =
+      ap (λ (rs : List (List ℕ)). rs ++ node_roots root_of (drop (k + 1) nodes)) push
+      ∙ (append_assoc roots (root ∷ []) (node_roots root_of (drop (k + 1) nodes))
+      ∙ (ap (λ (r : List ℕ). roots ++ r ∷ node_roots root_of (drop (k + 1) nodes)) is
+      ∙ (ap (λ (ns : List (ℕ × List A)). roots ++ node_roots root_of ns) (ap (λ (n : ℕ × List A). n ∷ drop (k + 1) nodes) at ∙ sym (drop_at nodes k node low)) ∙ made)))
+
+  pub root_all : (root_of : A → List ℕ) (nodes : List (ℕ × List A)) (k : ℕ) (roots : List (List ℕ)) → length nodes ≤ k → roots ++ node_roots root_of (drop k nodes) ≡ node_roots root_of nodes → roots ≡ node_roots root_of nodes
+  unfolding node_roots
+  root_all root_of nodes k roots all made =
+      sym (append-nil roots) ∙ (ap (λ (ns : List (ℕ × List A)). roots ++ node_roots root_of ns) (sym (drop_all k nodes all)) ∙ made)
 
   -- a node without items
   pub held_absent : (depth : ℕ) (nodes : List (ℕ × List A)) → held (nodes ++ (depth, []) ∷ []) ≡ held nodes

@@ -9,3 +9,4 @@ pub mod Walks
 pub mod ChunkChanges
 pub mod Climbs
 pub mod Every
+pub mod Plans

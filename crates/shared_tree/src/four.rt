@@ -2,7 +2,7 @@
 //!
 //! Numbers come from `packed_list`, and the tree takes the chunks.
 
-ghost use Rattle.std.specs.Prelude.{◌≡◌, ℕ, ◌+◌, ◌*◌, ◌/◌, ◌<◌, ◌≤◌, List, length, get_or, slice_get, slice_set, Some, IfOk};
+ghost use Rattle.std.specs.Prelude.{◌≡◌, ℕ, ◌+◌, ◌*◌, ◌/◌, ◌<◌, ◌≤◌, ◌∷◌, List, length, get_or, slice_get, slice_set, Some, IfOk};
 ghost use Rattle.std.specs.List.{AllByRecursion};
 ghost use Rattle.hash_tree.specs.Merkle.{merkle_root, u64_chunks};
 ghost use Rattle.ssz_codec.specs.Basic.{uint64};
@@ -56,6 +56,13 @@ impl Four {
         ensures { slice_get self.now.numbers place ≡ Some result }
     {
         self.numbers[place as usize]
+    }
+
+    /// The first number, and those behind it.
+    pub(crate) fn split(&self) -> (u64, &[u64])
+        ensures { result.0 ∷ result.1.now ≡ self.now.numbers }
+    {
+        (self.numbers[0], &self.numbers[1..])
     }
 
     /// The chunk with another number at a place.

@@ -1,109 +1,99 @@
 //! The items of a tree in order.
 //!
-//! A walk holds the block of eight leaves in which it stands, and finds the next block from the first node of the tree, so
-//! that most items are found by three steps. It takes no memory.
+//! A walk keeps its path: the nodes that are still to be visited, of which there is one for each level at most, so that each
+//! node of the tree is visited once. It takes no memory.
 
-ghost use Rattle.std.specs.Prelude.{◌≡◌, ℕ, ◌+◌, ◌-◌, ◌<◌, ◌≤◌, ◌^◌, List, length, drop};
+ghost use Rattle.std.specs.Prelude.{◌≡◌, ◌-◌, ◌<◌, ◌≤◌, ◌∷◌, length};
 ghost use Rattle.std.specs.Iterator.{YieldsFirstRef, item_count};
-ghost use Rattle.shared_tree.specs.inside.Walks.{IsBlock};
+ghost use Rattle.shared_tree.specs.inside.Walks.{IsPath, Enters, Joins, ahead, waiting};
 
-use crate::build::leaves_of;
-use crate::find::find;
-use crate::node::{Kind, Node, half_width};
+use crate::node::{Kind, Node};
 use hash_tree::Leaf;
 use std::marker::Model;
 
-/// The depth of a block.
-const BLOCK_DEPTH: u32 = 3;
+/// How many nodes a path has room for: the first, and one for each level.
+const ROOM: usize = 41;
 
 /// The items of a list in order. Contracts see what is left of them.
 #[derive(Drop)]
 pub struct Iter<'a, T: Leaf + Drop> {
-    root: &'a Node<T>,
-    low: u32,
-    len: u64,
-    at: u64,
-    block: &'a Node<T>,
-    depth: u32,
-    first: u64,
+    path: [&'a Node<T>; ROOM],
+    from: usize,
 }
 
 impl<'a, T: Leaf + Drop> Model for Iter<'a, T> {
-    ghost use Rattle.std.specs.Prelude.{List, drop};
+    ghost use Rattle.std.specs.Prelude.{List};
 
     ghost Value = { List T };
 
-    ghost use Rattle.shared_tree.specs.inside.Walks.{IsWalk};
+    ghost use Rattle.shared_tree.specs.inside.Walks.{IsPath, ahead, waiting};
 
-    ghost view = { λ walk. drop walk.at walk.root.now.1 };
+    ghost view = { λ walk. waiting walk.from walk.path };
 
-    ghost invariant = { λ walk. IsWalk walk.root.now walk.block.now walk.low walk.len walk.at walk.depth walk.first };
+    ghost invariant = { λ walk. IsPath walk.from (ahead walk.from walk.path) };
 }
 
-/// The block with the leaf at a place, its depth and its first place.
-fn block_at<T: Leaf + Drop>(node: &Node<T>, depth: u32, at: u64) -> (&Node<T>, u32, u64)
-    requires same { depth ≡ node.now.0 }
-    requires low { depth ≤ 40 }
-    requires room { at < 2 ^ depth }
-    ensures block { IsBlock node.now.1 result.0.now result.1 result.2 }
-    ensures begun { result.2 ≤ at }
-    ensures holds { at < result.2 + 2 ^ result.1 }
-    ensures inside { result.2 + 2 ^ result.1 ≤ 2 ^ depth }
+/// Puts a node on the path, before the others.
+fn lay<'a, T: Leaf + Drop>(path: &mut [&'a Node<T>], from: usize, node: &'a Node<T>)
+    requires room { length path.old ≡ 41 }
+    requires some { 0 < from }
+    requires begun { from ≤ 41 }
+    ensures room { length path.new ≡ 41 }
+    ensures laid { ahead (from - 1) path.new ≡ node.now ∷ ahead from path.old }
 {
-    let Kind::Pair(pair) = &node.kind else {
-        return (node, depth, 0);
-    };
-    if depth <= BLOCK_DEPTH {
-        return (node, depth, 0);
-    }
-    let half = half_width(depth);
-    if at < half {
-        return block_at(&pair.left, depth - 1, at);
-    }
-    let (block, lower, first) = block_at(&pair.right, depth - 1, at - half);
-    (block, lower, first + half)
+    path[from - 1] = node;
 }
 
-/// The block with the leaf at a place: the one that is held, where it has it.
-fn block_for<'a, T: Leaf + Drop>(
-    held: (&'a Node<T>, u32, u64),
-    root: &'a Node<T>,
-    low: u32,
-    at: u64,
-) -> (&'a Node<T>, u32, u64)
-    requires held { IsBlock root.now.1 held.0.now held.1 held.2 }
-    requires begun { held.2 ≤ at }
-    requires same { low ≡ root.now.0 }
-    requires deep { low ≤ 40 }
-    requires room { at < 2 ^ low }
-    ensures block { IsBlock root.now.1 result.0.now result.1 result.2 }
-    ensures begun { result.2 ≤ at }
-    ensures holds { at < result.2 + 2 ^ result.1 }
+/// The first item of a node, which is before those of the path. The nodes behind it are put on the path, whose new first
+/// place goes with it.
+fn enter<'a, T: Leaf + Drop>(
+    node: &'a Node<T>,
+    path: &mut [&'a Node<T>],
+    from: usize,
+) -> (Option<&'a T>, usize)
+    requires room { length path.old ≡ 41 }
+    requires begun { from ≤ 41 }
+    requires low { node.now.0 ≤ from }
+    requires joins { Joins node.now (ahead from path.old) }
+    requires path { IsPath from (ahead from path.old) }
+    ensures room { length path.new ≡ 41 }
+    ensures path { IsPath result.1 (ahead result.1 path.new) }
+    ensures enters { Enters result.0 node.now.1 (waiting from path.old) (waiting result.1 path.new) }
 {
-    let (block, depth, first) = held;
-    if depth <= BLOCK_DEPTH && at - first < leaves_of(depth) {
-        return (block, depth, first);
+    match &node.kind {
+        Kind::Absent(_) => (None, from),
+        Kind::Item(leaf) => (Some(&leaf.item), from),
+        Kind::Pair(pair) => {
+            lay(path, from, &pair.right);
+            enter(&pair.left, path, from - 1)
+        }
     }
-    block_at(root, low, at)
+}
+
+/// The first item of the nodes of the path, whose new first place goes with it. None exactly where they have none.
+fn first<'a, T: Leaf + Drop>(path: &mut [&'a Node<T>], from: usize) -> (Option<&'a T>, usize)
+    requires room { length path.old ≡ 41 }
+    requires path { IsPath from (ahead from path.old) }
+    ensures room { length path.new ≡ 41 }
+    ensures path { IsPath result.1 (ahead result.1 path.new) }
+    ensures gives { YieldsFirstRef (λ left. left) (waiting from path.old) result.0 (waiting result.1 path.new) }
+{
+    if from >= ROOM {
+        return (None, from);
+    }
+    let node = path[from];
+    enter(node, path, from + 1)
 }
 
 impl<'a, T: Leaf + Drop> Iter<'a, T> {
     /// The items of a tree.
-    pub(crate) fn over(root: &'a Node<T>, low: u32, len: u64) -> Iter<'a, T>
-        requires same { low ≡ root.now.0 }
-        requires deep { low ≤ 40 }
-        requires len { len ≡ length root.now.1 }
-        requires fits { len ≤ 2 ^ low }
+    pub(crate) fn over(root: &'a Node<T>) -> Iter<'a, T>
+        requires { root.now.0 ≤ 40 }
         ensures { result ≡ root.now.1 }
     {
         Iter {
-            root,
-            low,
-            len,
-            at: 0,
-            block: root,
-            depth: low,
-            first: 0,
+            path: [root; ROOM],
+            from: ROOM - 1,
         }
     }
 }
@@ -116,18 +106,9 @@ impl<'a, T: Leaf + Drop> Iterator for Iter<'a, T> {
     ghost remaining = { item_count (λ left. left) };
 
     fn next(&mut self) -> Option<&'a T> {
-        if self.at >= self.len {
-            return None;
-        }
-        let held = (self.block, self.depth, self.first);
-        let (block, depth, first) = block_for(held, self.root, self.low, self.at);
-        let Some(item) = find(block, depth, self.at - first) else {
-            unreachable!();
-        };
-        self.block = block;
-        self.depth = depth;
-        self.first = first;
-        self.at += 1;
-        Some(item)
+        let begin = self.from;
+        let (item, from) = first(&mut self.path, begin);
+        self.from = from;
+        item
     }
 }

@@ -3,7 +3,8 @@
 //! Items come from `tree`. The parents of a whole layer are hashed by one call over its roots, and the nodes above are made
 //! with the roots that they have.
 
-ghost use Rattle.std.specs.Prelude.{◌≡◌, ℕ, suc, ◌+◌, ◌*◌, ◌/◌, ◌<◌, ◌≤◌, ◌^◌, length, map, IfOk, OnOk};
+ghost use Rattle.std.specs.Prelude.{◌≡◌, ℕ, suc, ◌+◌, ◌*◌, ◌/◌, ◌<◌, ◌≤◌, ◌^◌, ◌++◌, length, map, IfOk, OnOk};
+ghost use Rattle.std.specs.Vec.Iter.{into_iter_items};
 ghost use Rattle.pair_lanes.specs.Pairs.{parents};
 ghost use Rattle.shared_tree.specs.inside.Layers.{leaves, held, paired, node_roots, IsLayer, ArePaired};
 
@@ -14,17 +15,41 @@ use hash_tree::{Leaf, Root, zero_hash};
 use std::alloc::Global;
 use std::marker::Brand;
 use std::sync::ledger::{Blank, Ledger};
+use std::vec::IntoIter;
 
-/// The leaves of the items, whose roots are known.
-fn leaf_nodes<T: Leaf + Drop>(
+/// How many items are made leaves at a time, so that what is beside items and leaves is small.
+const BATCH: usize = 64;
+
+/// The next of the items that are left, so many as are wanted.
+fn take_items<T: Drop>(
+    rest: &mut IntoIter<T, Global>,
+    count: usize,
+    alloc: Global,
+) -> Result<Vec<T>, NoMemory>
+    requires { count ≤ length (into_iter_items rest.old) }
+    ensures taken { IfOk result (λ batch. batch.items ++ into_iter_items rest.new ≡ into_iter_items rest.old) }
+    ensures count { IfOk result (λ batch. length batch.items ≡ count) }
+{
+    let mut batch = Vec::with_capacity(alloc, count)?;
+    'items: for k in 0..count {
+        match rest.next() {
+            Some(item) => batch.push(item)?,
+            None => unreachable!(),
+        }
+    }
+    Ok(batch)
+}
+
+/// Puts the leaves of the items, whose roots are known, behind the nodes.
+fn add_leaves<T: Leaf + Drop>(
+    nodes: &mut Vec<Node<T>>,
     items: Vec<T>,
     roots: &[Root],
     alloc: Global,
-) -> Result<Vec<Node<T>>, NoMemory>
+) -> Result<(), NoMemory>
     requires { roots.now ≡ map T.root_of items.items }
-    ensures { IfOk result (λ nodes. nodes.items ≡ leaves items.items) }
+    ensures { OnOk result (nodes.new.items ≡ nodes.old.items ++ leaves items.items) }
 {
-    let mut nodes = Vec::with_capacity(alloc, roots.len())?;
     let mut rest = items.into_iter();
     'leaves: for k in 0..roots.len() {
         match rest.next() {
@@ -32,11 +57,54 @@ fn leaf_nodes<T: Leaf + Drop>(
             None => unreachable!(),
         }
     }
+    Ok(())
+}
+
+/// Puts the leaves of the items behind the nodes. Roots are made side by side.
+fn add_batch<T: Leaf + Drop>(
+    nodes: &mut Vec<Node<T>>,
+    items: Vec<T>,
+    alloc: Global,
+) -> Result<(), NoMemory>
+    ensures { OnOk result (nodes.new.items ≡ nodes.old.items ++ leaves items.items) }
+{
+    let mut roots = vec![in alloc; [0u8; 32]; items.len()]?;
+    T::write_roots(&items, &mut roots);
+    add_leaves(nodes, items, &roots, alloc)
+}
+
+/// The leaves of the items. Each batch of items is given up as its leaves are made.
+fn leaf_nodes<T: Leaf + Drop>(items: Vec<T>, alloc: Global) -> Result<Vec<Node<T>>, NoMemory>
+    ensures { IfOk result (λ nodes. nodes.items ≡ leaves items.items) }
+{
+    let mut left = items.len();
+    let mut nodes = Vec::with_capacity(alloc, left)?;
+    let mut rest = items.into_iter();
+    'batches: while left > 0 {
+        let count = left.min(BATCH);
+        let batch = take_items(&mut rest, count, alloc)?;
+        add_batch(&mut nodes, batch, alloc)?;
+        left -= count;
+    }
     Ok(nodes)
 }
 
+/// The roots of the nodes, each of which is kept.
+pub(crate) fn roots_of<T: Leaf + Drop>(
+    nodes: &[Node<T>],
+    alloc: Global,
+) -> Result<Vec<Root>, NoMemory>
+    ensures { IfOk result (λ roots. roots.items ≡ node_roots T.root_of nodes.now) }
+{
+    let mut roots = Vec::with_capacity(alloc, nodes.len())?;
+    'roots: for k in 0..nodes.len() {
+        roots.push(nodes[k].root())?;
+    }
+    Ok(roots)
+}
+
 /// The trees over two nodes each, whose roots are known.
-fn join<T: Leaf + Drop>(
+pub(crate) fn join<T: Leaf + Drop>(
     nodes: Vec<Node<T>>,
     above: &[Root],
     alloc: Global,
@@ -118,9 +186,8 @@ pub(crate) fn layered<T: Leaf + Drop, L: Ledger>(
     ensures work { steps.new ≤ steps.old + length items.items * depth }
     ensures nodes { steps.new + 1 ≤ steps.old + 2 ^ depth }
 {
-    let mut roots = vec![in alloc; [0u8; 32]; items.len()]?;
-    T::write_roots(&items, &mut roots);
-    let mut nodes = leaf_nodes(items, &roots, alloc)?;
+    let mut nodes = leaf_nodes(items, alloc)?;
+    let mut roots = roots_of(&nodes, alloc)?;
     'layers: for level in 0..depth {
         nodes = climb(nodes, &mut roots, level, alloc, steps)?;
     }

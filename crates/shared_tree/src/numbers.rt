@@ -1,61 +1,57 @@
 //! The numbers of a list in order.
 //!
-//! A walk holds the chunk in which it stands, so that one of four numbers is looked for. It takes no memory.
+//! A walk over the chunks holds what is left of the one in which it stands. It takes no memory.
 
-ghost use Rattle.std.specs.Prelude.{◌≡◌, ℕ, ◌+◌, ◌/◌, ◌%◌, ◌<◌, ◌≤◌, length, slice_get, Some};
+ghost use Rattle.std.specs.Prelude.{◌≡◌};
 ghost use Rattle.std.specs.Iterator.{YieldsFirst, item_count};
-ghost use Rattle.shared_tree.specs.inside.Fours.{packed, numbers_in};
+ghost use Rattle.shared_tree.specs.inside.Fours.{numbers_in};
+ghost use Rattle.shared_tree.specs.inside.Walks.{Turns};
 
-use crate::four::{Four, chunk_at};
+use crate::four::Four;
+use crate::iter::Iter;
 use crate::tree::Tree;
 use std::marker::Model;
 
 /// The numbers of a list in order. Contracts see what is left of them.
 #[derive(Drop)]
 pub struct Numbers<'a> {
-    tree: &'a Tree<Four>,
-    len: u64,
-    at: u64,
-    four: Four,
+    chunks: Iter<'a, Four>,
+    left: u64,
+    rest: &'a [u64],
 }
 
 impl<'a> Model for Numbers<'a> {
-    ghost use Rattle.std.specs.Prelude.{ℕ, List, drop};
+    ghost use Rattle.std.specs.Prelude.{ℕ, List};
 
     ghost Value = { List ℕ };
 
-    ghost use Rattle.shared_tree.specs.inside.Fours.{numbers_in};
-    ghost use Rattle.shared_tree.specs.inside.Walks.{IsCount};
+    ghost use Rattle.shared_tree.specs.inside.Walks.{numbers_left};
 
-    ghost view = { λ walk. drop walk.at (numbers_in walk.len walk.tree.now.1) };
-
-    ghost invariant = { λ walk. IsCount walk.tree.now.1 walk.len walk.at walk.four };
+    ghost view = { λ walk. numbers_left walk.left walk.rest.now walk.chunks };
 }
 
-/// The chunk of the number at a place: the one that is held, where it is not the first of its chunk.
-fn chunk_for(held: Four, tree: &Tree<Four>, at: u64) -> Four
-    requires held { 0 < at % 4 → slice_get tree.now.1 (at / 4) ≡ Some held }
-    requires within { at / 4 < length tree.now.1 }
-    ensures { slice_get tree.now.1 (at / 4) ≡ Some result }
+/// The next number, and those behind it in its chunk.
+fn step<'a>(rest: &'a [u64], chunks: &mut Iter<'a, Four>) -> Option<(u64, &'a [u64])>
+    ensures { Turns rest.now chunks.old result chunks.new }
 {
-    if at % 4 > 0 {
-        return held;
+    if let Some((number, rest)) = rest.split_first() {
+        return Some((*number, rest));
     }
-    chunk_at(tree, at / 4)
+    match chunks.next() {
+        Some(four) => Some(four.split()),
+        None => None,
+    }
 }
 
 impl<'a> Numbers<'a> {
-    /// The numbers in the chunks of a tree.
+    /// The first numbers in the chunks of a tree.
     pub(crate) fn over(tree: &'a Tree<Four>, len: u64) -> Numbers<'a>
-        requires len_is { len ≡ length (numbers_in len tree.now.1) }
-        requires packs { tree.now.1 ≡ packed (numbers_in len tree.now.1) }
         ensures { result ≡ numbers_in len tree.now.1 }
     {
         Numbers {
-            tree,
-            len,
-            at: 0,
-            four: Four::first(&[]),
+            chunks: tree.iter(),
+            left: len,
+            rest: &[],
         }
     }
 }
@@ -68,13 +64,13 @@ impl<'a> Iterator for Numbers<'a> {
     ghost remaining = { item_count (λ left. left) };
 
     fn next(&mut self) -> Option<u64> {
-        if self.at >= self.len {
+        if self.left == 0 {
             return None;
         }
-        let four = chunk_for(self.four, self.tree, self.at);
-        let number = four.get(self.at % 4);
-        self.four = four;
-        self.at += 1;
+        let rest = self.rest;
+        let (number, rest) = step(rest, &mut self.chunks)?;
+        self.rest = rest;
+        self.left -= 1;
         Some(number)
     }
 }

@@ -92,6 +92,7 @@ impl PackedList {
     {
         let len = items.len() as u64;
         let fours = pack(*items.allocator(), &items)?;
+        drop(items);
         let tree = Tree::of(fours, depth_of(chunk_limit(limit)))?;
         let root = mix_in_length(&tree.top(), len);
         Ok(PackedList {
@@ -238,7 +239,8 @@ impl PackedList {
 
     /// The numbers in order. An iterator is seen as what is left of them.
     pub fn iter(&self) -> Numbers<'_>
-        ensures { result ≡ self.now.items }
+        ensures items { result ≡ self.now.items }
+        ensures few { length result ≤ 2 ^ 40 }
     {
         Numbers::over(&self.tree, self.len)
     }

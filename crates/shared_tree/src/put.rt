@@ -1,7 +1,7 @@
 //! A tree like another one with one item changed, or with one more.
 //!
 //! The nodes of one path are made anew, and all others are shared. Where every item changes, the tree is built layer by
-//! layer.
+//! layer, and where many do, their pairs are hashed layer by layer.
 
 ghost use Rattle.std.specs.Prelude.{◌≡◌, ◌+◌, ◌*◌, ◌<◌, ◌≤◌, ◌^◌, length, map, IfOk, OnOk};
 ghost use Rattle.shared_tree.specs.Lists.{AreChanges, changed};
@@ -10,11 +10,16 @@ ghost use Rattle.shared_tree.specs.inside.Puts.{put_at, Grows, before, changed_i
 use crate::build::leaves_of;
 use crate::layers::layered;
 use crate::node::{Node, half_width};
+use crate::plan::plan_many;
+use crate::several::settle_one;
 use crate::work::pair_step;
 use bc_words::{NoMemory, Steps};
 use hash_tree::Leaf;
 use std::alloc::Global;
 use std::sync::ledger::Ledger;
+
+/// From how many changes on the pairs of a layer are hashed by one call: so many are hashed side by side.
+const LANES: usize = 8;
 
 /// The tree with the item at a place: in the place of the one that is there, or behind the last. A step for each level.
 pub(crate) fn put<T: Leaf + Drop, L: Ledger>(
@@ -131,7 +136,8 @@ pub(crate) fn new_items<T: Drop>(changes: Vec<(u64, T)>, alloc: Global) -> Resul
 }
 
 /// The tree with the changes made. Each node is made anew once: at most a step for each level and change, and no more than
-/// there are inner nodes. Where every item changes, the tree is built layer by layer.
+/// there are inner nodes. Where every item changes, the tree is built layer by layer, and where there are enough changes to hash
+/// side by side, the pairs of a layer are hashed by one call.
 pub(crate) fn put_all<T: Leaf + Drop, L: Ledger>(
     node: &Node<T>,
     depth: u32,
@@ -155,7 +161,11 @@ pub(crate) fn put_all<T: Leaf + Drop, L: Ledger>(
         return layered(items, depth, alloc, steps);
     }
     let mut changes = changes;
-    put_many(node, depth, 0, &mut changes, alloc, steps)
+    if changes.len() < LANES {
+        return put_many(node, depth, 0, &mut changes, alloc, steps);
+    }
+    let plan = plan_many(node, depth, 0, &mut changes, alloc)?;
+    settle_one(plan, depth, alloc, steps)
 }
 
 /// Whether the last change is at this place or behind.

@@ -138,7 +138,8 @@ impl<T: Leaf + Drop> SharedList<T> {
 
     /// The items in order. An iterator is seen as what is left of them.
     pub fn iter(&self) -> Iter<'_, T>
-        ensures { result ≡ self.now.items }
+        ensures items { result ≡ self.now.items }
+        ensures few { length result ≤ 2 ^ 40 }
     {
         self.tree.iter()
     }

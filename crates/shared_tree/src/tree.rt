@@ -161,7 +161,7 @@ impl<T: Leaf + Drop> Tree<T> {
     pub(crate) fn iter(&self) -> Iter<'_, T>
         ensures { result ≡ self.now.1 }
     {
-        Iter::over(&self.node, self.low, self.len)
+        Iter::over(&self.node)
     }
 
     /// An equal tree, whose nodes are those of this one.

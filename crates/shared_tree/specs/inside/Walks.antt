@@ -1,27 +1,41 @@
 -- Where a walk over a tree's items stands.
-use Rattle.std.specs.Prelude.{◌≡◌, ℕ, ◌+◌, ◌/◌, ◌%◌, ◌<◌, ◌≤◌, ◌^◌, List, length, slice_get, Some}
+use Rattle.std.specs.Prelude.{◌≡◌, ℕ, suc, ◌<◌, ◌≤◌, ◌^◌, List, [], ◌∷◌, ◌++◌, length, map, take, drop, Option, Some, None}
+use Rattle.std.specs.List.{flat_map}
+use Rattle.std.specs.Borrow.{Bor}
 use Rattle.shared_tree.specs.declared.four.Four.{Four}
-use Rattle.shared_tree.specs.inside.Fours.{packed, numbers_in}
+use Rattle.shared_tree.specs.inside.Layers.{held}
 
--- a node over those of the items that begin at a place
-pub record IsBlock {T : Type 0} (items : List T) (block : ℕ × List T) (depth first : ℕ) : Type 0 where
-  pub deep : depth ≡ block.0
-  pub low : depth ≤ 40
-  pub same : (i : ℕ) → i < 2 ^ depth → slice_get items (first + i) ≡ slice_get block.1 i
+-- the nodes of a path from a place on
+abbrev pub ahead : {T : Type 0} → ℕ → List (Bor (ℕ × List T)) → List (ℕ × List T)
+ahead from path = map (λ node. node.now) (drop from path)
 
--- the place is not behind the items, and not before the block that is held
-pub record IsWalk {T : Type 0} (root block : ℕ × List T) (low len at depth first : ℕ) : Type 0 where
-  pub root_depth : low ≡ root.0
-  pub root_low : low ≤ 40
-  pub len_is : len ≡ length root.1
-  pub fits : len ≤ 2 ^ low
-  pub at_within : at ≤ len
-  pub begun : first ≤ at
-  pub block_is : IsBlock root.1 block depth first
+-- their items
+abbrev pub waiting : {T : Type 0} → ℕ → List (Bor (ℕ × List T)) → List T
+waiting from path = held (ahead from path)
 
--- the place is not behind the numbers, and the chunk that is held is that of the place, where it is not the first of one
-pub record IsCount (fours : List Four) (len at : ℕ) (held : Four) : Type 0 where
-  pub len_is : len ≡ length (numbers_in len fours)
-  pub packs : fours ≡ packed (numbers_in len fours)
-  pub at_within : at ≤ len
-  pub holds : 0 < at % 4 → slice_get fours (at / 4) ≡ Some held
+-- the node is full where the nodes behind it have items
+abbrev pub Joins : {T : Type 0} → ℕ × List T → List (ℕ × List T) → Type 0
+Joins node nodes = 0 < length (held nodes) → length node.1 ≡ 2 ^ node.0
+
+-- nodes that join one another, of which there is room for what is in them before their places
+abbrev pub IsPath : {T : Type 0} → ℕ → List (ℕ × List T) → Type 0
+IsPath place [] = Unit {0}
+IsPath place (node ∷ nodes) = (node.0 ≤ place) × Joins node nodes × IsPath (suc place) nodes
+
+-- the first of a node's items, with what is behind it in front of what was there, or no item and what was there
+abbrev pub Enters : {T : Type 0} → Option (Bor T) → List T → List T → List T → Type 0
+Enters (Some item) items before now = items ++ before ≡ item.now ∷ now
+Enters None items before now = (items ≡ []) × (now ≡ before)
+
+-- the numbers that are left of a chunk, and those of the chunks behind it
+abbrev pub behind : List ℕ → List Four → List ℕ
+behind rest fours = rest ++ flat_map (λ f. f.numbers) fours
+
+-- so many of them
+abbrev pub numbers_left : ℕ → List ℕ → List Four → List ℕ
+numbers_left left rest fours = take left (behind rest fours)
+
+-- the first of the numbers with those behind it, or none where there are none
+abbrev pub Turns : List ℕ → List Four → Option (ℕ × Bor (List ℕ)) → List Four → Type 0
+Turns rest before (Some first) now = behind rest before ≡ first.0 ∷ behind first.1.now now
+Turns rest before None now = (behind rest before ≡ []) × (behind rest now ≡ [])

@@ -1,22 +1,18 @@
 -- From the leaves to the one node that holds all.
-use Rattle.std.proofs.Common.{◌≡◌, ℕ, suc, ◌+◌, List, length, map, ap, sym, subst, ◌∙◌, arith}
-use Rattle.std.proofs.lemmas.List.{length-map}
+use Rattle.std.proofs.Common.{◌≡◌, ℕ, suc, ◌+◌, List, length, ap, sym, subst, ◌∙◌, arith}
 use Rattle.shared_tree.specs.inside.Layers.{held, node_roots, IsLayer}
-use Rattle.shared_tree.proofs.Climbs.{length_leaves, held_leaves, leaves_layer, leaf_roots, written_back, whole_width, whole_left, width_left, level_more, last_of}
+use Rattle.shared_tree.proofs.Climbs.{length_leaves, held_leaves, leaves_layer, whole_width, whole_left, width_left, level_more, last_of}
 use Rattle.shared_tree.proofs.layers.layered.Goals as goal
 
 pub layers-init : goal.layers-init
 layers-init g c =
     let long = ap length c.in_ok-nodes.ensures ∙ length_leaves c.args.items.items in
-    let written = c.write_roots.ensures ∙ ap (λ (xs : List _). map g.T.Leaf.root_of xs) c.deref.ensures.value in
-    let roots_long = ap length written ∙ length-map c.args.items.items g.T.Leaf.root_of in
     let has = c.requires.some in
     let fits = c.requires.fits in
     record {
       upto = omega arith;
       layer = subst (λ (ns : List (ℕ × List _)). IsLayer 0 ns) (sym c.in_ok-nodes.ensures) (leaves_layer c.args.items.items);
-      roots = written_back c.in_ok-roots.roots.len c.write_roots.new.out c.in_ok-roots.roots.items (omega (arith, roots_long, c.len.ensures, c.in_ok-roots.ensures.len)) (omega (arith, c.in_ok-roots.ensures.len))
-          ∙ (written ∙ (sym (leaf_roots g.T.Leaf.root_of c.args.items.items) ∙ ap (λ (ns : List (ℕ × List _)). node_roots g.T.Leaf.root_of ns) (sym c.in_ok-nodes.ensures)));
+      roots = c.in_ok-roots.ensures ∙ ap (λ (ns : List (ℕ × List _)). node_roots g.T.Leaf.root_of ns) c.deref.ensures.value;
       all = ap (λ (ns : List (ℕ × List _)). held ns) c.in_ok-nodes.ensures ∙ held_leaves c.args.items.items;
       some = omega arith;
       few = omega arith;

@@ -1,22 +1,21 @@
--- One leaf more.
-use Rattle.std.proofs.Common.{ℕ, List, [], ◌∷◌, ◌++◌, length, map, ap, sym, ◌∙◌, arith, length-drop}
+-- One batch more.
+use Rattle.std.proofs.Common.{length, ap, arith, length-append}
 use Rattle.std.specs.Vec.Iter.{into_iter_items}
-use Rattle.std.proofs.lemmas.List.{length-map}
 use Rattle.shared_tree.specs.inside.Layers.{leaves}
-use Rattle.shared_tree.proofs.Climbs.{leaf_more, leaf_all, drop_next}
+use Rattle.shared_tree.proofs.Climbs.{leaf_all, batch_more}
 use Rattle.shared_tree.proofs.layers.leaf_nodes.Goals as goal
 
-pub leaves-preserved : goal.leaves-preserved
-leaves-preserved g c =
-    let rest = into_iter_items c.next.new.self in
-    let now = c.in_ok-push-in-Some.ensures.items ∙ ap (λ (n : ℕ × List _). c.leaves.nodes.items ++ n ∷ []) c.in_ok-known-in-Some.ensures in
+pub batches-preserved : goal.batches-preserved
+batches-preserved g c =
+    let taken = ap length c.in_ok-batch.ensures.taken in
+    let longer = length-append c.in_ok-batch.batch.items (into_iter_items c.take_items.new.rest) in
+    let count = c.in_ok-batch.ensures.count in
+    let left = c.batches.invariant.left_is in
     record {
-      made = ap (λ (ns : List (ℕ × List _)). ns ++ leaves (into_iter_items c.next.new.self)) now ∙ leaf_more c.leaves.nodes.items c.in-Some.item (into_iter_items c.next.new.self) c.args.items.items (ap (λ (xs : List _). c.leaves.nodes.items ++ leaves xs) (sym c.in-Some.ensures.items) ∙ c.leaves.invariant.made);
-      roots = drop_next c.args.roots.now c.leaves.k (g.T.Leaf.root_of c.in-Some.item) (map g.T.Leaf.root_of (into_iter_items c.next.new.self)) (c.leaves.invariant.roots ∙ ap (λ (xs : List _). map g.T.Leaf.root_of xs) c.in-Some.ensures.items);
+      made = batch_more c.batches.nodes.items c.add_batch.new.nodes.items c.in_ok-batch.batch.items (into_iter_items c.batches.rest) (into_iter_items c.take_items.new.rest) (leaves c.args.items.items) c.in_ok-batch.ensures.taken c.in_ok-add_batch.ensures c.batches.invariant.made;
+      left_is = omega arith;
     }
 
 pub returns : goal.returns
 returns g c =
-    leaf_all c.leaves.nodes.items (into_iter_items c.leaves.rest) c.args.items.items
-    (omega (arith, c.leaves-test.false, ap length c.leaves.invariant.roots, length-drop c.leaves.k c.args.roots.now, length-map (into_iter_items c.leaves.rest) g.T.Leaf.root_of))
-    c.leaves.invariant.made
+    leaf_all c.batches.nodes.items (into_iter_items c.batches.rest) (leaves c.args.items.items) (omega (arith, c.batches-test.false, c.batches.invariant.left_is)) c.batches.invariant.made

@@ -1,5 +1,5 @@
--- All items are new, or the changes are made from the last on.
-use Rattle.std.proofs.Common.{◌≡◌, List, length, subst, ◌∙◌, arith}
+-- All items are new, or the changes are made from the last on, or planned.
+use Rattle.std.proofs.Common.{◌≡◌, ℕ, List, length, ap, subst, ◌∙◌, arith}
 use Rattle.std.specs.Prelude.{IfOk}
 use Rattle.shared_tree.proofs.Every.{every_set}
 use Rattle.shared_tree.proofs.Keeps.{width_low}
@@ -17,6 +17,17 @@ put_many-requires-clause-within g c =
     let wide = width_low c.args.depth c.requires.low in
     omega arith
 
+pub returns-then-len-lt-LANES-clause-put : goal.returns-then-len-lt-LANES-clause-put
+returns-then-len-lt-LANES-clause-put g c =
+    subst (λ (xs : List _). IfOk c.put_many.result (λ new. new ≡ (c.args.depth, xs))) (changed_all c.args.node.now.1 c.args.changes.items) c.put_many.ensures.put
+
+pub plan_many-requires-clause-within : goal.plan_many-requires-clause-within
+plan_many-requires-clause-within g c =
+    let wide = width_low c.args.depth c.requires.low in
+    omega arith
+
 pub returns-clause-put : goal.returns-clause-put
 returns-clause-put g c =
-    subst (λ (xs : List _). IfOk c.put_many.result (λ new. new ≡ (c.args.depth, xs))) (changed_all c.args.node.now.1 c.args.changes.items) c.put_many.ensures.put
+    subst (λ (v : ℕ × List _). IfOk c.settle_one.result (λ new. new ≡ v))
+    (c.in_ok-plan.ensures.put ∙ ap (λ (xs : List _). (c.args.depth, xs)) (changed_all c.args.node.now.1 c.args.changes.items))
+    c.settle_one.ensures.made

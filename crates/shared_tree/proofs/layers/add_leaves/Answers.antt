@@ -1,0 +1,21 @@
+-- One leaf more.
+use Rattle.std.proofs.Common.{ℕ, List, [], ◌∷◌, ◌++◌, length, map, ap, sym, ◌∙◌, arith, length-drop}
+use Rattle.std.specs.Vec.Iter.{into_iter_items}
+use Rattle.std.proofs.lemmas.List.{length-map}
+use Rattle.shared_tree.specs.inside.Layers.{leaves}
+use Rattle.shared_tree.proofs.Climbs.{leaf_more, leaf_all, drop_next}
+use Rattle.shared_tree.proofs.layers.add_leaves.Goals as goal
+
+pub leaves-preserved : goal.leaves-preserved
+leaves-preserved g c =
+    let now = c.in_ok-push-in-Some.ensures.items ∙ ap (λ (n : ℕ × List _). c.leaves.nodes.items ++ n ∷ []) c.in_ok-known-in-Some.ensures in
+    record {
+      made = ap (λ (ns : List (ℕ × List _)). ns ++ leaves (into_iter_items c.next.new.self)) now ∙ leaf_more c.leaves.nodes.items c.in-Some.item (into_iter_items c.next.new.self) (c.args.nodes.now.items ++ leaves c.args.items.items) (ap (λ (xs : List _). c.leaves.nodes.items ++ leaves xs) (sym c.in-Some.ensures.items) ∙ c.leaves.invariant.made);
+      roots = drop_next c.args.roots.now c.leaves.k (g.T.Leaf.root_of c.in-Some.item) (map g.T.Leaf.root_of (into_iter_items c.next.new.self)) (c.leaves.invariant.roots ∙ ap (λ (xs : List _). map g.T.Leaf.root_of xs) c.in-Some.ensures.items);
+    }
+
+pub returns : goal.returns
+returns g c =
+    leaf_all c.leaves.nodes.items (into_iter_items c.leaves.rest) (c.args.nodes.now.items ++ leaves c.args.items.items)
+    (omega (arith, c.leaves-test.false, ap length c.leaves.invariant.roots, length-drop c.leaves.k c.args.roots.now, length-map (into_iter_items c.leaves.rest) g.T.Leaf.root_of))
+    c.leaves.invariant.made

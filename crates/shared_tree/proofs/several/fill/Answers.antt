@@ -1,0 +1,31 @@
+-- One spot more.
+use Rattle.std.proofs.Common.{length, ap, arith}
+use Rattle.std.specs.Vec.Iter.{into_iter_items}
+use Rattle.shared_tree.specs.inside.Plans.{gaps, filled}
+use Rattle.shared_tree.proofs.Plans.{gaps_first, fill_more, fill_all}
+use Rattle.shared_tree.proofs.several.fill.Goals as goal
+
+pub node_at-requires : goal.node_at-requires
+node_at-requires g c =
+    omega (arith, c.spots.invariant.fit, ap gaps c.in-Some.ensures.items, gaps_first c.in-Some.spot (into_iter_items c.next.new.self))
+
+pub spots-preserved : goal.spots-preserved
+spots-preserved g c =
+    let first = ap length c.in-Some.ensures.items in
+    let left = c.spots.invariant.left in
+    let fit = c.spots.invariant.fit in
+    let gap = ap gaps c.in-Some.ensures.items in
+    let one = gaps_first c.in-Some.spot (into_iter_items c.next.new.self) in
+    let count = c.node_at.ensures.count in
+    record {
+      made = fill_more c.spots.nodes.items c.push.new.self.items c.node_at.result c.in-Some.spot (into_iter_items c.spots.rest) (into_iter_items c.next.new.self) (into_iter_items c.spots.others) (into_iter_items c.node_at.new.others) (filled c.args.spots.items c.args.others.items) c.in-Some.ensures.items c.in_ok-push-in-Some.ensures.items (c.node_at.ensures.node (into_iter_items c.next.new.self)) c.spots.invariant.made;
+      fit = omega arith;
+      left = omega arith;
+    }
+
+pub returns : goal.returns
+returns g c =
+    let left = c.spots.invariant.left in
+    let test = c.spots-test.false in
+    let count = c.len-count.ensures in
+    fill_all c.spots.nodes.items (into_iter_items c.spots.rest) (into_iter_items c.spots.others) (filled c.args.spots.items c.args.others.items) (omega arith) c.spots.invariant.made

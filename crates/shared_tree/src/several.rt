@@ -1,0 +1,155 @@
+//! Plans of trees, whose pairs are hashed layer by layer.
+//!
+//! Plans come from `plan`. The pairs of a layer that change are hashed by one call, however far apart they are, and nodes that
+//! are there go between them into their places.
+
+ghost use Rattle.std.specs.Prelude.{◌≡◌, ℕ, ◌+◌, ◌*◌, ◌%◌, ◌≤◌, ◌∷◌, ◌++◌, [], List, Option, length, IfOk, OnOk};
+ghost use Rattle.std.specs.Vec.Iter.{into_iter_items};
+ghost use Rattle.shared_tree.specs.inside.Layers.{paired, ArePaired};
+ghost use Rattle.shared_tree.specs.inside.Plans.{trees, pairs, gaps, filled, AreDeep, AreOpen};
+
+use crate::layers::{join, roots_of};
+use crate::node::Node;
+use crate::plan::{Plan, Stage};
+use crate::work::layer_step;
+use bc_words::{NoMemory, Steps};
+use hash_tree::Leaf;
+use std::alloc::Global;
+use std::sync::ledger::Ledger;
+use std::vec::IntoIter;
+
+/// Puts a plan behind those that are open: its node, or a spot without one and the two halves of its pair.
+fn open_one<T: Leaf + Drop>(
+    plan: Plan<T>,
+    spots: &mut Vec<Option<Node<T>>>,
+    halves: &mut Vec<Plan<T>>,
+) -> Result<(), NoMemory>
+    ensures { OnOk result ((plans : List _) → AreOpen plans spots.old.items halves.old.items → AreOpen (plans ++ plan ∷ []) spots.new.items halves.new.items) }
+{
+    match plan.open() {
+        Stage::Made(node) => spots.push(Some(node))?,
+        Stage::Paired(pair) => {
+            let pair = Box::into_inner(pair);
+            halves.push(pair.left)?;
+            halves.push(pair.right)?;
+            spots.push(None)?;
+        }
+    }
+    Ok(())
+}
+
+/// The nodes of the plans that are there, and the halves of their pairs.
+fn open_all<T: Leaf + Drop>(
+    plans: Vec<Plan<T>>,
+    alloc: Global,
+) -> Result<(Vec<Option<Node<T>>>, Vec<Plan<T>>), NoMemory>
+    ensures { IfOk result (λ opened. AreOpen plans.items opened.0.items opened.1.items) }
+{
+    let count = plans.len();
+    let mut spots = Vec::with_capacity(alloc, count)?;
+    let mut halves = Vec::new(alloc);
+    let mut rest = plans.into_iter();
+    'plans: for k in 0..count {
+        match rest.next() {
+            Some(plan) => open_one(plan, &mut spots, &mut halves)?,
+            None => unreachable!(),
+        }
+    }
+    Ok((spots, halves))
+}
+
+/// The node of a spot, or the next of the others where it has none.
+fn node_at<T: Leaf + Drop>(spot: Option<Node<T>>, others: &mut IntoIter<Node<T>, Global>) -> Node<T>
+    requires { gaps (spot ∷ []) ≤ length (into_iter_items others.old) }
+    ensures node { (spots : List (Option _)) → filled (spot ∷ spots) (into_iter_items others.old) ≡ result ∷ filled spots (into_iter_items others.new) }
+    ensures count { length (into_iter_items others.old) ≡ gaps (spot ∷ []) + length (into_iter_items others.new) }
+{
+    match spot {
+        Some(node) => node,
+        None => match others.next() {
+            Some(node) => node,
+            None => unreachable!(),
+        },
+    }
+}
+
+/// The nodes of the spots, where those that have none are given the others in order.
+fn fill<T: Leaf + Drop>(
+    spots: Vec<Option<Node<T>>>,
+    others: Vec<Node<T>>,
+    alloc: Global,
+) -> Result<Vec<Node<T>>, NoMemory>
+    requires { gaps spots.items ≡ length others.items }
+    ensures { IfOk result (λ nodes. nodes.items ≡ filled spots.items others.items) }
+{
+    let count = spots.len();
+    let mut nodes = Vec::with_capacity(alloc, count)?;
+    let mut others = others.into_iter();
+    let mut rest = spots.into_iter();
+    'spots: for k in 0..count {
+        match rest.next() {
+            Some(spot) => nodes.push(node_at(spot, &mut others))?,
+            None => unreachable!(),
+        }
+    }
+    Ok(nodes)
+}
+
+/// The trees over two nodes each, which are hashed by one call. A step for each.
+fn join_step<T: Leaf + Drop, L: Ledger>(
+    nodes: Vec<Node<T>>,
+    alloc: Global,
+    steps: &mut Steps<L>,
+) -> Result<Vec<Node<T>>, NoMemory>
+    requires halves { ArePaired nodes.items }
+    requires even { length nodes.items % 2 ≡ 0 }
+    ensures joined { IfOk result (λ joined. joined.items ≡ paired nodes.items) }
+    ensures steps { 2 * steps.new ≤ 2 * steps.old + length nodes.items }
+{
+    let roots = roots_of(&nodes, alloc)?;
+    let mut above = vec![in alloc; [0u8; 32]; nodes.len() / 2]?;
+    layer_step(&roots, &mut above, steps);
+    join(nodes, &above, alloc)
+}
+
+/// The trees that the plans become, which are of this depth. A step for each of their pairs, and all pairs of a layer are
+/// hashed by one call.
+fn settle<T: Leaf + Drop, L: Ledger>(
+    plans: Vec<Plan<T>>,
+    depth: u32,
+    alloc: Global,
+    steps: &mut Steps<L>,
+) -> Result<Vec<Node<T>>, NoMemory>
+    requires { AreDeep depth plans.items }
+    ensures made { IfOk result (λ nodes. nodes.items ≡ trees plans.items) }
+    ensures steps { steps.new ≤ steps.old + pairs plans.items }
+{
+    let (spots, halves) = open_all(plans, alloc)?;
+    let count = halves.len();
+    if count == 0 {
+        return fill(spots, Vec::new(alloc), alloc);
+    }
+    let below = settle(halves, depth - 1, alloc, steps)?;
+    let joined = join_step(below, alloc, steps)?;
+    fill(spots, joined, alloc)
+}
+
+/// The tree that a plan becomes. A step for each of its pairs.
+pub(crate) fn settle_one<T: Leaf + Drop, L: Ledger>(
+    plan: Plan<T>,
+    depth: u32,
+    alloc: Global,
+    steps: &mut Steps<L>,
+) -> Result<Node<T>, NoMemory>
+    requires { plan.0.0 ≡ depth }
+    ensures made { IfOk result (λ node. node ≡ plan.0) }
+    ensures steps { steps.new ≤ steps.old + plan.1 }
+{
+    let mut plans = Vec::with_capacity(alloc, 1)?;
+    plans.push(plan)?;
+    let mut nodes = settle(plans, depth, alloc, steps)?;
+    match nodes.pop() {
+        Some(node) => Ok(node),
+        None => unreachable!(),
+    }
+}
