@@ -3,21 +3,13 @@
 ghost use Rattle.std.specs.Prelude.{◌≡◌, ◌^◌, ◌≤◌, IfOk};
 ghost use Rattle.bc_words.specs.Outcome.{Changes};
 ghost use Rattle.spec_state.specs.States.{attestations_limit};
-ghost use Rattle.beacon_types.specs.Equality.{same_checkpoint};
 ghost use Rattle.attest_ops.specs.inside.Pending.{full_or_empty, with_current_attested, with_previous_attested, with_attested, pending_of};
 
 use balance_totals::current_epoch;
 use bc_words::{NoMemory, Refusal, Stop};
 use beacon_body::Attestation;
 use beacon_state::State;
-use beacon_types::{Checkpoint, PendingAttestation};
-
-/// Whether the two are equal.
-fn same_checkpoint(a: &Checkpoint, b: &Checkpoint) -> bool
-    ensures { result ≡ same_checkpoint a.now b.now }
-{
-    a.epoch == b.epoch && a.root == b.root
-}
+use beacon_types::{PendingAttestation, same_checkpoint};
 
 /// How many attestations a list may have.
 #[tactic(auto, using(bc_preset::proofs::Bounds::preset_bounds))]

@@ -2,6 +2,7 @@
 
 ghost use Rattle.std.specs.Prelude.{◌≡◌, refl};
 ghost use Rattle.beacon_types.specs.Containers.{checkpoint_codec};
+ghost use Rattle.beacon_types.specs.Equality.{same_checkpoint};
 ghost use Rattle.beacon_types.specs.laws.Containers.{checkpoint_lawful, checkpoint_fixed};
 
 use bc_words::NoMemory;
@@ -18,6 +19,13 @@ pub struct Checkpoint {
     pub epoch: u64,
     /// The root of the block.
     pub root: Root,
+}
+
+/// Whether the two are equal.
+pub fn same_checkpoint(a: &Checkpoint, b: &Checkpoint) -> bool
+    ensures { result ≡ same_checkpoint a.now b.now }
+{
+    a.epoch == b.epoch && a.root == b.root
 }
 
 impl Leaf for Checkpoint {

@@ -22,7 +22,7 @@ mod voluntary_exit;
 
 pub use attestation_data::AttestationData;
 pub use block_header::BeaconBlockHeader;
-pub use checkpoint::Checkpoint;
+pub use checkpoint::{Checkpoint, same_checkpoint};
 pub use deposit::{Deposit, DepositProof, DepositProofLength};
 pub use deposit_data::DepositData;
 pub use eth1_data::Eth1Data;

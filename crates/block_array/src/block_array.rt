@@ -3,7 +3,7 @@
 //! The store above tells nodes, votes, balances, checkpoints and the boost. `apply` makes weights and the head, which `weight`
 //! and `head` then look up.
 
-ghost use Rattle.std.specs.Prelude.{◌≡◌, ◌+◌, ◌<◌, ◌≤◌, ◌^◌, ◌-◌, false, max, length, vec_capacity, IfSome, IfOk, IsOk};
+ghost use Rattle.std.specs.Prelude.{◌≡◌, ◌+◌, ◌<◌, ◌≤◌, ◌^◌, ◌-◌, false, length, vec_capacity, IfSome, IfOk, IsOk};
 ghost use Rattle.bc_words.specs.Outcome.{Becomes};
 ghost use Rattle.block_array.specs.PlainArray.{slot_at};
 ghost use Rattle.block_array.specs.Calls.{new_array, with_node, with_balances, with_checkpoints, with_boost, with_spare, made};
@@ -89,8 +89,8 @@ impl BlockArray {
     {
         grow_nodes(&mut self.inputs, &mut self.tally, &mut self.ranks)?;
         grow_validators(&mut self.inputs, &mut self.tally, validators)?;
-        let nodes = at_least(self.inputs.spare_nodes(), 1);
-        let voters = at_least(self.inputs.spare_validators(), validators);
+        let nodes = self.inputs.spare_nodes().max(1);
+        let voters = self.inputs.spare_validators().max(validators);
         self.inputs.set_spare(nodes, voters);
         Ok(())
     }
@@ -210,11 +210,4 @@ impl BlockArray {
         let node = self.inputs.justified_node();
         rank_at(&self.ranks, node as usize).descendant
     }
-}
-
-/// The greater one.
-fn at_least(a: u64, b: u64) -> u64
-    ensures { result ≡ max a b }
-{
-    if a < b { b } else { a }
 }

@@ -8,7 +8,6 @@ ghost use Rattle.block_array.specs.PlainArray.{root_at};
 ghost use Rattle.block_array.specs.FilterBlockTree.{agrees};
 ghost use Rattle.block_array.specs.GetHead.{is_greater_root, goes_before};
 ghost use Rattle.block_array.specs.GetLatestAttestingBalance.{get_latest_attesting_balance};
-ghost use Rattle.beacon_types.specs.Equality.{same_checkpoint};
 ghost use Rattle.block_array.specs.inside.Counts.{own_at};
 ghost use Rattle.block_array.specs.inside.Ranks.{rank_at, best_child, better_child, IsHeadFrom, IsCounted, IsRanked, IsMade, IsWeighed, AreFresh, CanGive, given};
 
@@ -17,7 +16,7 @@ use crate::node::Node;
 use crate::rank::{Rank, rank_at};
 use crate::tally::Tally;
 use bc_words::Steps;
-use beacon_types::Checkpoint;
+use beacon_types::same_checkpoint;
 use hash_tree::Root;
 use std::sync::ledger::Ledger;
 
@@ -117,13 +116,6 @@ fn better_child(inputs: &Inputs, ranks: &[Rank], number: u32, best: Option<u32>)
         }
         None => number,
     }
-}
-
-/// Whether the two are equal.
-fn same_checkpoint(a: &Checkpoint, b: &Checkpoint) -> bool
-    ensures { result ≡ same_checkpoint a.now b.now }
-{
-    a.epoch == b.epoch && a.root == b.root
 }
 
 /// Whether the state behind a node agrees on the justified and on the finalized checkpoint.

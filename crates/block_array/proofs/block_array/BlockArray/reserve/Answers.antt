@@ -19,10 +19,10 @@ invariant_of-self-2 c =
     let f = c.in_ok-grow_validators.ensures.tally_more in let h = c.in_ok-grow_validators.ensures.tally_room in
     let sn : c.spare_nodes.result ≡ c.self.inside.inputs.array.spare_nodes = c.spare_nodes.ensures.same ∙ ap (λ (a : PlainArray). a.spare_nodes) told in
     let sv : c.spare_validators.result ≡ c.self.inside.inputs.array.spare_validators = c.spare_validators.ensures.same ∙ ap (λ (a : PlainArray). a.spare_validators) told in
-    let mn : c.at_least-nodes.result ≡ max c.spare_nodes.result 1 = c.at_least-nodes.ensures in
-    let mv : c.at_least-voters.result ≡ max c.spare_validators.result c.args.validators = c.at_least-voters.ensures in
+    let mn : c.max-nodes.result ≡ max c.spare_nodes.result 1 = c.max-nodes.ensures in
+    let mv : c.max-voters.result ≡ max c.spare_validators.result c.args.validators = c.max-voters.ensures in
     subst (λ (t : PlainArray). IsArray t c.grow_validators.new.tally c.grow_nodes.new.ranks.items (vec_capacity c.grow_nodes.new.ranks))
-    (sym (ap (λ (h : Held). h.array) c.set_spare.ensures ∙ ap (λ (t : PlainArray). record t { spare_nodes = c.at_least-nodes.result; spare_validators = c.at_least-voters.result }) told))
-    (kept_spare c.self.inside.inputs.array c.grow_validators.new.tally c.grow_nodes.new.ranks.items (vec_capacity c.grow_nodes.new.ranks) c.at_least-nodes.result c.at_least-voters.result
+    (sym (ap (λ (h : Held). h.array) c.set_spare.ensures ∙ ap (λ (t : PlainArray). record t { spare_nodes = c.max-nodes.result; spare_validators = c.max-voters.result }) told))
+    (kept_spare c.self.inside.inputs.array c.grow_validators.new.tally c.grow_nodes.new.ranks.items (vec_capacity c.grow_nodes.new.ranks) c.max-nodes.result c.max-voters.result
     (kept_rooms c.self.inside.inputs.array c.self.inside.tally c.grow_validators.new.tally c.self.inside.ranks.items c.grow_nodes.new.ranks.items (vec_capacity c.self.inside.ranks) (vec_capacity c.grow_nodes.new.ranks) c.self.invariant c.in_ok-grow_nodes.ensures.ranks (ap (λ (x : Counts). x.validators) tally) (ap (λ (x : Counts). x.nodes) tally) (omega arith) (omega arith) c.in_ok-grow_nodes.ensures.ranks_more)
     (omega arith) (omega arith) (omega arith))
