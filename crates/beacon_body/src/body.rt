@@ -6,6 +6,7 @@ ghost use Rattle.ssz_codec.specs.Containers.{layout_of, parts_of, all_read};
 ghost use Rattle.ssz_codec.specs.Reads.{ReadsAs};
 ghost use Rattle.ssz_codec.specs.inside.Halves.{nothing_written, with_parts};
 ghost use Rattle.beacon_body.specs.Containers.{block_body_fields, block_body_codec, empty_body_root as root_of_default};
+ghost use Rattle.beacon_body.specs.inside.Reading.{operations_of, slashings_of};
 ghost use Rattle.beacon_body.specs.laws.Containers.{block_body_lawful};
 
 use crate::attestation::Attestation;
@@ -110,42 +111,72 @@ impl Leaf for BeaconBlockBody {
     }
 }
 
+/// Reads the attestations, deposits and exits of a body from the last three parts.
+fn read_operations(
+    alloc: Global,
+    randao_reveal: [u8; 96],
+    eth1_data: Eth1Data,
+    graffiti: Root,
+    proposer_slashings: ProposerSlashings,
+    attester_slashings: AttesterSlashings,
+    parts: &[&[u8]],
+) -> Result<BeaconBlockBody, SszFault>
+    ensures { ReadsAs result (operations_of randao_reveal eth1_data graffiti proposer_slashings attester_slashings (map (λ part. part.now) parts.now)) }
+{
+    match parts {
+        [attestations, deposits, exits] => Ok(BeaconBlockBody {
+            randao_reveal,
+            eth1_data,
+            graffiti,
+            proposer_slashings,
+            attester_slashings,
+            attestations: Attestations::parse(alloc, attestations)?,
+            deposits: Deposits::parse(alloc, deposits)?,
+            voluntary_exits: VoluntaryExits::parse(alloc, exits)?,
+        }),
+        _ => Err(SszFault::NotAWriting),
+    }
+}
+
+/// Reads the lists of a body from the last five parts.
+fn read_lists(
+    alloc: Global,
+    randao_reveal: [u8; 96],
+    eth1_data: Eth1Data,
+    graffiti: Root,
+    parts: &[&[u8]],
+) -> Result<BeaconBlockBody, SszFault>
+    ensures { ReadsAs result (slashings_of randao_reveal eth1_data graffiti (map (λ part. part.now) parts.now)) }
+{
+    match parts {
+        [proposers, attesters, operations @ ..] => read_operations(
+            alloc,
+            randao_reveal,
+            eth1_data,
+            graffiti,
+            ProposerSlashings::parse(alloc, proposers)?,
+            AttesterSlashings::parse(alloc, attesters)?,
+            operations,
+        ),
+        _ => Err(SszFault::NotAWriting),
+    }
+}
+
 /// Reads the fields of a body from its eight parts.
 fn read_fields(alloc: Global, parts: &[&[u8]]) -> Result<BeaconBlockBody, SszFault>
     requires { length parts.now ≡ 8 }
     ensures { ReadsAs result (block_body_fields.deserialize all_read (map (λ part. part.now) parts.now)) }
 {
-    let [
-        randao,
-        eth1,
-        graffiti,
-        proposers,
-        attesters,
-        attestations,
-        deposits,
-        exits,
-    ] = parts
-    else {
-        unreachable!();
-    };
-    let randao_reveal = <[u8; 96]>::parse(alloc, randao)?;
-    let eth1_data = Eth1Data::parse(alloc, eth1)?;
-    let graffiti = Root::parse(alloc, graffiti)?;
-    let proposer_slashings = ProposerSlashings::parse(alloc, proposers)?;
-    let attester_slashings = AttesterSlashings::parse(alloc, attesters)?;
-    let attestations = Attestations::parse(alloc, attestations)?;
-    let deposits = Deposits::parse(alloc, deposits)?;
-    let voluntary_exits = VoluntaryExits::parse(alloc, exits)?;
-    Ok(BeaconBlockBody {
-        randao_reveal,
-        eth1_data,
-        graffiti,
-        proposer_slashings,
-        attester_slashings,
-        attestations,
-        deposits,
-        voluntary_exits,
-    })
+    match parts {
+        [randao_reveal, eth1_data, graffiti, lists @ ..] => read_lists(
+            alloc,
+            <[u8; 96]>::parse(alloc, randao_reveal)?,
+            Eth1Data::parse(alloc, eth1_data)?,
+            Root::parse(alloc, graffiti)?,
+            lists,
+        ),
+        _ => Err(SszFault::NotAWriting),
+    }
 }
 
 impl Ssz for BeaconBlockBody {

@@ -159,26 +159,14 @@ fn plain_state(
         fork,
         latest_block_header,
     } = clock;
-    let History {
-        block_roots,
-        state_roots,
-        historical_roots,
-    } = history;
+    let (block_roots, state_roots, historical_roots) = history.into_lists();
     let Eth1 {
         eth1_data,
         eth1_data_votes,
         eth1_deposit_index,
     } = eth1;
-    let Registry {
-        validators,
-        balances,
-        randao_mixes,
-        slashings,
-    } = registry;
-    let Pending {
-        previous_epoch_attestations,
-        current_epoch_attestations,
-    } = pending;
+    let (validators, balances, randao_mixes, slashings) = registry.into_lists();
+    let (previous_epoch_attestations, current_epoch_attestations) = pending.into_lists();
     let Finality {
         justification_bits,
         previous_justified_checkpoint,

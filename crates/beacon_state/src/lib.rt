@@ -3,6 +3,7 @@
 //! Bytes come from the genesis file; contracts see a `State` as the plain record of its 21 fields and its preset.
 #![tactic(auto)]
 
+mod both;
 mod building;
 mod differences;
 mod genesis;

@@ -1,4 +1,8 @@
 //! The fields of the state in six groups of neighbours, as reading takes them.
+//!
+//! What has several lists lets them go by hand, so that a call that lets it go is one call, and not one for each list.
+
+ghost use Rattle.std.specs.Prelude.{◌≡◌};
 
 use beacon_types::{BeaconBlockHeader, Checkpoint, Eth1Data, Fork, PendingAttestation, Validator};
 use hash_tree::Root;
@@ -20,7 +24,6 @@ pub(crate) struct Clock {
 }
 
 /// The next three: roots of blocks and states.
-#[derive(Drop)]
 pub(crate) struct History {
     /// The roots of the latest blocks, by slot.
     pub block_roots: Items<Root>,
@@ -28,6 +31,33 @@ pub(crate) struct History {
     pub state_roots: Items<Root>,
     /// The roots of older batches.
     pub historical_roots: Items<Root>,
+}
+
+impl History {
+    /// Its lists, in their order.
+    pub(crate) fn into_lists(self) -> (Items<Root>, Items<Root>, Items<Root>)
+        ensures { result ≡ (self.block_roots, self.state_roots, self.historical_roots) }
+    {
+        let History {
+            block_roots,
+            state_roots,
+            historical_roots,
+        } = self;
+        (block_roots, state_roots, historical_roots)
+    }
+}
+
+impl Drop for History {
+    fn drop(self) {
+        let History {
+            block_roots,
+            state_roots,
+            historical_roots,
+        } = self;
+        drop(block_roots);
+        drop(state_roots);
+        drop(historical_roots);
+    }
 }
 
 /// The next three: the deposit contract.
@@ -42,7 +72,6 @@ pub(crate) struct Eth1 {
 }
 
 /// The next four: validators and what is kept by epoch.
-#[derive(Drop)]
 pub(crate) struct Registry {
     /// The registry.
     pub validators: Items<Validator>,
@@ -54,13 +83,66 @@ pub(crate) struct Registry {
     pub slashings: Items<u64>,
 }
 
+impl Registry {
+    /// Its lists, in their order.
+    pub(crate) fn into_lists(self) -> (Items<Validator>, Items<u64>, Items<Root>, Items<u64>)
+        ensures { result ≡ (self.validators, self.balances, self.randao_mixes, self.slashings) }
+    {
+        let Registry {
+            validators,
+            balances,
+            randao_mixes,
+            slashings,
+        } = self;
+        (validators, balances, randao_mixes, slashings)
+    }
+}
+
+impl Drop for Registry {
+    fn drop(self) {
+        let Registry {
+            validators,
+            balances,
+            randao_mixes,
+            slashings,
+        } = self;
+        drop(validators);
+        drop(balances);
+        drop(randao_mixes);
+        drop(slashings);
+    }
+}
+
 /// The next two: attestations that wait for the epoch's end.
-#[derive(Drop)]
 pub(crate) struct Pending {
     /// The attestations of the previous epoch.
     pub previous_epoch_attestations: Items<PendingAttestation>,
     /// The attestations of the current epoch.
     pub current_epoch_attestations: Items<PendingAttestation>,
+}
+
+impl Pending {
+    /// Its lists, in their order.
+    pub(crate) fn into_lists(self) -> (Items<PendingAttestation>, Items<PendingAttestation>)
+        ensures { result ≡ (self.previous_epoch_attestations, self.current_epoch_attestations) }
+    {
+        let Pending {
+            previous_epoch_attestations,
+            current_epoch_attestations,
+        } = self;
+        (previous_epoch_attestations, current_epoch_attestations)
+    }
+}
+
+impl Drop for Pending {
+    fn drop(self) {
+        let Pending {
+            previous_epoch_attestations,
+            current_epoch_attestations,
+        } = self;
+        drop(previous_epoch_attestations);
+        drop(current_epoch_attestations);
+    }
 }
 
 /// The last four: justification and finality.

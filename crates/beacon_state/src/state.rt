@@ -12,6 +12,7 @@ mod lists;
 mod setters;
 mod whole;
 
+use crate::both::both;
 use crate::building::{lists_built, pending_built, registry_built, vectors_built};
 use crate::numbers::Numbers;
 use crate::values::Values;
@@ -139,11 +140,10 @@ impl State {
             previous_epoch_attestations,
             current_epoch_attestations,
         );
-        let (Ok(vectors), Ok(lists), Ok(registry), Ok(pending)) = (
-            vectors, lists, registry, pending,
-        ) else {
-            return Err(NoMemory);
-        };
+        let ((vectors, lists), (registry, pending)) = both(
+            both(vectors, lists),
+            both(registry, pending),
+        )?;
         let (block_roots, state_roots, randao_mixes) = vectors;
         let (historical_roots, eth1_data_votes) = lists;
         let (validators, balances, slashings) = registry;
@@ -178,12 +178,8 @@ impl State {
     pub fn share(&self) -> Result<State, NoMemory>
         ensures { IfOk result (λ state. state ≡ self.now) }
     {
-        let roots = self.share_roots();
-        let registry = self.share_registry();
-        let pending = self.share_pending();
-        let (Ok(roots), Ok(registry), Ok(pending)) = (roots, registry, pending) else {
-            return Err(NoMemory);
-        };
+        let lists = both(self.share_roots(), self.share_registry());
+        let ((roots, registry), pending) = both(lists, self.share_pending())?;
         let (block_roots, state_roots, historical_roots, randao_mixes) = roots;
         let (validators, balances, slashings) = registry;
         let (eth1_data_votes, previous_epoch_attestations, current_epoch_attestations) = pending;
@@ -221,10 +217,9 @@ impl State {
     ) -> Result<(Values<Root>, Values<Root>, Values<Root>, Values<Root>), NoMemory>
         ensures { IfOk result (HasRoots self.now) }
     {
-        let block_roots = self.block_roots.share()?;
-        let state_roots = self.state_roots.share()?;
-        let historical_roots = self.historical_roots.share()?;
-        let randao_mixes = self.randao_mixes.share()?;
+        let vectors = both(self.block_roots.share(), self.state_roots.share());
+        let others = both(self.historical_roots.share(), self.randao_mixes.share());
+        let ((block_roots, state_roots), (historical_roots, randao_mixes)) = both(vectors, others)?;
         Ok((block_roots, state_roots, historical_roots, randao_mixes))
     }
 
