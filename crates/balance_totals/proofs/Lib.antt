@@ -1,2 +1,3 @@
+pub mod ActiveLeft
+pub mod LeftOf
 pub mod LookedUp
-pub mod Remaining

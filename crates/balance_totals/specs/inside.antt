@@ -1,3 +1,2 @@
 -- Words of this crate's own contracts.
-pub mod Lookups
 pub mod PerSlot

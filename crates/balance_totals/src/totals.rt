@@ -1,12 +1,12 @@
 //! The list of active validators, and the total balance of a set.
 
-ghost use Rattle.std.specs.Prelude.{◌≡◌, ◌<◌, ◌≤◌, ◌^◌, ℕ, max, length, slice_index, IfOk};
+ghost use Rattle.std.specs.Prelude.{◌≡◌, ◌<◌, ◌≤◌, ◌^◌, ℕ, length, slice_index, IfOk};
 ghost use Rattle.bc_words.specs.Outcome.{GivesExactly, checked_sum_by};
 ghost use Rattle.committees.specs.Committees.{IsWithoutRepeats};
 ghost use Rattle.spec_state.specs.Misc.{effective_balance};
 ghost use Rattle.spec_state.specs.Accessors.{get_active_validator_indices, get_total_balance};
 
-use crate::validators::{active_balance, effective_at, is_active_at};
+use crate::validators::{effective_at, is_active_validator};
 use bc_words::{NoMemory, Stop, checked_add};
 use beacon_state::State;
 use committees::Lookup;
@@ -14,32 +14,31 @@ use std::alloc::Global;
 
 /// The indices of the validators that are active at the epoch, in order (beacon-chain.md,
 /// `get_active_validator_indices`).
-#[tactic(auto, using(crate::proofs::Remaining::listing))]
+#[tactic(auto, using(crate::proofs::ActiveLeft::listing))]
 pub fn active(alloc: Global, state: &State, epoch: u64) -> Result<Vec<u64>, NoMemory>
     ensures { IfOk result (λ indices. indices.items ≡ get_active_validator_indices state.now epoch) }
 {
     let mut indices = Vec::new(alloc);
-    for index in 0..state.validators_len() {
-        if !is_active_at(state, index, epoch) {
-            continue;
+    let validators = state.validator_list().iter();
+    for (index, validator) in validators.enumerate() {
+        if is_active_validator(validator, epoch) {
+            indices.push(index as u64)?;
         }
-        indices.push(index)?;
     }
     Ok(indices)
 }
 
 /// How many validators are active at the epoch: as many as the list of `get_active_validator_indices` has.
-#[tactic(auto, using(crate::proofs::Remaining::counting))]
+#[tactic(auto, using(crate::proofs::ActiveLeft::counting))]
 pub fn count_active(state: &State, epoch: u64) -> u64
     ensures { result ≡ length (get_active_validator_indices state.now epoch) }
 {
     active_are_indices(state, epoch);
     let mut count = 0;
-    for index in 0..state.validators_len() {
-        if !is_active_at(state, index, epoch) {
-            continue;
+    for validator in state.validator_list().iter() {
+        if is_active_validator(validator, epoch) {
+            count += 1;
         }
-        count += 1;
     }
     count
 }
@@ -74,19 +73,18 @@ pub fn total_of(state: &State, indices: &[u64]) -> Result<u64, Stop>
     ensures { GivesExactly result (get_total_balance state.now indices.now) }
 {
     let sum = sum_of(state, indices)?;
-    Ok(at_least(state.preset().effective_balance_increment, sum))
+    Ok(state.preset().effective_balance_increment.max(sum))
 }
 
 /// The sum of the effective balances of the validators that are active at the epoch, in Gwei.
-#[tactic(auto, using(bc_words::proofs::Sums::sum_begins, crate::proofs::Remaining::summing))]
+#[tactic(auto, using(crate::proofs::ActiveLeft::summing))]
 fn sum_active(state: &State, epoch: u64) -> Result<u64, Stop>
     ensures { GivesExactly result (checked_sum_by (effective_balance state.now.validators) (get_active_validator_indices state.now epoch)) }
 {
     let mut sum = 0;
-    for index in 0..state.validators_len() {
-        match active_balance(state, index, epoch) {
-            Some(balance) => sum = checked_add(sum, balance)?,
-            None => {}
+    for validator in state.validator_list().iter() {
+        if is_active_validator(validator, epoch) {
+            sum = checked_add(sum, validator.effective_balance)?;
         }
     }
     Ok(sum)
@@ -99,12 +97,5 @@ pub fn total_active(state: &State, epoch: u64) -> Result<u64, Stop>
     ensures { GivesExactly result (get_total_balance state.now (get_active_validator_indices state.now epoch)) }
 {
     let sum = sum_active(state, epoch)?;
-    Ok(at_least(state.preset().effective_balance_increment, sum))
-}
-
-/// The sum, or the increment where that is greater.
-fn at_least(increment: u64, sum: u64) -> u64
-    ensures { result ≡ max increment sum }
-{
-    if sum < increment { increment } else { sum }
+    Ok(state.preset().effective_balance_increment.max(sum))
 }

@@ -1,11 +1,10 @@
 //! What totals read of one validator of a state.
 
-ghost use Rattle.std.specs.Prelude.{◌≡◌, ◌<◌, length, IfOk, MatchOption};
+ghost use Rattle.std.specs.Prelude.{◌≡◌, ◌<◌, length, IfOk};
 ghost use Rattle.bc_words.specs.Outcome.{GivesExactly};
 ghost use Rattle.spec_blocks.specs.Checks.{item_at};
 ghost use Rattle.spec_state.specs.Predicates.{is_active_validator};
 ghost use Rattle.spec_state.specs.Misc.{effective_balance};
-ghost use Rattle.balance_totals.specs.inside.Lookups.{passes, IsInactive, IsActive};
 
 use bc_words::{Refusal, Stop};
 use beacon_state::State;
@@ -17,33 +16,6 @@ pub fn is_active_validator(validator: &Validator, epoch: u64) -> bool
     ensures { result ≡ is_active_validator validator.now epoch }
 {
     validator.activation_epoch <= epoch && epoch < validator.exit_epoch
-}
-
-/// Whether the validator with an index is active at the epoch. One that isn't in the registry is not.
-pub(crate) fn is_active_at(state: &State, index: u64, epoch: u64) -> bool
-    ensures { result ≡ passes (λ v. is_active_validator v epoch) state.now.validators index }
-{
-    match state.validators_at(index) {
-        Some(validator) => is_active_validator(validator, epoch),
-        None => false,
-    }
-}
-
-/// The effective balance of the validator with an index, in Gwei, where it is active at the epoch. One that isn't in the
-/// registry is not.
-#[tactic(auto, using(crate::proofs::LookedUp::active_balances))]
-pub(crate) fn active_balance(state: &State, index: u64, epoch: u64) -> Option<u64>
-    ensures { MatchOption result (IsInactive state.now index epoch) (IsActive state.now index epoch) }
-{
-    match state.validators_at(index) {
-        Some(validator) => {
-            if !is_active_validator(validator, epoch) {
-                return None;
-            }
-            Some(validator.effective_balance)
-        }
-        None => None,
-    }
 }
 
 /// The effective balance of the validator with an index, in Gwei, or 0 where there is none.

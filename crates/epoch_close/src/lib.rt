@@ -4,6 +4,7 @@
 //! name of the published function that it holds. Each call leaves the state as it was where it stops.
 #![tactic(auto)]
 
+mod balances;
 pub mod process_effective_balance_updates;
 pub mod process_eth1_data_reset;
 pub mod process_historical_roots_update;

@@ -1,13 +1,14 @@
 //! The penalties of the slashed (beacon-chain.md, "process_slashings").
 
-ghost use Rattle.std.specs.Prelude.{◌≡◌, ◌≤◌, ◌+◌, ◌/◌, ◌==◌, ◌&&◌, length, slice_index, IfOk};
+ghost use Rattle.std.specs.Prelude.{◌≡◌, ◌≤◌, ◌+◌, ◌/◌, ◌==◌, ◌&&◌, length, slice_get, slice_index, Some, IfOk};
 ghost use Rattle.bc_words.specs.Outcome.{Changes, GivesBy, GivesExactly, checked_sum};
 ghost use Rattle.spec_state.specs.Accessors.{get_current_epoch};
 ghost use Rattle.spec_epochs.specs.Each.{validator_indices, checked_map};
 ghost use Rattle.spec_epochs.specs.ProcessSlashings.{process_slashings, penalized_balance};
 
-use balance_totals::{balance_at, current_epoch, total_active, validator_at};
-use bc_words::{Stop, checked_add, checked_mul};
+use crate::balances::next_balance;
+use balance_totals::{current_epoch, total_active};
+use bc_words::{Refusal, Stop, checked_add, checked_mul};
 use beacon_state::State;
 use beacon_types::Validator;
 use std::alloc::Global;
@@ -41,15 +42,26 @@ fn pays(state: &State, validator: &Validator) -> bool
     validator.slashed && current_epoch(state) + half == validator.withdrawable_epoch
 }
 
-/// The balance of a validator without its penalty, in Gwei. `slashed` is what was slashed lately, at most `total`.
+/// The balance of a validator without its penalty, in Gwei. `slashed` is what was slashed lately, at most `total`; `index` is
+/// the validator's own, at which `balance` stands where there is one.
 #[tactic(auto, unfolding(spec_epochs::specs::ProcessSlashings::penalized_balance), using(bc_preset::proofs::Bounds::preset_bounds))]
-fn penalized_balance(state: &State, slashed: u64, total: u64, index: u64) -> Result<u64, Stop>
-    requires { 1 ≤ total }
+fn penalized_balance(
+    state: &State,
+    slashed: u64,
+    total: u64,
+    index: u64,
+    validator: &Validator,
+    balance: Option<u64>,
+) -> Result<u64, Stop>
+    requires total { 1 ≤ total }
+    requires validator { slice_get state.now.validators index ≡ Some validator.now }
+    requires balance { slice_get state.now.balances index ≡ balance }
     ensures { GivesExactly result (penalized_balance state.now slashed total index) }
 {
-    let validator = validator_at(state, index)?;
-    let balance = balance_at(state, index)?;
-    if !pays(state, &validator) {
+    let Some(balance) = balance else {
+        return Err(Stop::Refused(Refusal::IndexRange));
+    };
+    if !pays(state, validator) {
         return Ok(balance);
     }
     let increment = state.preset().effective_balance_increment;
@@ -59,7 +71,7 @@ fn penalized_balance(state: &State, slashed: u64, total: u64, index: u64) -> Res
 }
 
 /// The balances of all validators without their penalties, in Gwei.
-#[tactic(auto, unfolding(spec_epochs::specs::Each::validator_indices), using(spec_epochs::proofs::Each::each_made, spec_epochs::proofs::Each::made_few))]
+#[tactic(auto, unfolding(spec_epochs::specs::Each::validator_indices), using(crate::proofs::MadeLeft::making, spec_epochs::proofs::Each::made_few, balance_totals::proofs::LeftOf::first_left, balance_totals::proofs::LeftOf::others_left))]
 fn penalized_balances(
     alloc: Global,
     state: &State,
@@ -70,11 +82,21 @@ fn penalized_balances(
     ensures exact { GivesBy (λ balances. balances.items) result (checked_map (penalized_balance state.now slashed total) (validator_indices state.now)) }
     ensures few { IfOk result (λ balances. length balances.items ≤ state.now.preset.validator_registry_limit) }
 {
-    let mut balances = Vec::new(alloc);
-    for index in 0..state.validators_len() {
-        balances.push(penalized_balance(state, slashed, total, index)?)?;
+    let mut penalized = Vec::with_capacity(alloc, state.validators_len() as usize)?;
+    let mut balances = state.balance_list().iter();
+    let validators = state.validator_list().iter();
+    for (index, validator) in validators.enumerate() {
+        let balance = next_balance(&mut balances);
+        penalized.push(penalized_balance(
+            state,
+            slashed,
+            total,
+            index as u64,
+            validator,
+            balance,
+        )?)?;
     }
-    Ok(balances)
+    Ok(penalized)
 }
 
 /// Takes from each slashed validator that is half way to its withdrawal its part of what was slashed lately

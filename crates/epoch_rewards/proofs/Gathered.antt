@@ -1,7 +1,7 @@
 -- Gathering what is read of each validator, and what is found there.
-use Rattle.std.proofs.Common.{◌≡◌, ℕ, ◌+◌, ◌/◌, ◌≤◌, Bool, true, false, not, ◌&&◌, List, [], ◌∷◌, ◌++◌, length, map, drop, get_or, Option, Some, None, slice_get, refl, sym, ap, ◌∙◌, arith, append_assoc}
+use Rattle.std.proofs.Common.{◌≡◌, ℕ, ◌+◌, ◌/◌, Bool, true, false, not, ◌&&◌, List, [], ◌∷◌, ◌++◌, map, get_or, Option, Some, None, slice_get, refl, sym, ap, ◌∙◌, append_assoc}
 use Rattle.std.specs.Option.{option_map}
-use Rattle.std.proofs.lemmas.List.{append-nil, drop_all}
+use Rattle.std.proofs.lemmas.List.{append-nil}
 use Rattle.std.proofs.lemmas.Option.{slice_get-map}
 use Rattle.bc_words.specs.Outcome.{Outcome, done, bind, checked_mul}
 use Rattle.beacon_types.specs.declared.validator.Validator.{Validator}
@@ -13,33 +13,20 @@ use Rattle.spec_epochs.specs.Each.{is_among}
 use Rattle.spec_epochs.specs.RewardHelpers.{get_finality_delay, get_eligible_validator_indices}
 use Rattle.spec_epochs.specs.GetInactivityPenaltyDeltas.{absence_penalty}
 use Rattle.participation.specs.inside.Marks.{flagged, flagged_from}
-use Rattle.participation.proofs.Places.{drop_at_item, past}
 use Rattle.participation.proofs.Weighed.{one_counts, one_slashed, one_absent, none_there, weight_read}
 use Rattle.epoch_rewards.specs.declared.stakes.Stake.{Stake}
 use Rattle.epoch_rewards.specs.inside.Stakes.{is_reached, stake_of, stakes_of}
 use Rattle.epoch_rewards.proofs.Among.{found_passes, among_indices, among_filter}
 
--- ---- the list so far, before what is read of those from an index on
+-- ---- the list so far, before what is read of those that are left
 
-pub one_stake : (previous index : ℕ) (validators : List Validator) (stakes : List Stake) (v : Validator) → Some v ≡ slice_get validators index
-    → (stakes ++ stake_of previous v ∷ []) ++ map (stake_of previous) (drop (index + 1) validators) ≡ stakes ++ map (stake_of previous) (drop index validators)
-one_stake previous index validators stakes v at =
-    append_assoc stakes (stake_of previous v ∷ []) (map (stake_of previous) (drop (index + 1) validators))
-    ∙ sym (ap (λ vs. stakes ++ map (stake_of previous) vs) (drop_at_item validators index v at))
+pub one_stake : (previous : ℕ) (stakes : List Stake) (v : Validator) (left : List Validator) → (stakes ++ stake_of previous v ∷ []) ++ map (stake_of previous) left ≡ stakes ++ map (stake_of previous) (v ∷ left)
+one_stake previous stakes v left = append_assoc stakes (stake_of previous v ∷ []) (map (stake_of previous) left)
 
-pub no_stake : (previous index : ℕ) (validators : List Validator) (stakes : List Stake) → None ≡ slice_get validators index
-    → stakes ++ map (stake_of previous) (drop (index + 1) validators) ≡ stakes ++ map (stake_of previous) (drop index validators)
-no_stake previous index validators stakes none =
-    let over = past validators index none in
-    ap (λ vs. stakes ++ map (stake_of previous) vs) (drop_all (index + 1) validators (omega arith) ∙ sym (drop_all index validators over))
+pub stakes_end : (previous : ℕ) (stakes : List Stake) → stakes ++ map (stake_of previous) [] ≡ stakes
+stakes_end previous stakes = append-nil stakes
 
-pub stakes_begin : (previous : ℕ) (validators : List Validator) → map (stake_of previous) (drop 0 validators) ≡ map (stake_of previous) validators
-stakes_begin previous validators = refl
-
-pub stakes_end : (previous index : ℕ) (validators : List Validator) (stakes : List Stake) → length validators ≤ index → stakes ++ map (stake_of previous) (drop index validators) ≡ stakes
-stakes_end previous index validators stakes over = ap (λ vs. stakes ++ map (stake_of previous) vs) (drop_all index validators over) ∙ append-nil stakes
-
-pub ruleset gathering = (one_stake, no_stake)
+pub ruleset gathering = (one_stake, stakes_end)
 
 -- ---- what is found there
 

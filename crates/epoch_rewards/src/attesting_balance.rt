@@ -1,6 +1,6 @@
 //! The balance of those who attested (beacon-chain.md, "get_attesting_balance"), by what was gathered of the registry.
 
-ghost use Rattle.std.specs.Prelude.{◌≡◌, max};
+ghost use Rattle.std.specs.Prelude.{◌≡◌};
 ghost use Rattle.bc_words.specs.Outcome.{GivesExactly, checked_sum_by};
 ghost use Rattle.spec_state.specs.Misc.{effective_balance};
 ghost use Rattle.spec_state.specs.Accessors.{get_total_balance};
@@ -40,12 +40,5 @@ pub(crate) fn attesting_balance(
     ensures { GivesExactly result (get_total_balance state.now (flagged state.now flags.now)) }
 {
     let sum = sum_flagged(state, stakes, flags)?;
-    Ok(at_least(state.preset().effective_balance_increment, sum))
-}
-
-/// The sum, or the increment where that is greater.
-fn at_least(increment: u64, sum: u64) -> u64
-    ensures { result ≡ max increment sum }
-{
-    if sum < increment { increment } else { sum }
+    Ok(state.preset().effective_balance_increment.max(sum))
 }

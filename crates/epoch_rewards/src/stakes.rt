@@ -1,6 +1,6 @@
 //! What rewards read of each validator. One pass over the registry gathers it; all later passes read this list alone.
 
-ghost use Rattle.std.specs.Prelude.{◌≡◌, ◌++◌, ◌+◌, ◌<◌, ◌^◌, drop, map, slice_get, IfOk, OnOk};
+ghost use Rattle.std.specs.Prelude.{◌≡◌, ◌+◌, ◌<◌, ◌^◌, slice_get, IfOk};
 ghost use Rattle.bc_words.specs.Outcome.{GivesExactly};
 ghost use Rattle.spec_state.specs.Accessors.{get_previous_epoch};
 ghost use Rattle.spec_blocks.specs.Checks.{item_at};
@@ -47,32 +47,15 @@ fn stake_of(previous: u64, validator: &Validator) -> Stake
     }
 }
 
-/// Adds what is read of the validator with an index.
-#[tactic(auto, using(crate::proofs::Gathered::gathering))]
-fn note_stake(
-    stakes: &mut Vec<Stake>,
-    state: &State,
-    previous: u64,
-    index: u64,
-) -> Result<(), NoMemory>
-    requires { previous + 1 < 2 ^ 64 }
-    ensures { OnOk result (stakes.new.items ++ map (stake_of previous) (drop (index + 1) state.now.validators) ≡ stakes.old.items ++ map (stake_of previous) (drop index state.now.validators)) }
-{
-    if let Some(validator) = state.validators_at(index) {
-        stakes.push(stake_of(previous, validator))?;
-    }
-    Ok(())
-}
-
 /// What rewards read of all validators, in order of index.
-#[tactic(auto, unfolding(crate::specs::inside::Stakes::stakes_of), using(crate::proofs::Gathered::stakes_begin, crate::proofs::Gathered::stakes_end))]
+#[tactic(auto, unfolding(crate::specs::inside::Stakes::stakes_of), using(crate::proofs::Gathered::gathering))]
 pub(crate) fn stakes(alloc: Global, state: &State) -> Result<Vec<Stake>, NoMemory>
     ensures { IfOk result (λ stakes. stakes.items ≡ stakes_of state.now) }
 {
     let previous = previous_epoch(state);
     let mut stakes = Vec::with_capacity(alloc, state.validators_len() as usize)?;
-    for index in 0..state.validators_len() {
-        note_stake(&mut stakes, state, previous, index)?;
+    for validator in state.validator_list().iter() {
+        stakes.push(stake_of(previous, validator))?;
     }
     Ok(stakes)
 }

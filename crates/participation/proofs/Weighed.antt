@@ -82,6 +82,4 @@ module _ (state : PlainState) (flags : List Bool) where
 pub weight_read : (state : PlainState) (index : ℕ) (v : Validator) → Some v ≡ slice_get state.validators index → v.effective_balance ≡ effective_balance state.validators index
 weight_read state index v at = sym (effective_some state.validators index v at)
 
-pub ruleset choosing = (one_counts, one_slashed, one_absent, none_there, weight_read)
-
 pub ruleset weighing = (flagged_begin, flagged_end, balance_added, balance_refused, balance_left)

@@ -1,6 +1,6 @@
 //! The balance of those who attested (beacon-chain.md, "get_attesting_balance").
 
-ghost use Rattle.std.specs.Prelude.{◌≡◌, ◌≤◌, max, false, slice_index_or, MatchOption};
+ghost use Rattle.std.specs.Prelude.{◌≡◌, ◌≤◌, false, slice_index_or};
 ghost use Rattle.std.specs.List.{AllByRecursion};
 ghost use Rattle.bc_words.specs.Outcome.{Gives, GivesExactly, checked_sum_by};
 ghost use Rattle.spec_state.specs.Misc.{effective_balance};
@@ -8,7 +8,7 @@ ghost use Rattle.spec_state.specs.Accessors.{get_current_epoch, get_total_balanc
 ghost use Rattle.spec_state.specs.Soundness.{IsSoundPending};
 ghost use Rattle.spec_epochs.specs.Helpers.{get_matching_source_attestations, get_attesting_balance};
 ghost use Rattle.participation.specs.inside.Votes.{matching};
-ghost use Rattle.participation.specs.inside.Marks.{flagged, IsPassedOver, IsTaken};
+ghost use Rattle.participation.specs.inside.Marks.{flagged};
 
 use crate::attesters::attested;
 use crate::matching::Vote;
@@ -28,35 +28,19 @@ pub fn flag_at(flags: &[bool], index: u64) -> bool
     }
 }
 
-/// The effective balance of a validator, where its flag is set and it isn't slashed.
-#[tactic(auto, using(crate::proofs::Weighed::choosing))]
-pub fn counted(state: &State, flags: &[bool], index: u64) -> Option<u64>
-    ensures { MatchOption result (IsPassedOver state.now flags.now index) (IsTaken state.now flags.now index) }
-{
-    match state.validators_at(index) {
-        Some(validator) => {
-            if validator.slashed {
-                return None;
-            }
-            if !flag_at(flags, index) {
-                return None;
-            }
-            Some(validator.effective_balance)
-        }
-        None => None,
-    }
-}
-
 /// The sum of the effective balances of those whose flag is set and who aren't slashed, in Gwei.
-#[tactic(auto, using(crate::proofs::Weighed::weighing))]
+#[tactic(auto, using(crate::proofs::WeighedLeft::summing, balance_totals::proofs::LeftOf::others_left))]
 fn sum_flagged(state: &State, flags: &[bool]) -> Result<u64, Stop>
     ensures { GivesExactly result (checked_sum_by (effective_balance state.now.validators) (flagged state.now flags.now)) }
 {
     let mut sum = 0;
-    for index in 0..state.validators_len() {
-        match counted(state, flags, index) {
-            Some(balance) => sum = checked_add(sum, balance)?,
-            None => {}
+    let validators = state.validator_list().iter();
+    for (index, validator) in validators.enumerate() {
+        if validator.slashed {
+            continue;
+        }
+        if flag_at(flags, index as u64) {
+            sum = checked_add(sum, validator.effective_balance)?;
         }
     }
     Ok(sum)
@@ -88,12 +72,5 @@ pub fn attesting_balance(state: &State, flags: &[bool]) -> Result<u64, Stop>
     ensures { GivesExactly result (get_total_balance state.now (flagged state.now flags.now)) }
 {
     let sum = sum_flagged(state, flags)?;
-    Ok(at_least(state.preset().effective_balance_increment, sum))
-}
-
-/// The sum, or the increment where that is greater.
-fn at_least(increment: u64, sum: u64) -> u64
-    ensures { result ≡ max increment sum }
-{
-    if sum < increment { increment } else { sum }
+    Ok(state.preset().effective_balance_increment.max(sum))
 }

@@ -11,6 +11,6 @@ mod matching;
 mod pending;
 
 pub use attesters::attested;
-pub use balance::{attesting_balance, counted, flag_at, vote_balance};
+pub use balance::{attesting_balance, flag_at, vote_balance};
 pub use inclusions::{Inclusion, earliest_inclusions, inclusion_at};
 pub use matching::Vote;

@@ -1,5 +1,5 @@
 -- The ranks of those who wait, the bar, and the pass that lets in.
-use Rattle.std.proofs.Common.{◌≡◌, ◌⊎◌, ◌∙◌, ℕ, zero, suc, ◌+◌, ◌<◌, ◌≤◌, Bool, true, false, cond, not, ◌&&◌, ◌||◌, ◌==◌, nat_lt, leb, if◌then◌else◌, List, [], ◌∷◌, ◌++◌, length, map, take, drop, get_or, zero-add, Option, Some, None, slice_get, slice_set, refl, sym, ap, ap₂, subst, inl, inr, arith, Less, Equal, Greater}
+use Rattle.std.proofs.Common.{◌≡◌, ◌⊎◌, ◌∙◌, ℕ, zero, suc, ◌+◌, ◌<◌, ◌≤◌, Bool, true, false, cond, not, ◌&&◌, ◌||◌, ◌==◌, nat_lt, leb, if◌then◌else◌, List, [], ◌∷◌, ◌++◌, length, map, take, drop, get_or, zero-add, Option, Some, None, slice_get, slice_set, refl, sym, ap, ap₂, subst, inl, inr, arith, append_assoc, Less, Equal, Greater}
 use Rattle.std.specs.Prelude.{filter, count_by}
 use Rattle.std.specs.List.{enumerate_from}
 use Rattle.std.specs.List.Sorted.{IsSorted}
@@ -13,7 +13,6 @@ use Rattle.beacon_types.specs.declared.validator.Validator.{Validator}
 use Rattle.spec_state.specs.declared.plain.PlainState.{PlainState}
 use Rattle.spec_state.specs.Predicates.{is_eligible_for_activation}
 use Rattle.spec_state.specs.Accessors.{get_validator_churn_limit}
-use Rattle.spec_blocks.proofs.Each.{from_item}
 use Rattle.spec_epochs.specs.ProcessRegistryUpdates.{activation_queue, comes_before, is_dequeued, with_activations}
 use Rattle.registry_queue.specs.inside.Ranks.{rank_of, ranks_from, before, rank_cmp, IsQueue, before_bar, is_let_in, IsBar, activated, let_in_from}
 
@@ -253,44 +252,40 @@ ranks_opened : (keeps : Bool) (entry : Entry) (entries : List Entry) → map ran
 ranks_opened true entry entries = refl
 ranks_opened false entry entries = refl
 
-ranks_at : (state : PlainState) (index : ℕ) (v : Validator) → slice_get state.validators index ≡ Some v
-    → ranks_from state index (drop index state.validators) ≡ cond (is_eligible_for_activation state v) ((v.activation_eligibility_epoch, index) ∷ ranks_from state (index + 1) (drop (index + 1) state.validators)) (ranks_from state (index + 1) (drop (index + 1) state.validators))
-unfolding ranks_from rank_of
-ranks_at state index v here =
-    ap (λ (vs : List Validator). map rank_of (filter (λ entry. is_eligible_for_activation state entry.1) (enumerate_from index vs))) (from_item state.validators index v here)
-    ∙ ranks_opened (is_eligible_for_activation state v) (index, v) (filter (λ entry. is_eligible_for_activation state entry.1) (enumerate_from (index + 1) (drop (index + 1) state.validators)))
+either_way : {A : Type 0} (keeps : Bool) (x : A) (more : List A) → cond keeps (x ∷ more) more ≡ cond keeps (x ∷ []) [] ++ more
+either_way true x more = refl
+either_way false x more = refl
 
-pub rank_here : (state : PlainState) (index : ℕ) (v : Validator) → slice_get state.validators index ≡ Some v → is_eligible_for_activation state v ≡ true
-    → ranks_from state index (drop index state.validators) ≡ (v.activation_eligibility_epoch, index) ∷ ranks_from state (index + 1) (drop (index + 1) state.validators)
-rank_here state index v here waits =
-    ranks_at state index v here
-    ∙ ap (λ (b : Bool). cond b ((v.activation_eligibility_epoch, index) ∷ ranks_from state (index + 1) (drop (index + 1) state.validators)) (ranks_from state (index + 1) (drop (index + 1) state.validators))) waits
+module _ (state : PlainState) (index : ℕ) (v : Validator) where
+  opens : (left : List Validator) → ranks_from state index (v ∷ left) ≡ cond (is_eligible_for_activation state v) ((v.activation_eligibility_epoch, index) ∷ ranks_from state (index + 1) left) (ranks_from state (index + 1) left)
+  unfolding ranks_from rank_of
+  opens left = ranks_opened (is_eligible_for_activation state v) (index, v) (filter (λ entry. is_eligible_for_activation state entry.1) (enumerate_from (index + 1) left))
 
-pub no_rank_here : (state : PlainState) (index : ℕ) (v : Validator) → slice_get state.validators index ≡ Some v → is_eligible_for_activation state v ≡ false
-    → ranks_from state index (drop index state.validators) ≡ ranks_from state (index + 1) (drop (index + 1) state.validators)
-no_rank_here state index v here not_waiting =
-    ranks_at state index v here
-    ∙ ap (λ (b : Bool). cond b ((v.activation_eligibility_epoch, index) ∷ ranks_from state (index + 1) (drop (index + 1) state.validators)) (ranks_from state (index + 1) (drop (index + 1) state.validators))) not_waiting
+  alone : (b : Bool) → is_eligible_for_activation state v ≡ b → ranks_from state index (v ∷ []) ≡ cond b ((v.activation_eligibility_epoch, index) ∷ []) []
+  unfolding ranks_from
+  alone b is = opens [] ∙ ap (λ (c : Bool). cond c ((v.activation_eligibility_epoch, index) ∷ []) []) is
 
-past : {A : Type 0} (items : List A) (i : ℕ) → slice_get items i ≡ None → length items ≤ i
-past [] i is = omega arith
-past (x ∷ items) zero is = absurd cc
-past (x ∷ items) (suc i) is = let rest = past items i is in omega (arith, rest)
+  pub rank_alone : (ranks : List (ℕ × ℕ)) → is_eligible_for_activation state v ≡ true → ranks ++ (v.activation_eligibility_epoch, index) ∷ [] ≡ ranks ++ ranks_from state index (v ∷ [])
+  rank_alone ranks waits = ap (λ (more : List (ℕ × ℕ)). ranks ++ more) (sym (alone true waits))
 
-pub ranks_end : (state : PlainState) (index : ℕ) → length state.validators ≤ index → ranks_from state index (drop index state.validators) ≡ []
+  pub no_rank : (ranks : List (ℕ × ℕ)) → is_eligible_for_activation state v ≡ false → ranks ≡ ranks ++ ranks_from state index (v ∷ [])
+  no_rank ranks not_waiting = sym (ap (λ (more : List (ℕ × ℕ)). ranks ++ more) (alone false not_waiting) ∙ append-nil ranks)
+
+  first_apart : (left : List Validator) → ranks_from state index (v ∷ left) ≡ ranks_from state index (v ∷ []) ++ ranks_from state (index + 1) left
+  first_apart left =
+      opens left
+      ∙ either_way (is_eligible_for_activation state v) (v.activation_eligibility_epoch, index) (ranks_from state (index + 1) left)
+      ∙ ap (λ (ranks : List (ℕ × ℕ)). ranks ++ ranks_from state (index + 1) left) (sym (alone (is_eligible_for_activation state v) refl))
+
+  pub rank_next : (left : List Validator) (ranks more : List (ℕ × ℕ)) → more ≡ ranks ++ ranks_from state index (v ∷ []) → more ++ ranks_from state (index + 1) left ≡ ranks ++ ranks_from state index (v ∷ left)
+  rank_next left ranks more is =
+      ap (λ (all : List (ℕ × ℕ)). all ++ ranks_from state (index + 1) left) is
+      ∙ (append_assoc ranks (ranks_from state index (v ∷ [])) (ranks_from state (index + 1) left)
+      ∙ ap (λ (all : List (ℕ × ℕ)). ranks ++ all) (sym (first_apart left)))
+
+pub ranks_end : (state : PlainState) (ranks : List (ℕ × ℕ)) (index : ℕ) → ranks ++ ranks_from state index [] ≡ ranks
 unfolding ranks_from
-ranks_end state index over = ap (λ (vs : List Validator). map rank_of (filter (λ entry. is_eligible_for_activation state entry.1) (enumerate_from index vs))) (drop_all index state.validators over)
-
-pub ranks_done : (state : PlainState) (index : ℕ) (ranks : List (ℕ × ℕ)) → length state.validators ≤ index → ranks ++ ranks_from state index (drop index state.validators) ≡ ranks
-ranks_done state index ranks over = ap (λ (more : List (ℕ × ℕ)). ranks ++ more) (ranks_end state index over) ∙ append-nil ranks
-
-pub no_rank_past : (state : PlainState) (index : ℕ) → slice_get state.validators index ≡ None → ranks_from state index (drop index state.validators) ≡ ranks_from state (index + 1) (drop (index + 1) state.validators)
-no_rank_past state index none =
-    let over = past state.validators index none in
-    ranks_end state index over ∙ sym (ranks_end state (index + 1) (omega (arith, over)))
-
-pub ranks_begin : (state : PlainState) → ranks_from state 0 (drop 0 state.validators) ≡ ranks_from state 0 state.validators
-ranks_begin state = refl
+ranks_end state ranks index = append-nil ranks
 
 -- ---- letting in, one validator at a time
 
@@ -345,11 +340,6 @@ module _ (state : PlainState) (bar : Option (ℕ × ℕ)) (epoch : ℕ) where
   let_in_end index over =
       ap₂ (λ (first rest : List Validator). record state { validators = first ++ map (activated state bar epoch) (enumerate_from index rest) }) (take_all index state.validators over) (drop_all index state.validators over)
       ∙ ap (λ (vs : List Validator). record state { validators = vs }) (append-nil state.validators)
-
-  pub let_in_past : (index : ℕ) → slice_get state.validators index ≡ None → let_in_from state bar epoch (index + 1) ≡ let_in_from state bar epoch index
-  let_in_past index none =
-      let over = past state.validators index none in
-      let_in_end (index + 1) (omega (arith, over)) ∙ sym (let_in_end index over)
 
 map_same : (one other : Entry → Validator) (vs : List Validator) (index : ℕ) → ((k : ℕ) (v : Validator) → slice_get vs k ≡ Some v → one (index + k, v) ≡ other (index + k, v)) → map one (enumerate_from index vs) ≡ map other (enumerate_from index vs)
 map_same one other [] index same = refl

@@ -3,7 +3,7 @@
 //! A rank is the epoch since which a validator waits, and its index. The ranks of all who wait are collected in one pass and
 //! sorted; the first behind as many as the churn limit is the bar, and a second pass lets in all who rank before it.
 
-ghost use Rattle.std.specs.Prelude.{◌≡◌, ◌++◌, ◌+◌, ◌<◌, ℕ, IfOk, OnOk, Some, drop, length, slice_get};
+ghost use Rattle.std.specs.Prelude.{◌≡◌, ◌++◌, ◌+◌, ◌<◌, ◌∷◌, [], ℕ, IfOk, OnOk, Some, drop, slice_get};
 ghost use Rattle.spec_state.specs.Predicates.{is_eligible_for_activation};
 ghost use Rattle.spec_epochs.specs.ProcessRegistryUpdates.{with_activations};
 ghost use Rattle.registry_queue.specs.inside.Exits.{earliest_exit};
@@ -28,26 +28,30 @@ fn is_waiting(state: &State, validator: &Validator) -> bool
 }
 
 /// Adds the rank of a validator where it waits.
-#[tactic(auto, using(crate::proofs::Ranks::rank_here, crate::proofs::Ranks::no_rank_here, crate::proofs::Ranks::no_rank_past))]
-fn note_rank(ranks: &mut Vec<(u64, u64)>, state: &State, index: u64) -> Result<(), NoMemory>
-    ensures { OnOk result (ranks.new.items ++ ranks_from state.now (index + 1) (drop (index + 1) state.now.validators) ≡ ranks.old.items ++ ranks_from state.now index (drop index state.now.validators)) }
+#[tactic(auto, using(crate::proofs::Ranks::rank_alone, crate::proofs::Ranks::no_rank))]
+fn note_rank(
+    ranks: &mut Vec<(u64, u64)>,
+    state: &State,
+    index: u64,
+    validator: &Validator,
+) -> Result<(), NoMemory>
+    ensures { OnOk result (ranks.new.items ≡ ranks.old.items ++ ranks_from state.now index (validator.now ∷ [])) }
 {
-    if let Some(validator) = state.validators_at(index) {
-        if is_waiting(state, validator) {
-            ranks.push((validator.activation_eligibility_epoch, index))?;
-        }
+    if is_waiting(state, validator) {
+        ranks.push((validator.activation_eligibility_epoch, index))?;
     }
     Ok(())
 }
 
 /// The ranks of all who wait, in order of index.
-#[tactic(auto, using(crate::proofs::Ranks::ranks_begin, crate::proofs::Ranks::ranks_done))]
+#[tactic(auto, using(crate::proofs::Ranks::rank_next, crate::proofs::Ranks::ranks_end))]
 fn ranks(alloc: Global, state: &State) -> Result<Vec<(u64, u64)>, NoMemory>
     ensures { IfOk result (λ ranks. ranks.items ≡ ranks_from state.now 0 state.now.validators) }
 {
     let mut ranks = Vec::new(alloc);
-    for index in 0..state.validators_len() {
-        note_rank(&mut ranks, state, index)?;
+    let validators = state.validator_list().iter();
+    for (index, validator) in validators.enumerate() {
+        note_rank(&mut ranks, state, index as u64, validator)?;
     }
     Ok(ranks)
 }
@@ -97,38 +101,39 @@ fn is_before_bar(bar: Option<(u64, u64)>, rank: (u64, u64)) -> bool
 }
 
 /// The validator is active from the epoch on where it waits and its rank comes before the bar.
-#[tactic(auto, unfolding(crate::specs::inside::Ranks::activated), using(crate::proofs::Ranks::let_in_here, crate::proofs::Ranks::not_waiting, crate::proofs::Ranks::not_before_bar, crate::proofs::Ranks::let_in_past))]
+#[tactic(auto, unfolding(crate::specs::inside::Ranks::activated), using(crate::proofs::Ranks::let_in_here, crate::proofs::Ranks::not_waiting, crate::proofs::Ranks::not_before_bar, balance_totals::proofs::LeftOf::set_behind))]
 fn let_in(
     state: &mut State,
     index: u64,
+    validator: &Validator,
     bar: Option<(u64, u64)>,
     epoch: u64,
 ) -> Result<(), NoMemory>
+    requires { slice_get state.old.validators index ≡ Some validator.now }
     ensures step { OnOk result (let_in_from state.new bar epoch (index + 1) ≡ let_in_from state.old bar epoch index) }
-    ensures len { length state.new.validators ≡ length state.old.validators }
+    ensures behind { drop (index + 1) state.new.validators ≡ drop (index + 1) state.old.validators }
 {
-    let validator = match state.validators_at(index) {
-        Some(validator) => *validator,
-        None => return Ok(()),
-    };
     let rank = (validator.activation_eligibility_epoch, index);
-    if !is_waiting(state, &validator) || !is_before_bar(bar, rank) {
+    if !is_waiting(state, validator) || !is_before_bar(bar, rank) {
         return Ok(());
     }
     let activated = Validator {
         activation_epoch: epoch,
-        ..validator
+        ..*validator
     };
     state.set_validators_at(index, activated)
 }
 
-/// All who wait and rank before the bar are active from the epoch on.
-#[tactic(auto, using(crate::proofs::Ranks::let_in_end))]
+/// All who wait and rank before the bar are active from the epoch on. The registry is gone through as it was before, which
+/// none who is let in changes for those behind.
+#[tactic(auto, using(crate::proofs::Ranks::let_in_end, balance_totals::proofs::LeftOf::first_left, balance_totals::proofs::LeftOf::others_left, balance_totals::proofs::LeftOf::nothing_left))]
 fn let_all_in(state: &mut State, bar: Option<(u64, u64)>, epoch: u64) -> Result<(), NoMemory>
     ensures { OnOk result (state.new ≡ let_in_from state.old bar epoch 0) }
 {
-    for index in 0..state.validators_len() {
-        let_in(state, index, bar, epoch)?;
+    let registry = state.validator_list().share()?;
+    let validators = registry.iter();
+    for (index, validator) in validators.enumerate() {
+        let_in(state, index as u64, validator, bar, epoch)?;
     }
     Ok(())
 }

@@ -1,6 +1,6 @@
-use Rattle.std.proofs.Common.{◌≡◌, ◌++◌, drop, map}
+use Rattle.std.proofs.Common.{◌≡◌, ◌++◌, map}
 use Rattle.epoch_rewards.specs.inside.Stakes.{stake_of}
 use Rattle.epoch_rewards.proofs.stakes.stakes.Given as goal
 
-abbrev pub invariant-loop-index : goal.invariant-loop-index
-invariant-loop-index l = l.stakes.items ++ map (stake_of l.previous) (drop l.index l.state.validators) ≡ map (stake_of l.previous) l.state.validators
+abbrev pub invariant-loop-validator : goal.invariant-loop-validator
+invariant-loop-validator l = l.stakes.items ++ map (stake_of l.previous) l.validator-iterator ≡ map (stake_of l.previous) l.state.validators
