@@ -40,7 +40,7 @@ use Rattle.fork_store.proofs.ChainBlocks.{reached_more, linked_more, all_linked_
 
 -- ---- choices
 
-passed : {A : Type 0} (b : Bool) (fault : A) (rest : Option A) → cond (not b) (Some fault) rest ≡ None → (b ≡ true) × (rest ≡ None)
+pub passed : {A : Type 0} (b : Bool) (fault : A) (rest : Option A) → cond (not b) (Some fault) rest ≡ None → (b ≡ true) × (rest ≡ None)
 passed true fault rest h = (refl, h)
 passed false fault rest h = absurd cc
 

@@ -1,5 +1,5 @@
 -- The array follows a store whose checkpoints and boost moved.
-use Rattle.std.proofs.Common.{◌≡◌, ◌⊎◌, ℕ, ◌<◌, ◌&&◌, if◌then◌else◌, true, false, List, length, Option, Some, None, is_some, IfSome, refl, sym, ap, ◌∙◌, subst, inl, inr, arith}
+use Rattle.std.proofs.Common.{◌≡◌, ◌⊎◌, ℕ, ◌<◌, ◌&&◌, if◌then◌else◌, Bool, true, false, List, length, Option, Some, None, is_some, IfSome, refl, sym, ap, ◌∙◌, subst, inl, inr, arith}
 use Rattle.std.specs.Cmp.Lexicographic.{bytes_decides}
 use Rattle.std.proofs.lemmas.Bool.{false≢true, cases_Bool, and_parts}
 use Rattle.beacon_types.specs.Equality.{same_root, same_checkpoint}
@@ -172,6 +172,10 @@ module _ (store : Store) (told : Told) where
 
   not_stayed : {P : Type 0} → same_checkpoint store.justified_checkpoint told.justified ≡ false → store.justified_checkpoint ≡ told.justified → P
   not_stayed other is = absurd (false≢true (sym other ∙ is_same store.justified_checkpoint told.justified is))
+
+  -- so where it stayed, nothing is to be shown
+  pub unset_other : (a b : Bool) → same_checkpoint store.justified_checkpoint told.justified ≡ false → store.justified_checkpoint ≡ told.justified → a ≡ b
+  unset_other a b other is = not_stayed other is
 
   -- the justified checkpoint moved, to the best justified one
   to_best : same_checkpoint store.justified_checkpoint told.justified ≡ false → (store.justified_checkpoint ≡ told.justified) ⊎ (store.justified_checkpoint ≡ told.best_justified) → store.justified_checkpoint ≡ told.best_justified

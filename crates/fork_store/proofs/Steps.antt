@@ -1,5 +1,5 @@
 -- What the states of kept blocks have.
-use Rattle.std.proofs.Common.{◌≡◌, ◌==◌, ℕ, Bool, true, false, not, cond, List, [], Option, Some, None, if◌then◌else◌, refl, ap, subst}
+use Rattle.std.proofs.Common.{◌≡◌, ◌==◌, ℕ, Bool, true, false, cond, List, [], Option, Some, None, if◌then◌else◌, refl, ap, subst}
 use Rattle.std.specs.Cmp.Lexicographic.{bytes_decides}
 use Rattle.std.proofs.lemmas.Bool.{and_parts, eqb-true}
 use Rattle.bc_words.specs.Outcome.{done}
@@ -26,6 +26,7 @@ use Rattle.spec_fork_choice.specs.GetForkchoiceStore.{genesis_block}
 use Rattle.spec_fork_choice.specs.OnEvent.{genesis_clash}
 use Rattle.transition.proofs.Genesis.{genesis_sound}
 use Rattle.fork_store.specs.inside.Stores.{IsRootOf, IsBehind, IsKept}
+use Rattle.fork_store.proofs.Chains.{passed}
 
 -- a state that a block was taken to has the block's state root
 pub state_root_is : (s : PlainState) (block : SignedBeaconBlock) (config : ConfigValues) (t : Stepped) → state_transition s block config ≡ done t → same_root block.message.state_root ((state_codec t.state.preset).hash_tree_root t.state) ≡ true
@@ -60,10 +61,6 @@ is_kept blocks root block state behind is none = record {
 }
 
 -- ---- at genesis
-
-passed : {A : Type 0} (b : Bool) (fault : A) (rest : Option A) → cond (not b) (Some fault) rest ≡ None → (b ≡ true) × (rest ≡ None)
-passed true fault rest h = (refl, h)
-passed false fault rest h = absurd cc
 
 -- the header of genesis is that of the genesis block
 genesis_header : (s : PlainState) → is_genesis_header s.latest_block_header ≡ true → s.latest_block_header ≡ header_of (genesis_block s)

@@ -1,5 +1,5 @@
 -- The votes of an attestation in the array.
-use Rattle.std.proofs.Common.{◌≡◌, ◌∙◌, ◌<◌, ℕ, Bool, true, false, if◌then◌else◌, max, List, length, Option, Some, Result, Ok, Err, IsOk, refl, sym, ap, subst, arith}
+use Rattle.std.proofs.Common.{◌≡◌, ◌∙◌, ◌<◌, ℕ, Bool, true, false, if◌then◌else◌, max, List, [], ◌∷◌, length, Option, Some, Result, Ok, Err, IsOk, refl, sym, ap, subst, arith}
 use Rattle.std.proofs.lemmas.Bool.{false≢true}
 use Rattle.bc_words.specs.Outcome.{Becomes}
 use Rattle.bc_words.specs.declared.stop.NoMemory.{NoMemory}
@@ -14,11 +14,11 @@ use Rattle.spec_fork_choice.specs.UpdateLatestMessages.{update_latest_messages}
 use Rattle.fork_store.specs.inside.Trees.{IsTree}
 use Rattle.fork_store.specs.inside.Stores.{IsStore}
 use Rattle.fork_store.specs.inside.Messages.{AllBelow}
-use Rattle.fork_store.specs.inside.Arrays.{Balances, number_of, IsArrayOf}
+use Rattle.fork_store.specs.inside.Arrays.{Balances, number_of, messages_at, IsArrayOf}
 use Rattle.fork_store.specs.inside.ArrayVotes.{updated_array}
 use Rattle.fork_store.specs.inside.Wholes.{IsReady, IsWhole}
 use Rattle.fork_store.proofs.Following.{number_fits, kept_number}
-use Rattle.fork_store.proofs.Messages.{messages_updated}
+use Rattle.fork_store.proofs.Messages.{messages_voted}
 use Rattle.fork_store.proofs.ArraysNodes.{root_of_number}
 use Rattle.fork_store.proofs.ArraysSteps.{keeps_spare}
 use Rattle.fork_store.proofs.ArraysMessages.{votes_begin, votes_step, votes_end, message_nodes, keeps_attestation}
@@ -41,6 +41,17 @@ vote_spare a v m = spare_by (is_news a v m.epoch) a v m
 pub vote_nodes : (a : PlainArray) (v : ℕ) (m : Message) → length (update_latest_message a v m).nodes ≡ length a.nodes
 vote_nodes a v m = ap length (message_nodes a v m)
 
+-- the mark that balances were set stays
+unset_by : (news : Bool) (a : PlainArray) (v : ℕ) (m : Message) → (if news then voted a v m else a).balances_set ≡ a.balances_set
+unfolding voted
+unset_by true a v m = refl
+unset_by false a v m = refl
+
+pub votes_unset : (a : PlainArray) (validators : List ℕ) (m : Message) → (updated_array a validators m).balances_set ≡ a.balances_set
+unfolding updated_array update_latest_message
+votes_unset a [] m = refl
+votes_unset a (v ∷ validators) m = votes_unset (update_latest_message a v m) validators m ∙ unset_by (is_news a v m.epoch) a v m
+
 pub ruleset each_votes = (votes_begin, votes_step, votes_end, vote_made, vote_spare, vote_nodes)
 
 -- ---- all of them
@@ -55,18 +66,22 @@ module _ (store : Store) (a told : PlainArray) (places : ℕ) (is : IsArrayOf st
   told_array : IsArrayOf store told
   told_array = subst (IsArrayOf store) (sym spare) (keeps_spare store a is places)
 
-  pub votes_array : (after : Store) (new : PlainArray) (indices : List ℕ) (attestation : Attestation) (node : ℕ) → IsTree store.blocks → Some node ≡ number_of store.blocks attestation.content.beacon_block_root
-      → after ≡ update_latest_messages store indices attestation → new ≡ updated_array told indices (record { epoch = attestation.content.target.epoch; node = node }) → IsArrayOf after new
-  votes_array after new indices attestation node tree at grown given =
-      let named : root_at told.nodes node ≡ attestation.content.beacon_block_root = ap (λ nodes. root_at nodes node) told_array.nodes ∙ root_of_number store.blocks tree attestation.content.beacon_block_root node (sym at) in
-      subst (IsArrayOf after) (sym given) (subst (λ (s : Store). IsArrayOf s (updated_array told indices (record { epoch = attestation.content.target.epoch; node = node }))) (sym grown)
-      (keeps_attestation store told told_array indices attestation node (voter_fits attestation.content.beacon_block_root node at) named))
+  module _ (new : PlainArray) (indices : List ℕ) (attestation : Attestation) (node : ℕ) (tree : IsTree store.blocks) (at : Some node ≡ number_of store.blocks attestation.content.beacon_block_root) (given : new ≡ updated_array told indices (record { epoch = attestation.content.target.epoch; node = node })) where
+    voted_array : IsArrayOf (update_latest_messages store indices attestation) new
+    voted_array =
+        let named : root_at told.nodes node ≡ attestation.content.beacon_block_root = ap (λ nodes. root_at nodes node) told_array.nodes ∙ root_of_number store.blocks tree attestation.content.beacon_block_root node (sym at) in
+        subst (IsArrayOf (update_latest_messages store indices attestation)) (sym given)
+        (keeps_attestation store told told_array indices attestation node (voter_fits attestation.content.beacon_block_root node at) named)
 
-  pub spare_whole : (ready : Option Balances) → IsWhole store a ready → IsWhole store told ready
-  spare_whole ready whole = record { array_of = told_array; chained = whole.chained; few = whole.few; ready_is = whole.ready_is }
+    -- a store whose votes are those of the array
+    pub store_voted : (after : Store) → after ≡ record store { latest_messages = messages_at new.nodes new.latest_messages } → after ≡ update_latest_messages store indices attestation
+    store_voted after is =
+        is
+        ∙ ap (λ (messages : List (Option LatestMessage)). record store { latest_messages = messages }) (sym voted_array.messages)
+        ∙ sym (messages_voted store indices attestation)
 
-pub same_whole : (store after : Store) (a : PlainArray) (ready : Option Balances) → IsWhole store a ready → after ≡ store → IsWhole after a ready
-same_whole store after a ready whole is = subst (λ (s : Store). IsWhole s a ready) (sym is) whole
+    pub array_voted : (after : Store) → after ≡ record store { latest_messages = messages_at new.nodes new.latest_messages } → IsArrayOf after new
+    array_voted after is = subst (λ (s : Store). IsArrayOf s new) (sym (store_voted after is)) voted_array
 
 ready_voted : (store : Store) (messages : List (Option LatestMessage)) (ready : Option Balances) → IsReady store ready → IsReady (record store { latest_messages = messages }) ready
 unfolding store_target_checkpoint_state state_at IsReady
@@ -82,4 +97,4 @@ same_array store a after ready whole is = subst (λ (x : PlainArray). IsWhole st
 pub tree_of : (store : Store) → IsStore store → IsTree store.blocks
 tree_of store sound = sound.tree
 
-pub ruleset voting = (kept_number, voter_fits, voters_fit, votes_array, spare_whole, same_whole, same_array, votes_whole, tree_of, messages_updated)
+pub ruleset voting = (kept_number, voter_fits, voters_fit, same_array, tree_of)

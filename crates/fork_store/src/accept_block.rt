@@ -5,7 +5,7 @@ ghost use Rattle.std.specs.Prelude.{◌≡◌, ◌<◌, ◌-◌, ◌^◌, ◌++�
 ghost use Rattle.beacon_types.specs.Equality.{same_root};
 ghost use Rattle.spec_state.specs.Genesis.{zero_root};
 ghost use Rattle.spec_fork_choice.specs.Store.{is_kept};
-ghost use Rattle.fork_store.specs.inside.Arrays.{IsArrayOf};
+ghost use Rattle.fork_store.specs.inside.Arrays.{AreNodesOf, IsArrayOf};
 ghost use Rattle.fork_store.specs.inside.Wholes.{IsWhole, IsReady};
 ghost use Rattle.fork_store.specs.inside.Chains.{IsLinked};
 ghost use Rattle.fork_store.specs.inside.Following.{may_move, AreGiven};
@@ -19,7 +19,7 @@ ghost use Rattle.fork_store.specs.inside.Accepts.{BecomesWith};
 
 use crate::block_in::BlockIn;
 use crate::copies::copy_block;
-use crate::follow::{Given, feed, follow, same_checkpoint, told_of};
+use crate::follow::{Given, feed, follow, told_of};
 use crate::kept_block::KeptBlock;
 use crate::number_of::number_of;
 use crate::ready_balances::{ReadyBalances, balances_of};
@@ -29,7 +29,7 @@ use crate::store_fields::StoreFields;
 use bc_words::NoMemory;
 use beacon_body::BeaconBlock;
 use beacon_state::State;
-use beacon_types::Checkpoint;
+use beacon_types::{Checkpoint, same_checkpoint};
 use block_array::{BlockArray, Facts};
 use hash_tree::Root;
 use std::alloc::Global;
@@ -52,6 +52,7 @@ fn is_before_attesting_interval(store: &StoreFields) -> bool
 fn boost(store: &mut StoreFields, slot: u64, root: Root)
     ensures exact { store.new ≡ boosted store.old slot root }
     ensures config { store.new.config ≡ store.old.config }
+    ensures blocks { store.new.blocks ≡ store.old.blocks }
 {
     if current_slot(store) == slot && is_before_attesting_interval(store) {
         store.set_boost_root(root);
@@ -64,6 +65,7 @@ fn take_best(store: &mut StoreFields, checkpoint: Checkpoint)
     requires low { start_slot_of store.old checkpoint < 2 ^ 64 }
     ensures exact { store.new ≡ with_best_justified store.old checkpoint }
     ensures config { store.new.config ≡ store.old.config }
+    ensures blocks { store.new.blocks ≡ store.old.blocks }
 {
     if store.best_justified().epoch < checkpoint.epoch {
         store.set_best_justified(checkpoint);
@@ -72,26 +74,28 @@ fn take_best(store: &mut StoreFields, checkpoint: Checkpoint)
 
 /// A better checkpoint is justified at once where it may be.
 #[tactic(auto, unfolding(spec_fork_choice::specs::OnBlock::with_better_justified))]
-fn take_better(store: &mut StoreFields, checkpoint: Checkpoint)
+fn take_better(store: &mut StoreFields, array: &BlockArray, checkpoint: Checkpoint)
+    requires nodes { AreNodesOf store.old.blocks array.now.nodes }
     requires low { start_slot_of store.old checkpoint < 2 ^ 64 }
     ensures exact { store.new ≡ with_better_justified store.old checkpoint }
     ensures config { store.new.config ≡ store.old.config }
 {
     take_best(store, checkpoint);
-    if should_update_justified_checkpoint(store, checkpoint) {
+    if should_update_justified_checkpoint(store, array, checkpoint) {
         store.set_justified(checkpoint);
     }
 }
 
 /// The state's justified checkpoint is taken where it is of a greater epoch.
 #[tactic(auto, unfolding(crate::specs::inside::Accepted::justified_by))]
-fn justify(store: &mut StoreFields, checkpoint: Checkpoint)
+fn justify(store: &mut StoreFields, array: &BlockArray, checkpoint: Checkpoint)
+    requires nodes { AreNodesOf store.old.blocks array.now.nodes }
     requires low { start_slot_of store.old checkpoint < 2 ^ 64 }
     ensures exact { store.new ≡ justified_by store.old checkpoint }
     ensures config { store.new.config ≡ store.old.config }
 {
     if store.justified().epoch < checkpoint.epoch {
-        take_better(store, checkpoint);
+        take_better(store, array, checkpoint);
     }
 }
 
@@ -111,16 +115,18 @@ fn finalize(store: &mut StoreFields, finalized: Checkpoint, justified: Checkpoin
 #[tactic(auto, unfolding(crate::specs::inside::Accepted::settled))]
 fn settle(
     store: &mut StoreFields,
+    array: &BlockArray,
     slot: u64,
     root: Root,
     justified: Checkpoint,
     finalized: Checkpoint,
 )
+    requires nodes { AreNodesOf store.old.blocks array.now.nodes }
     requires low { start_slot_of store.old justified < 2 ^ 64 }
     ensures { store.new ≡ settled store.old slot root justified finalized }
 {
     boost(store, slot, root);
-    justify(store, justified);
+    justify(store, array, justified);
     finalize(store, finalized, justified);
 }
 
@@ -179,6 +185,8 @@ fn add_block(
     requires named { same_root root zero_root ≡ false }
     ensures exact { Becomes result store.old store.new (record store.old { blocks = store.old.blocks ++ kept_of root block.now state ∷ [] }) }
     ensures array { IsArrayOf store.new array.new }
+    ensures stays { store.new.justified_checkpoint ≡ store.old.justified_checkpoint }
+    ensures unset { array.new.balances_set ≡ array.old.balances_set }
 {
     store.is_sound();
     let facts = Facts {
@@ -213,6 +221,8 @@ fn keep_block(
     requires named { same_root root zero_root ≡ false }
     ensures exact { Becomes result store.old store.new (with_block store.old (kept_of root block.now state)) }
     ensures array { IsArrayOf store.new array.new }
+    ensures stays { store.new.justified_checkpoint ≡ store.old.justified_checkpoint }
+    ensures unset { array.new.balances_set ≡ array.old.balances_set }
 {
     if store.kept(root).is_some() {
         return Ok(());
@@ -221,7 +231,7 @@ fn keep_block(
 }
 
 /// Boost and checkpoints behind a kept block of this slot and root whose state has these checkpoints, and the array follows.
-#[tactic(auto, using(crate::proofs::Settling::settling))]
+#[tactic(auto, using(crate::proofs::Settling::settling, crate::proofs::Walks::array_nodes))]
 fn settle_whole(
     store: &mut StoreFields,
     array: &mut BlockArray,
@@ -241,9 +251,10 @@ fn settle_whole(
     ensures exact { store.new ≡ settled store.old slot root facts.justified facts.finalized }
     ensures array { IsArrayOf store.new array.new }
     ensures ready { IsReady store.new ready.new }
+    ensures unset { store.new.justified_checkpoint ≡ store.old.justified_checkpoint → array.new.balances_set ≡ array.old.balances_set }
 {
     let before = told_of(store);
-    settle(store, slot, root, facts.justified, facts.finalized);
+    settle(store, array, slot, root, facts.justified, facts.finalized);
     feed(store, array, ready, given, &before, root, facts);
     follow(store, array, &before);
 }
@@ -268,6 +279,7 @@ pub(crate) fn accept(
     requires linked { IsLinked store.old.config store.old.blocks step.state }
     ensures exact { BecomesWith result store.old store.new (with_accepted store.old (kept_of root block.now step.state)) (block_in_of root block.now step) }
     ensures whole { IsWhole store.new array.new ready.new }
+    ensures unset { store.new.justified_checkpoint ≡ store.old.justified_checkpoint → array.new.balances_set ≡ array.old.balances_set }
 {
     let Step { state, entered } = step;
     let facts = Facts {

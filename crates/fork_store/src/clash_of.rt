@@ -3,24 +3,22 @@
 ghost use Rattle.std.specs.Prelude.{◌≡◌, ◌≤◌, ◌<◌, ◌^◌, length};
 ghost use Rattle.spec_fork_choice.specs.Clash.{place_of, clash_of};
 
-use crate::kept_block::{KeptBlock, KeptBlocks};
+use crate::kept_block::KeptBlocks;
 use crate::root_clash::is_another;
 use bc_words::ClashKind;
 use beacon_body::BeaconBlock;
 use hash_tree::Root;
 
 /// The place of a root's block among the kept ones, and their number where the root isn't kept.
-#[tactic(auto, using(crate::proofs::Finds::find_place))]
-pub(crate) fn place_of(blocks: &[KeptBlock], root: Root) -> usize
+#[tactic(auto, using(crate::proofs::Finds::placing))]
+fn place_of(blocks: &KeptBlocks, root: Root) -> usize
     ensures place { result ≡ place_of blocks.now root }
     ensures most { result ≤ length blocks.now }
 {
-    for i in 0..blocks.len() {
-        if blocks[i].root() == root {
-            return i;
-        }
+    match blocks.number_of(root) {
+        Some(number) => number,
+        None => blocks.len(),
     }
-    blocks.len()
 }
 
 /// How a block with this root clashes with the kept ones, if it does: its root is zero, or else its state root is, or else its
@@ -37,7 +35,7 @@ pub(crate) fn clash_of(blocks: &KeptBlocks, root: Root, block: &BeaconBlock) -> 
         return Some(ClashKind::ZeroState);
     }
     if is_another(blocks.block(root), block) {
-        let place = place_of(blocks.as_slice(), root);
+        let place = place_of(blocks, root);
         return Some(ClashKind::Kept(place as u32));
     }
     None

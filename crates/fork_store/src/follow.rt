@@ -13,7 +13,7 @@ ghost use Rattle.fork_store.specs.inside.Following.{told_of, with_told, IsFed, A
 use crate::number_of::{boosted_node, number_of};
 use crate::ready_balances::ReadyBalances;
 use crate::store_fields::StoreFields;
-use beacon_types::Checkpoint;
+use beacon_types::{Checkpoint, same_checkpoint};
 use block_array::{BlockArray, Facts};
 use hash_tree::Root;
 
@@ -38,13 +38,6 @@ pub(crate) fn told_of(store: &StoreFields) -> Told
     }
 }
 
-/// Whether the two are equal.
-pub(crate) fn same_checkpoint(a: &Checkpoint, b: &Checkpoint) -> bool
-    ensures { result ≡ same_checkpoint a.now b.now }
-{
-    a.epoch == b.epoch && a.root == b.root
-}
-
 /// Whether the store's checkpoints are those that the array was told.
 fn same_told(store: &StoreFields, before: &Told) -> bool
     ensures { result ≡ (same_checkpoint before.now.justified store.now.justified_checkpoint && same_checkpoint before.now.finalized store.now.finalized_checkpoint) }
@@ -58,7 +51,8 @@ fn same_told(store: &StoreFields, before: &Told) -> bool
 fn tell_checkpoints(store: &StoreFields, array: &mut BlockArray, before: &Told)
     requires fed { IsFed store.now before.now array.old }
     requires kept { AreKept store.now }
-    ensures { IsFed store.now (record before.now { justified = store.now.justified_checkpoint; finalized = store.now.finalized_checkpoint }) array.new }
+    ensures fed { IsFed store.now (record before.now { justified = store.now.justified_checkpoint; finalized = store.now.finalized_checkpoint }) array.new }
+    ensures unset { array.new.balances_set ≡ array.old.balances_set }
 {
     let justified = store.justified();
     match number_of(store.blocks(), justified.root) {
@@ -72,7 +66,8 @@ fn tell_checkpoints(store: &StoreFields, array: &mut BlockArray, before: &Told)
 fn follow_checkpoints(store: &StoreFields, array: &mut BlockArray, before: &Told)
     requires fed { IsFed store.now before.now array.old }
     requires kept { AreKept store.now }
-    ensures { IsFed store.now (record before.now { justified = store.now.justified_checkpoint; finalized = store.now.finalized_checkpoint }) array.new }
+    ensures fed { IsFed store.now (record before.now { justified = store.now.justified_checkpoint; finalized = store.now.finalized_checkpoint }) array.new }
+    ensures unset { array.new.balances_set ≡ array.old.balances_set }
 {
     if !same_told(store, before) {
         tell_checkpoints(store, array, before);
@@ -86,7 +81,8 @@ fn follow_boost(store: &StoreFields, array: &mut BlockArray, told: &Told)
     requires justified { told.now.justified ≡ store.now.justified_checkpoint }
     requires finalized { told.now.finalized ≡ store.now.finalized_checkpoint }
     requires kept { AreKept store.now }
-    ensures { IsArrayOf store.now array.new }
+    ensures array { IsArrayOf store.now array.new }
+    ensures unset { array.new.balances_set ≡ array.old.balances_set }
 {
     let root = store.boost_root();
     if told.boost_root == root {
@@ -99,7 +95,8 @@ fn follow_boost(store: &StoreFields, array: &mut BlockArray, told: &Told)
 pub(crate) fn follow(store: &StoreFields, array: &mut BlockArray, before: &Told)
     requires fed { IsFed store.now before.now array.old }
     requires kept { AreKept store.now }
-    ensures { IsArrayOf store.now array.new }
+    ensures array { IsArrayOf store.now array.new }
+    ensures unset { array.new.balances_set ≡ array.old.balances_set }
 {
     follow_checkpoints(store, array, before);
     let told = Told {
@@ -136,6 +133,7 @@ pub(crate) fn feed_best(
     requires moved { (store.now.justified_checkpoint ≡ before.now.justified) ⊎ (store.now.justified_checkpoint ≡ before.now.best_justified) }
     ensures fed { IsFed store.now before.now array.new }
     ensures ready { IsReady store.now ready.new }
+    ensures unset { store.now.justified_checkpoint ≡ before.now.justified → array.new.balances_set ≡ array.old.balances_set }
 {
     if !same_checkpoint(&store.justified(), &before.justified) {
         give_ready(array, ready);
@@ -216,7 +214,7 @@ fn hold_best(
 
 /// Gives the array the balances of another justified checkpoint, and holds ready those of another best justified one, where a
 /// block of this root, whose state has these checkpoints, moved them.
-#[tactic(auto, using(crate::proofs::Following::staying))]
+#[tactic(auto, using(crate::proofs::Following::staying, crate::proofs::Following::unset_other))]
 pub(crate) fn feed(
     store: &StoreFields,
     array: &mut BlockArray,
@@ -232,6 +230,7 @@ pub(crate) fn feed(
     requires given { AreGiven (with_told store.now before.now) given.justified given.best_justified facts.justified facts.finalized }
     ensures fed { IsFed store.now before.now array.new }
     ensures ready { IsReady store.now ready.new }
+    ensures unset { store.now.justified_checkpoint ≡ before.now.justified → array.new.balances_set ≡ array.old.balances_set }
 {
     if same_checkpoint(&store.justified(), &before.justified) {
         hold_best(store, ready, given, before, root, facts);

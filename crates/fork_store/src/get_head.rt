@@ -13,7 +13,7 @@ use std::sync::ledger::Ledger;
 
 /// The root at a place.
 #[tactic(auto, using(crate::proofs::Heads::reading))]
-fn root_at(roots: &[Root], place: usize) -> Root
+pub(crate) fn root_at(roots: &[Root], place: usize) -> Root
     requires { place < length roots.now }
     ensures { result ≡ slice_index_or roots.now place [] }
 {

@@ -2,17 +2,19 @@
 //!
 //! Blocks and states come from the handlers of the store; its walks look them up by their roots.
 
-ghost use Rattle.std.specs.Prelude.{◌≡◌, ◌∷◌, ◌++◌, [], length, map, slice_get};
+ghost use Rattle.std.specs.Prelude.{◌≡◌, ◌∷◌, ◌++◌, [], false, length, map, slice_get};
 ghost use Rattle.std.specs.Option.{option_map};
 ghost use Rattle.bc_words.specs.Outcome.{Becomes};
 ghost use Rattle.spec_state.specs.Soundness.{IsSound};
 ghost use Rattle.fork_store.specs.inside.Stores.{IsKept};
-ghost use Rattle.spec_fork_choice.specs.Store.{block_of};
+ghost use Rattle.fork_store.specs.inside.Arrays.{number_of};
+ghost use Rattle.spec_fork_choice.specs.Store.{block_of, is_kept};
 
 use bc_words::NoMemory;
 use beacon_body::BeaconBlock;
 use beacon_state::State;
 use hash_tree::Root;
+use indexmap::IndexSet;
 use std::alloc::Global;
 use std::marker::Model;
 
@@ -68,15 +70,17 @@ impl KeptBlock {
     }
 }
 
-/// Kept blocks in the order of their acceptance. Clauses see the list of them.
+/// Kept blocks in the order of their acceptance, each looked up by its root. Clauses see the list of them.
+///
+/// No two have one root: what is beside the list is their roots, in the same order, as a map from a root to its number.
 #[derive(Drop)]
 pub struct KeptBlocks {
     items: Vec<KeptBlock>,
-    roots: Vec<Root>,
+    roots: IndexSet<Root>,
 }
 
 impl Model for KeptBlocks {
-    ghost use Rattle.std.specs.Prelude.{◌≡◌, List, map};
+    ghost use Rattle.std.specs.Prelude.{◌≡◌, List};
     ghost use Rattle.spec_fork_choice.specs.Store.{KeptBlock as PlainBlock};
     ghost use Rattle.fork_store.specs.inside.Roots.{roots_of};
 
@@ -84,7 +88,7 @@ impl Model for KeptBlocks {
 
     ghost view = { λ blocks. blocks.items.items };
 
-    ghost invariant = { λ blocks. blocks.roots.items ≡ roots_of blocks.items.items };
+    ghost invariant = { λ blocks. blocks.roots.keys ≡ roots_of blocks.items.items };
 }
 
 impl KeptBlocks {
@@ -96,7 +100,7 @@ impl KeptBlocks {
     {
         KeptBlocks {
             items: Vec::new(alloc),
-            roots: Vec::new(alloc),
+            roots: IndexSet::new(alloc),
         }
     }
 
@@ -114,13 +118,6 @@ impl KeptBlocks {
         self.items.as_slice().get(index)
     }
 
-    /// All of them.
-    pub fn as_slice(&self) -> &[KeptBlock]
-        ensures { result.now ≡ self.now }
-    {
-        self.items.as_slice()
-    }
-
     /// Their roots.
     pub fn roots(&self) -> &[Root]
         ensures { result.now ≡ roots_of self.now }
@@ -128,22 +125,34 @@ impl KeptBlocks {
         self.roots.as_slice()
     }
 
-    /// Adds a block behind the others. Where memory is refused, they are as before.
+    /// Adds a block behind the others, whose root isn't kept yet. Where memory is refused, they are as before.
     pub(crate) fn push(&mut self, kept: KeptBlock) -> Result<(), NoMemory>
+        requires fresh { is_kept self.old kept.root ≡ false }
         ensures { Becomes result self.old self.new (self.old ++ kept ∷ []) }
     {
-        self.roots.try_reserve(1)?;
+        self.roots.reserve(1)?;
         let root = kept.root();
         self.items.push(kept)?;
-        let _room = self.roots.push(root);
+        let _room = self.roots.insert(root);
         Ok(())
     }
 
+    /// The number of the block of a root, that of genesis being 0. None exactly where the root isn't kept.
+    pub fn number_of(&self, root: Root) -> Option<usize>
+        ensures { result ≡ number_of self.now root }
+    {
+        self.roots.get_index_of(&root)
+    }
+
     /// The block of a root. None exactly where the root isn't kept.
+    #[tactic(auto, using(crate::proofs::Finds::finding))]
     pub fn find(&self, root: Root) -> Option<&KeptBlock>
         ensures { option_map (λ kept. kept.now) result ≡ block_of self.now root }
     {
-        find_block(self.items.as_slice(), &root)
+        match self.number_of(root) {
+            Some(number) => self.get(number),
+            None => None,
+        }
     }
 
     /// The same without its state.
@@ -155,17 +164,4 @@ impl KeptBlocks {
             None => None,
         }
     }
-}
-
-/// The first block of a root.
-#[tactic(auto, using(crate::proofs::Finds::find_block))]
-fn find_block<'a>(blocks: &'a [KeptBlock], root: &Root) -> Option<&'a KeptBlock>
-    ensures { option_map (λ kept. kept.now) result ≡ block_of blocks.now root.now }
-{
-    for i in 0..blocks.len() {
-        if blocks[i].root() == *root {
-            return Some(&blocks[i]);
-        }
-    }
-    None
 }

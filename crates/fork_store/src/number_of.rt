@@ -4,18 +4,17 @@ ghost use Rattle.std.specs.Prelude.{◌≡◌, ◌<◌, ◌^◌, true, length};
 ghost use Rattle.fork_store.specs.inside.Arrays.{number_of, IsBoostedNode};
 ghost use Rattle.fork_store.specs.inside.Boosts.{IsZeroOrKept};
 
-use crate::clash_of::place_of;
 use crate::kept_block::KeptBlocks;
 use hash_tree::Root;
 
 /// The number of a root's block. None exactly where the root isn't kept.
-#[tactic(auto, unfolding(crate::specs::inside::Arrays::number_of, spec_fork_choice::specs::Store::is_kept))]
+#[tactic(auto, using(crate::proofs::Finds::inside))]
 pub(crate) fn number_of(blocks: &KeptBlocks, root: Root) -> Option<u32>
     requires { length blocks.now < 2 ^ 32 }
     ensures { result ≡ number_of blocks.now root }
 {
-    match blocks.find(root) {
-        Some(_) => Some(place_of(blocks.as_slice(), root) as u32),
+    match blocks.number_of(root) {
+        Some(number) => Some(number as u32),
         None => None,
     }
 }

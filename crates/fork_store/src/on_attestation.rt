@@ -8,6 +8,7 @@ ghost use Rattle.bc_words.specs.Events.{StoreChanges};
 ghost use Rattle.committees.specs.Committees.{committee_at};
 ghost use Rattle.spec_state.specs.Misc.{compute_epoch_at_slot};
 ghost use Rattle.spec_fork_choice.specs.OnAttestation.{on_attestation};
+ghost use Rattle.fork_store.specs.inside.Arrays.{AreNodesOf};
 ghost use Rattle.fork_store.specs.inside.CheckpointStates.{IsStateOf};
 ghost use Rattle.fork_store.specs.inside.Votes.{attesters_among, attesters_of, judged, event_of};
 
@@ -21,6 +22,7 @@ use attest_ops::attesting_indices;
 use bc_words::{NoMemory, Refusal, Stop, StoreStop};
 use beacon_body::Attestation;
 use beacon_types::{AggregationBits, AttestationData};
+use block_array::BlockArray;
 use committees::EpochCommittees;
 use std::alloc::Global;
 
@@ -142,13 +144,15 @@ fn judge_target(
 fn judge(
     alloc: Global,
     store: &StoreFields,
+    array: &BlockArray,
     attestation: &Attestation,
     is_from_block: bool,
 ) -> Result<Judged, Stop>
+    requires { AreNodesOf store.now.blocks array.now.nodes }
     ensures exact { GivesBy (λ judged. judged.indices.items) result (judged store.now attestation.now is_from_block) }
     ensures made { IfOk result (λ judged. IfSome judged.made (λ made. IsStateOf store.now made)) }
 {
-    validate_on_attestation(store, attestation, is_from_block)?;
+    validate_on_attestation(store, array, attestation, is_from_block)?;
     judge_target(alloc, store, attestation)
 }
 
@@ -167,13 +171,15 @@ fn keep_made(store: &mut StoreFields, made: Option<CheckpointState>) -> Result<(
 fn take_attesters(
     alloc: Global,
     store: &mut StoreFields,
+    array: &BlockArray,
     attestation: &Attestation,
     is_from_block: bool,
 ) -> Result<Vec<u64>, Stop>
+    requires { AreNodesOf store.old.blocks array.now.nodes }
     ensures exact { GivesBy (λ members. members.items) result (judged store.old attestation.now is_from_block) }
     ensures same { store.new ≡ store.old }
 {
-    let judged = judge(alloc, store, attestation, is_from_block)?;
+    let judged = judge(alloc, store, array, attestation, is_from_block)?;
     let Judged { indices, made } = judged;
     keep_made(store, made)?;
     Ok(indices)
@@ -184,17 +190,25 @@ impl Store {
     /// checked.
     ///
     /// Refused, in this order: as `validate_on_attestation` has it; as the slots up to the target's first one are, with their
-    /// limit; `FcCommittee`, `FcBitsShort`, `FcEmpty`. After a stop the store is as before. It never clashes.
-    #[tactic(auto, using(crate::proofs::Votes::handling, crate::proofs::Votes::voted_is_kept))]
+    /// limit; `FcCommittee`, `FcBitsShort`, `FcEmpty`. After a stop the store is as before. It never clashes, and gives the array
+    /// no balances.
+    #[tactic(auto, using(crate::proofs::Votes::handling, crate::proofs::Votes::voted_is_kept, crate::proofs::Walks::whole_nodes))]
     pub fn on_attestation(
         &mut self,
         alloc: Global,
         attestation: &Attestation,
         from_block: bool,
     ) -> Result<(), StoreStop>
-        ensures { StoreChanges result self.old.plain self.new.plain (event_of (on_attestation self.old.plain attestation.now from_block)) }
+        ensures exact { StoreChanges result self.old.plain self.new.plain (event_of (on_attestation self.old.plain attestation.now from_block)) }
+        ensures unset { self.new.array.balances_set ≡ self.old.array.balances_set }
     {
-        let indices = take_attesters(alloc, &mut self.fields, attestation, from_block)?;
+        let indices = take_attesters(
+            alloc,
+            &mut self.fields,
+            &self.array,
+            attestation,
+            from_block,
+        )?;
         update_latest_messages(
             &mut self.fields,
             &mut self.array,

@@ -7,6 +7,7 @@ ghost use Rattle.fork_store.specs.inside.Trees.{HasParent};
 ghost use Rattle.spec_fork_choice.specs.Clash.{clash_of};
 ghost use Rattle.spec_fork_choice.specs.OnBlock.{block_step, accept_block, on_block};
 ghost use Rattle.fork_store.specs.inside.Accepts.{Accepts};
+ghost use Rattle.fork_store.specs.inside.Arrays.{AreNodesOf};
 ghost use Rattle.fork_store.specs.inside.Wholes.{IsWhole};
 ghost use Rattle.fork_store.specs.inside.Chains.{IsChained, IsLinked};
 
@@ -28,7 +29,13 @@ use transition::state_transition::state_transition;
 
 /// The checks of a block, and the step of its parent's state by it.
 #[tactic(auto, using(crate::proofs::Steps::state_root_is), unfolding(spec_fork_choice::specs::OnBlock::block_step, spec_fork_choice::specs::StoreTargetCheckpointState::kept_or))]
-fn block_step(alloc: Global, store: &StoreFields, block: &SignedBeaconBlock) -> Result<Step, Stop>
+fn block_step(
+    alloc: Global,
+    store: &StoreFields,
+    array: &BlockArray,
+    block: &SignedBeaconBlock,
+) -> Result<Step, Stop>
+    requires nodes { AreNodesOf store.now.blocks array.now.nodes }
     requires chained { IsChained store.now }
     ensures step { Gives result (block_step store.now block.now) }
     ensures behind { IfOk result (λ step. IsBehind block.now.message step.state) }
@@ -48,7 +55,7 @@ fn block_step(alloc: Global, store: &StoreFields, block: &SignedBeaconBlock) -> 
     if u128::from(message.slot) <= finalized_slot {
         return Err(Stop::Refused(Refusal::BeforeFinalized));
     }
-    if get_ancestor(store, message.parent_root, finalized_slot) != store.finalized().root {
+    if get_ancestor(store, array, message.parent_root, finalized_slot) != store.finalized().root {
         return Err(Stop::Refused(Refusal::NotOnFinalized));
     }
     let step = state_transition(alloc, parent.state(), block, store.config())?;
@@ -75,6 +82,7 @@ fn accept_unless(
     requires linked { IsLinked store.old.config store.old.blocks step.state }
     ensures exact { Accepts result store.old store.new (accept_block store.old block.now root step (clash_of store.old.blocks root block.now.state_root block.now)) }
     ensures whole { IsWhole store.new array.new ready.new }
+    ensures unset { store.new.justified_checkpoint ≡ store.old.justified_checkpoint → array.new.balances_set ≡ array.old.balances_set }
 {
     match clash_of(store.blocks(), root, block) {
         Some(kind) => Err(StoreStop::Clash(kind)),
@@ -88,17 +96,18 @@ impl Store {
     ///
     /// Refused, in this order: as `ParentUnknown`, `FutureBlock`, `BeforeFinalized`, `NotOnFinalized`, and as the state
     /// transition is. Limited as that is too. A clash comes last, where the block's root or state root is zero or another block
-    /// of its root is kept.
-    #[tactic(auto, unfolding(spec_fork_choice::specs::OnBlock::on_block, crate::specs::inside::Stores::IsRootOf))]
+    /// of its root is kept. Where the justified checkpoint stays, the array is given no balances.
+    #[tactic(auto, using(crate::proofs::Walks::whole_nodes), unfolding(spec_fork_choice::specs::OnBlock::on_block, crate::specs::inside::Stores::IsRootOf))]
     pub fn on_block(
         &mut self,
         alloc: Global,
         block: &SignedBeaconBlock,
     ) -> Result<BlockIn, StoreStop>
         requires few { length self.old.plain.blocks < 2 ^ 32 - 1 }
-        ensures { Accepts result self.old.plain self.new.plain (on_block self.old.plain block.now) }
+        ensures exact { Accepts result self.old.plain self.new.plain (on_block self.old.plain block.now) }
+        ensures unset { self.new.plain.justified_checkpoint ≡ self.old.plain.justified_checkpoint → self.new.array.balances_set ≡ self.old.array.balances_set }
     {
-        let step = block_step(alloc, &self.fields, block)?;
+        let step = block_step(alloc, &self.fields, &self.array, block)?;
         accept_unless(
             alloc,
             &mut self.fields,

@@ -4,7 +4,7 @@ ghost use Rattle.std.specs.Prelude.{◌≡◌, ◌⊎◌};
 ghost use Rattle.bc_words.specs.Outcome.{ChangesOrRefuses};
 ghost use Rattle.spec_fork_choice.specs.OnTick.{is_better_justified, in_new_epoch, in_new_slot, on_tick};
 ghost use Rattle.spec_state.specs.Genesis.{zero_root};
-ghost use Rattle.fork_store.specs.inside.Arrays.{IsArrayOf};
+ghost use Rattle.fork_store.specs.inside.Arrays.{AreNodesOf, IsArrayOf};
 ghost use Rattle.fork_store.specs.inside.Wholes.{IsReady};
 ghost use Rattle.fork_store.specs.inside.Following.{with_told, AreKept};
 
@@ -19,19 +19,21 @@ use block_array::BlockArray;
 
 /// Whether the best justified checkpoint is better than the justified one, and behind the finalized one.
 #[tactic(auto, unfolding(spec_fork_choice::specs::OnTick::is_better_justified))]
-fn is_better_justified(store: &StoreFields) -> bool
+fn is_better_justified(store: &StoreFields, array: &BlockArray) -> bool
+    requires { AreNodesOf store.now.blocks array.now.nodes }
     ensures { result ≡ is_better_justified store.now }
 {
     let best = store.best_justified();
-    store.justified().epoch < best.epoch && is_behind(store, best.root, store.finalized())
+    store.justified().epoch < best.epoch && is_behind(store, array, best.root, store.finalized())
 }
 
 /// In an epoch's first slot the best justified checkpoint becomes the justified one, where it is better.
 #[tactic(auto, unfolding(spec_fork_choice::specs::OnTick::in_new_epoch))]
-fn in_new_epoch(store: &mut StoreFields)
+fn in_new_epoch(store: &mut StoreFields, array: &BlockArray)
+    requires { AreNodesOf store.old.blocks array.now.nodes }
     ensures { store.new ≡ in_new_epoch store.old }
 {
-    if is_better_justified(store) {
+    if is_better_justified(store, array) {
         let best = store.best_justified();
         store.set_justified(best);
     }
@@ -39,19 +41,21 @@ fn in_new_epoch(store: &mut StoreFields)
 
 /// A new slot has no boost.
 #[tactic(auto, unfolding(spec_fork_choice::specs::OnTick::in_new_slot))]
-fn in_new_slot(store: &mut StoreFields)
+fn in_new_slot(store: &mut StoreFields, array: &BlockArray)
+    requires { AreNodesOf store.old.blocks array.now.nodes }
     ensures { store.new ≡ in_new_slot store.old }
 {
     let behind = slots_since_epoch_start(store.config().preset(), current_slot(store));
     store.set_boost_root([0; 32]);
     if behind == 0 {
-        in_new_epoch(store);
+        in_new_epoch(store, array);
     }
 }
 
 /// The time, in seconds, is this one now.
 #[tactic(auto, unfolding(spec_fork_choice::specs::OnTick::on_tick))]
-fn tick(store: &mut StoreFields, time: u64) -> Result<(), Refusal>
+fn tick(store: &mut StoreFields, array: &BlockArray, time: u64) -> Result<(), Refusal>
+    requires { AreNodesOf store.old.blocks array.now.nodes }
     ensures { ChangesOrRefuses result store.old store.new (on_tick store.old time) }
 {
     if time < store.time() {
@@ -60,7 +64,7 @@ fn tick(store: &mut StoreFields, time: u64) -> Result<(), Refusal>
     let before = current_slot(store);
     store.set_time(time);
     if before < current_slot(store) {
-        in_new_slot(store);
+        in_new_slot(store, array);
     }
     Ok(())
 }
@@ -79,6 +83,7 @@ fn follow_tick(
     requires kept { AreKept store.now }
     ensures array { IsArrayOf store.now array.new }
     ensures ready { IsReady store.now ready.new }
+    ensures unset { store.now.justified_checkpoint ≡ before.now.justified → array.new.balances_set ≡ array.old.balances_set }
 {
     feed_best(store, array, ready, before);
     follow(store, array, before);
@@ -87,13 +92,15 @@ fn follow_tick(
 impl Store {
     /// The time, in seconds, is this one now (fork-choice.md, `on_tick`). It takes no memory.
     ///
-    /// Refused as `TickBack` where it is before the store's, which is then as it was.
-    #[tactic(auto, using(crate::proofs::Ticks::ticking))]
+    /// Refused as `TickBack` where it is before the store's, which is then as it was. Where the justified checkpoint stays, the
+    /// array is given no balances.
+    #[tactic(auto, using(crate::proofs::Ticks::ticking, crate::proofs::Walks::whole_nodes))]
     pub fn on_tick(&mut self, time: u64) -> Result<(), Refusal>
-        ensures { ChangesOrRefuses result self.old.plain self.new.plain (on_tick self.old.plain time) }
+        ensures exact { ChangesOrRefuses result self.old.plain self.new.plain (on_tick self.old.plain time) }
+        ensures unset { self.new.plain.justified_checkpoint ≡ self.old.plain.justified_checkpoint → self.new.array.balances_set ≡ self.old.array.balances_set }
     {
         let before = told_of(&self.fields);
-        tick(&mut self.fields, time)?;
+        tick(&mut self.fields, &self.array, time)?;
         follow_tick(&self.fields, &mut self.array, &mut self.ready, &before);
         Ok(())
     }

@@ -2,7 +2,7 @@
 //!
 //! They come from the state of a checkpoint, and go to the array of nodes once that checkpoint is the justified one.
 
-ghost use Rattle.std.specs.Prelude.{◌≡◌, ◌+◌, ◌<◌, ◌≤◌, ◌^◌, ◌++◌, ◌∷◌, [], max, map, take, length, IfOk};
+ghost use Rattle.std.specs.Prelude.{◌≡◌, ◌+◌, ◌<◌, ◌≤◌, ◌^◌, ◌++◌, ◌∷◌, [], map, take, length, IfOk};
 ghost use Rattle.std.specs.List.{sum_by};
 ghost use Rattle.spec_state.specs.Accessors.{get_current_epoch};
 ghost use Rattle.spec_state.specs.Misc.{effective_balance};
@@ -148,13 +148,6 @@ fn active_total(state: &State) -> u128
     sum
 }
 
-/// The sum, or the increment where that is greater.
-fn at_least(increment: u128, sum: u128) -> u128
-    ensures { result ≡ max increment sum }
-{
-    if sum < increment { increment } else { sum }
-}
-
 /// The balances of a state.
 #[tactic(auto, unfolding(crate::specs::inside::Arrays::balances_in, spec_fork_choice::specs::GetLatestAttestingBalance::active_in))]
 fn balances_in(alloc: Global, state: &State) -> Result<ReadyBalances, NoMemory>
@@ -163,10 +156,7 @@ fn balances_in(alloc: Global, state: &State) -> Result<ReadyBalances, NoMemory>
     let preset = state.preset();
     preset.bounds();
     let list = list_of(alloc, state)?;
-    let total = at_least(
-        u128::from(preset.effective_balance_increment),
-        active_total(state),
-    );
+    let total = u128::from(preset.effective_balance_increment).max(active_total(state));
     Ok(ReadyBalances {
         list,
         count: count_active(state, current_epoch(state)),

@@ -11,21 +11,24 @@ ghost use Rattle.fork_store.specs.inside.Stores.{HasPreset, IsStore};
 ghost use Rattle.fork_store.specs.inside.Trees.{Follows, IsTree};
 ghost use Rattle.spec_fork_choice.specs.Store.{block_of};
 ghost use Rattle.spec_fork_choice.specs.Slots.{start_slot_of};
-ghost use Rattle.fork_store.specs.inside.Messages.{updated};
+ghost use Rattle.fork_store.specs.inside.Arrays.{messages_at};
 ghost use Rattle.fork_store.specs.inside.Genesis.{at_genesis};
 ghost use Rattle.fork_store.specs.inside.CheckpointStates.{IsStateOf};
 
 use crate::checkpoint_states::{CheckpointState, CheckpointStates};
 use crate::kept_block::{KeptBlock, KeptBlocks};
-use crate::latest_messages::{LatestMessage, LatestMessages};
 use bc_preset::Config;
 use bc_words::NoMemory;
 use beacon_types::Checkpoint;
+use block_array::BlockArray;
 use hash_tree::Root;
 use std::marker::Model;
+use std::snapshot::Snapshot;
 
-/// The fields: the configuration, the time, three checkpoints, the boosted block's root, the kept blocks with their states, and
-/// the latest votes.
+/// The fields: the configuration, the time, three checkpoints, the boosted block's root, and the kept blocks with their states.
+///
+/// The latest votes are kept in the array of nodes alone. What is here of them is the array as it was when votes were last taken,
+/// which only clauses read.
 #[derive(Drop)]
 pub(crate) struct StoreFields {
     config: Config,
@@ -36,7 +39,7 @@ pub(crate) struct StoreFields {
     best_justified: Checkpoint,
     boost_root: Root,
     blocks: KeptBlocks,
-    messages: LatestMessages,
+    voted: Option<Snapshot<BlockArray>>,
     states: CheckpointStates,
 }
 
@@ -60,14 +63,13 @@ impl StoreFields {
         time: u64,
         checkpoint: Checkpoint,
         blocks: KeptBlocks,
-        messages: LatestMessages,
         states: CheckpointStates,
     ) -> StoreFields
         requires presets { AllByRecursion (HasPreset config.preset) blocks }
         requires tree { IsTree blocks }
         requires first { checkpoint.epoch ≡ 0 }
         requires none { states ≡ [] }
-        ensures { result ≡ at_genesis config time checkpoint blocks messages }
+        ensures { result ≡ at_genesis config time checkpoint blocks [] }
     {
         StoreFields {
             config,
@@ -78,7 +80,7 @@ impl StoreFields {
             best_justified: checkpoint,
             boost_root: [0; 32],
             blocks,
-            messages,
+            voted: None,
             states,
         }
     }
@@ -159,22 +161,11 @@ impl StoreFields {
         self.blocks.find(root)
     }
 
-    /// The latest votes.
-    pub(crate) fn messages(&self) -> &LatestMessages
-        ensures { result.now ≡ self.now.latest_messages }
+    /// The latest votes are those that the array has now. It takes no memory.
+    pub(crate) fn take_votes(&mut self, array: &BlockArray)
+        ensures { self.new ≡ record self.old { latest_messages = messages_at array.now.nodes array.now.latest_messages } }
     {
-        &self.messages
-    }
-
-    /// Takes a vote for each of some validators to whom it is news. Where memory is refused, the store is as before.
-    pub(crate) fn update_messages(
-        &mut self,
-        indices: &[u64],
-        message: LatestMessage,
-    ) -> Result<(), NoMemory>
-        ensures { Becomes result self.old self.new (record self.old { latest_messages = updated self.old.latest_messages indices.now message }) }
-    {
-        self.messages.update(indices, message)
+        self.voted = Some(Snapshot::of(array));
     }
 
     /// Takes another time, which isn't before genesis.

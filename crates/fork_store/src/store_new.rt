@@ -12,7 +12,6 @@ ghost use Rattle.spec_fork_choice.specs.OnEvent.{genesis_clash, open_store};
 use crate::checkpoint_states::CheckpointStates;
 use crate::clash_of::clash_of;
 use crate::kept_block::{KeptBlock, KeptBlocks};
-use crate::latest_messages::LatestMessages;
 use crate::ready_balances::balances_of;
 use crate::store::Store;
 use crate::store_fields::StoreFields;
@@ -78,7 +77,7 @@ fn genesis_clash(
 }
 
 /// The fields of the store whose one block is that of genesis.
-#[tactic(auto, using(crate::proofs::Steps::genesis_is_kept, crate::proofs::Trees::tree_of_one), unfolding(spec_fork_choice::specs::GetForkchoiceStore::get_forkchoice_store, crate::specs::inside::Stores::IsRootOf))]
+#[tactic(auto, using(crate::proofs::Steps::genesis_is_kept, crate::proofs::Trees::tree_of_one, crate::proofs::Finds::nothing_kept), unfolding(spec_fork_choice::specs::GetForkchoiceStore::get_forkchoice_store, crate::specs::inside::Stores::IsRootOf))]
 fn forkchoice_fields(
     alloc: Global,
     config: &Config,
@@ -98,9 +97,8 @@ fn forkchoice_fields(
     let mut blocks = KeptBlocks::new(alloc);
     blocks.push(KeptBlock::new(root, block, genesis))?;
     let checkpoint = Checkpoint { epoch: 0, root };
-    let messages = LatestMessages::new(alloc);
     let states = CheckpointStates::new(alloc);
-    Ok(StoreFields::at_genesis(*config, time, checkpoint, blocks, messages, states))
+    Ok(StoreFields::at_genesis(*config, time, checkpoint, blocks, states))
 }
 
 /// The array whose one node is that of genesis, with the balances of the justified checkpoint.

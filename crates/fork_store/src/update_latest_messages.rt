@@ -1,6 +1,6 @@
 //! The votes of an attestation (fork-choice.md, "update_latest_messages").
 
-ghost use Rattle.std.specs.Prelude.{◌≡◌, ◌<◌, true, length};
+ghost use Rattle.std.specs.Prelude.{◌≡◌, ◌<◌, ◌≤◌, true, length, IfOk};
 ghost use Rattle.bc_words.specs.Outcome.{Becomes};
 ghost use Rattle.spec_fork_choice.specs.Store.{is_kept};
 ghost use Rattle.spec_fork_choice.specs.UpdateLatestMessages.{update_latest_messages};
@@ -8,13 +8,35 @@ ghost use Rattle.fork_store.specs.inside.Messages.{AllBelow};
 ghost use Rattle.fork_store.specs.inside.ArrayVotes.{updated_array};
 ghost use Rattle.fork_store.specs.inside.Wholes.{IsWhole};
 
-use crate::latest_messages::{LatestMessage, places_for};
 use crate::number_of::number_of;
 use crate::ready_balances::ReadyBalances;
 use crate::store_fields::StoreFields;
 use bc_words::NoMemory;
 use beacon_body::Attestation;
 use block_array::BlockArray;
+
+/// How many places a list needs so that it has one for each of these indices. Without memory where no list is so long.
+fn places_for(indices: &[u64]) -> Result<usize, NoMemory>
+    ensures { IfOk result (λ places. AllBelow places indices.now) }
+{
+    let mut places = 0;
+    for i in 0..indices.len() {
+        places = places_with(places, indices[i])?;
+    }
+    Ok(places)
+}
+
+/// So many places, or more where an index needs more.
+fn places_with(places: usize, index: u64) -> Result<usize, NoMemory>
+    ensures index { IfOk result (λ more. index < more) }
+    ensures more { IfOk result (λ more. places ≤ more) }
+{
+    if index == u64::MAX {
+        return Err(NoMemory);
+    }
+    let needed = index as usize + 1;
+    Ok(if places < needed { needed } else { places })
+}
 
 /// Takes the votes of these validators for a node. There is room for all.
 #[tactic(auto, using(crate::proofs::Voting::each_votes))]
@@ -42,6 +64,7 @@ pub(crate) fn update_latest_messages(
     requires kept { is_kept store.old.blocks attestation.now.content.beacon_block_root ≡ true }
     ensures exact { Becomes result store.old store.new (update_latest_messages store.old attesting_indices.now attestation.now) }
     ensures whole { IsWhole store.new array.new ready.now }
+    ensures unset { array.new.balances_set ≡ array.old.balances_set }
 {
     store.is_sound();
     let voted = &attestation.content;
@@ -50,8 +73,7 @@ pub(crate) fn update_latest_messages(
     };
     let places = places_for(attesting_indices)?;
     array.reserve(places as u64)?;
-    let message = LatestMessage::new(voted.target.epoch, voted.beacon_block_root);
-    store.update_messages(attesting_indices, message)?;
     vote_all(array, attesting_indices, node, voted.target.epoch);
+    store.take_votes(array);
     Ok(())
 }

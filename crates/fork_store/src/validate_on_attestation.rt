@@ -5,6 +5,7 @@ ghost use Rattle.bc_words.specs.Outcome.{GivesExactly};
 ghost use Rattle.spec_state.specs.Misc.{compute_epoch_at_slot};
 ghost use Rattle.spec_fork_choice.specs.Store.{is_kept};
 ghost use Rattle.spec_fork_choice.specs.ValidateOnAttestation.{validate_target_epoch_against_current_time, check_time, validate_on_attestation};
+ghost use Rattle.fork_store.specs.inside.Arrays.{AreNodesOf};
 ghost use Rattle.fork_store.specs.inside.Votes.{check_voted, check_known, check_vote};
 
 use crate::get_ancestor::{is_behind, slot_of};
@@ -13,6 +14,7 @@ use crate::store_fields::StoreFields;
 use bc_words::{Refusal, Stop};
 use beacon_body::Attestation;
 use beacon_types::AttestationData;
+use block_array::BlockArray;
 use hash_tree::Root;
 
 /// Whether a root is kept.
@@ -66,13 +68,14 @@ fn check_time(
 /// Refused where the block that is voted for is later than the vote, where the target isn't on its chain, and where the vote's
 /// slot isn't over.
 #[tactic(auto, unfolding(crate::specs::inside::Votes::check_voted))]
-fn check_voted(store: &StoreFields, voted: &AttestationData) -> Result<(), Stop>
+fn check_voted(store: &StoreFields, array: &BlockArray, voted: &AttestationData) -> Result<(), Stop>
+    requires { AreNodesOf store.now.blocks array.now.nodes }
     ensures { GivesExactly result (check_voted store.now voted.now) }
 {
     if voted.slot < slot_of(store, voted.beacon_block_root) {
         return Err(Stop::Refused(Refusal::FcBlockAfter));
     }
-    if !is_behind(store, voted.beacon_block_root, voted.target) {
+    if !is_behind(store, array, voted.beacon_block_root, voted.target) {
         return Err(Stop::Refused(Refusal::FcTargetChain));
     }
     if voted.slot >= current_slot(store) {
@@ -83,7 +86,8 @@ fn check_voted(store: &StoreFields, voted: &AttestationData) -> Result<(), Stop>
 
 /// Refused where the target or the block isn't known, and as above.
 #[tactic(auto, unfolding(crate::specs::inside::Votes::check_known))]
-fn check_known(store: &StoreFields, voted: &AttestationData) -> Result<(), Stop>
+fn check_known(store: &StoreFields, array: &BlockArray, voted: &AttestationData) -> Result<(), Stop>
+    requires { AreNodesOf store.now.blocks array.now.nodes }
     ensures { GivesExactly result (check_known store.now voted.now) }
 {
     if !is_kept(store, voted.target.root) {
@@ -92,19 +96,20 @@ fn check_known(store: &StoreFields, voted: &AttestationData) -> Result<(), Stop>
     if !is_kept(store, voted.beacon_block_root) {
         return Err(Stop::Refused(Refusal::FcBlockUnknown));
     }
-    check_voted(store, voted)
+    check_voted(store, array, voted)
 }
 
 /// Refused where the target's epoch isn't that of the slot, and as above.
 #[tactic(auto, unfolding(crate::specs::inside::Votes::check_vote))]
-fn check_vote(store: &StoreFields, voted: &AttestationData) -> Result<(), Stop>
+fn check_vote(store: &StoreFields, array: &BlockArray, voted: &AttestationData) -> Result<(), Stop>
+    requires { AreNodesOf store.now.blocks array.now.nodes }
     ensures epoch { OnOk result (compute_epoch_at_slot store.now.config.preset voted.now.slot ≡ voted.now.target.epoch) }
     ensures exact { GivesExactly result (check_vote store.now voted.now) }
 {
     if voted.target.epoch != epoch_at_slot(store, voted.slot) {
         return Err(Stop::Refused(Refusal::FcSlotEpoch));
     }
-    check_known(store, voted)
+    check_known(store, array, voted)
 }
 
 /// Refused where an attestation may not count now, in this order: `FcTargetTime`, from the wire alone; `FcSlotEpoch`,
@@ -112,12 +117,14 @@ fn check_vote(store: &StoreFields, voted: &AttestationData) -> Result<(), Stop>
 #[tactic(auto, unfolding(spec_fork_choice::specs::ValidateOnAttestation::validate_on_attestation, crate::specs::inside::Votes::check_vote, crate::specs::inside::Votes::check_known, crate::specs::inside::Votes::check_voted))]
 pub(crate) fn validate_on_attestation(
     store: &StoreFields,
+    array: &BlockArray,
     attestation: &Attestation,
     is_from_block: bool,
 ) -> Result<(), Stop>
+    requires { AreNodesOf store.now.blocks array.now.nodes }
     ensures epoch { OnOk result (compute_epoch_at_slot store.now.config.preset attestation.now.content.slot ≡ attestation.now.content.target.epoch) }
     ensures exact { GivesExactly result (validate_on_attestation store.now attestation.now is_from_block) }
 {
     check_time(store, attestation, is_from_block)?;
-    check_vote(store, &attestation.content)
+    check_vote(store, array, &attestation.content)
 }

@@ -1,5 +1,5 @@
 -- The plain array of nodes that stands for a plain store: its nodes are the kept blocks, which go by their places.
-use Rattle.std.specs.Prelude.{◌≡◌, ℕ, ◌<◌, max, List, [], ◌∷◌, ◌++◌, length, map, false, Option, Some, None, if◌then◌else◌}
+use Rattle.std.specs.Prelude.{◌≡◌, ℕ, ◌<◌, ◌^◌, max, List, [], ◌∷◌, ◌++◌, length, map, false, Option, Some, None, if◌then◌else◌}
 use Rattle.std.specs.List.{AllByRecursion, sum_by}
 use Rattle.std.specs.Option.{option_map}
 use Rattle.bc_words.specs.Outcome.{Outcome, done, refused, limited}
@@ -55,6 +55,12 @@ BeginsAtZero (first ∷ later) = (first.block.slot ≡ 0) × (first.block.parent
 pub record IsRooted (blocks : List KeptBlock) : Type 0 where
   pub begins : BeginsAtZero blocks
   pub named : is_kept blocks zero_root ≡ false
+
+-- these nodes are those of the blocks, of which there are fewer than 2^32
+pub record AreNodesOf (blocks : List KeptBlock) (nodes : List Node) : Type 0 where
+  pub same : nodes ≡ nodes_of blocks
+  pub rooted : IsRooted blocks
+  pub few : length blocks < 2 ^ 32
 
 -- the boosted node is that of the boosted block; there is none where the root is zero
 unfoldable pub IsBoostedNode : List KeptBlock → List ℕ → Option ℕ → Type 0

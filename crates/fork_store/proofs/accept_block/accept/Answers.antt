@@ -23,3 +23,6 @@ returns-clause-whole c =
     c.settle_whole.new.array c.settle_whole.new.ready
     (mid_few c.args.store.now c.keep_block.new.store c.args.array.now c.args.ready.now c.args.root c.args.block.now c.step.inside.state c.requires.whole linked c.in_ok-keep_block.ensures.exact c.requires.few)
     c.settle_whole.ensures.array c.settle_whole.ensures.ready
+
+pub returns-clause-unset : goal.returns-clause-unset
+returns-clause-unset c = λ is. c.settle_whole.ensures.unset (is ∙ sym c.in_ok-keep_block.ensures.stays) ∙ c.in_ok-keep_block.ensures.unset

@@ -1,4 +1,5 @@
-use Rattle.std.proofs.Common.{◌≡◌, List, Some, None, rules, subst}
+use Rattle.std.proofs.Common.{◌≡◌, ◌∙◌, List, Some, None, rules, ap, subst}
+use Rattle.block_array.specs.PlainArray.{PlainArray}
 use Rattle.beacon_types.specs.declared.checkpoint.Checkpoint.{Checkpoint}
 use Rattle.block_array.specs.Calls.{with_node}
 use Rattle.spec_fork_choice.specs.Store.{KeptBlock}
@@ -34,3 +35,15 @@ returns-clause-array c =
     (node_added c.push-room.result c.args.array.now c.reserve.new.self c.push-room.new.self
     (with_node c.reserve.new.self c.in-Some.parent c.args.block.now.slot c.args.root (record { justified = c.current_justified_checkpoint.result; finalized = c.finalized_checkpoint.result }))
     c.in_ok-reserve.ensures c.push-room.ensures.pushed c.push-room.ensures.spare)))
+
+pub returns-in_err-copy-clause-unset : goal.returns-in_err-copy-clause-unset
+returns-in_err-copy-clause-unset c = ap (λ (a : PlainArray). a.balances_set) c.in_ok-reserve.ensures
+
+pub returns-in_err-keep-clause-unset : goal.returns-in_err-keep-clause-unset
+returns-in_err-keep-clause-unset c = ap (λ (a : PlainArray). a.balances_set) c.in_ok-reserve.ensures
+
+pub returns-clause-unset : goal.returns-clause-unset
+returns-clause-unset c =
+    ap (λ (a : PlainArray). a.balances_set)
+    (node_added c.push-room.result c.args.array.now c.reserve.new.self c.push-room.new.self _ c.in_ok-reserve.ensures c.push-room.ensures.pushed c.push-room.ensures.spare)
+    ∙ ap (λ (a : PlainArray). a.balances_set) c.in_ok-reserve.ensures

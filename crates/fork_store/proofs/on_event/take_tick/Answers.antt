@@ -4,5 +4,5 @@ use Rattle.fork_store.proofs.on_event.take_tick.Goals as goal
 
 pub returns-in-Err : goal.returns-in-Err
 returns-in-Err c =
-    let both = rw c.in-Err.is at c.on_tick.ensures in
+    let both = rw c.in-Err.is at c.on_tick.ensures.exact in
     (both.0, tick_refused (on_tick c.args.store.now.plain c.args.time) c.in-Err.why both.1)

@@ -1,17 +1,19 @@
-use Rattle.std.proofs.Common.{◌∙◌}
-use Rattle.fork_store.proofs.Messages.{messages_updated}
-use Rattle.fork_store.proofs.Voting.{same_whole, spare_whole, votes_array, votes_whole}
+use Rattle.std.proofs.Common.{◌∙◌, ap}
+use Rattle.block_array.specs.PlainArray.{PlainArray}
+use Rattle.fork_store.proofs.Voting.{store_voted, array_voted, votes_whole, votes_unset}
 use Rattle.fork_store.proofs.update_latest_messages.update_latest_messages.Goals as goal
 
-pub returns-in_err-update_messages-clause-whole : goal.returns-in_err-update_messages-clause-whole
-returns-in_err-update_messages-clause-whole c =
-    same_whole c.args.store.now c.update_messages.new.self c.reserve.new.self c.args.ready.now
-    (spare_whole c.args.store.now c.args.array.now c.reserve.new.self c.in_ok-places.places c.requires.whole.array_of c.in_ok-reserve.ensures c.args.ready.now c.requires.whole)
-    c.in_err-update_messages.ensures
+pub returns-clause-exact : goal.returns-clause-exact
+returns-clause-exact c =
+    store_voted c.args.store.now c.args.array.now c.reserve.new.self c.in_ok-places.places c.requires.whole.array_of c.in_ok-reserve.ensures c.vote_all.new.array c.args.attesting_indices.now
+    c.args.attestation.now c.in-Some.node c.is_sound.ensures.store.tree (rw (← c.blocks-2.ensures) c.in-Some.ensures) c.vote_all.ensures c.take_votes.new.self c.take_votes.ensures
 
 pub returns-clause-whole : goal.returns-clause-whole
 returns-clause-whole c =
-    votes_whole c.args.store.now c.update_messages.new.self c.args.array.now c.vote_all.new.array c.args.ready.now _ c.requires.whole c.in_ok-update_messages.ensures
-    (votes_array c.args.store.now c.args.array.now c.reserve.new.self c.in_ok-places.places c.requires.whole.array_of c.in_ok-reserve.ensures c.update_messages.new.self c.vote_all.new.array
-    c.args.attesting_indices.now c.args.attestation.now c.in-Some.node c.is_sound.ensures.store.tree (rw (← c.blocks-2.ensures) c.in-Some.ensures)
-    (c.in_ok-update_messages.ensures ∙ rw c.new-message.ensures (messages_updated c.args.store.now c.args.attesting_indices.now c.args.attestation.now)) c.vote_all.ensures)
+    votes_whole c.args.store.now c.take_votes.new.self c.args.array.now c.vote_all.new.array c.args.ready.now _ c.requires.whole c.take_votes.ensures
+    (array_voted c.args.store.now c.args.array.now c.reserve.new.self c.in_ok-places.places c.requires.whole.array_of c.in_ok-reserve.ensures c.vote_all.new.array c.args.attesting_indices.now
+    c.args.attestation.now c.in-Some.node c.is_sound.ensures.store.tree (rw (← c.blocks-2.ensures) c.in-Some.ensures) c.vote_all.ensures c.take_votes.new.self c.take_votes.ensures)
+
+pub returns-clause-unset : goal.returns-clause-unset
+returns-clause-unset c =
+    ap (λ (a : PlainArray). a.balances_set) c.vote_all.ensures ∙ votes_unset c.reserve.new.self c.args.attesting_indices.now _ ∙ ap (λ (a : PlainArray). a.balances_set) c.in_ok-reserve.ensures
