@@ -1,6 +1,6 @@
 //! Runs of the shelves and sinks, in memory and over the operating system.
 
-ghost use Rattle.std.specs.Prelude.{◌≤◌};
+ghost use Rattle.std.specs.Prelude.{◌≡◌, ◌≤◌, ◌<◌, ◌^◌, [], length, IfOk};
 
 mod made_up;
 
@@ -9,46 +9,75 @@ use bc_outside::{
     write_all,
 };
 use made_up::{OneFile, TakesNothing, ThreeBytes};
-use std::alloc::Global;
+use std::alloc::{AllocError, Global};
+use std::path::{Path, PathBuf};
 use std::process::Abort;
+use std::rt::{Env, Files};
 use std::test::Fail;
 use std::{env, fs, io, process};
 
 const TEXT: &[u8; 43] = b"The quick brown fox jumps over the lazy dog";
 
-// Reads a file whole and up to a limit, over a shelf that hands out at most `greatest` bytes a call.
+/// A shelf with one file, fox, which holds the text. Its fifth call fails.
+fn shelf_of_fox(alloc: Global, greatest: usize) -> Result<MemoryShelf, AllocError>
+    requires { 1 ≤ greatest }
+    ensures { IfOk result (λ shelf. shelf.opened ≡ []) }
+{
+    let bytes = Vec::from_slice(alloc, TEXT.as_slice())?;
+    let file = MemoryFile::new(String::from_str(alloc, "fox")?, bytes);
+    let files = Vec::from_array(alloc, [file])?;
+    let failing = Vec::from_array(alloc, [5u64])?;
+    Ok(MemoryShelf::new(alloc, files, failing, greatest))
+}
+
+/// Whether a shelf hands out these bytes of an opened file, up to a limit.
+fn hands_out<F: Shelf>(
+    alloc: Global,
+    shelf: &mut F,
+    file: u32,
+    limit: usize,
+    bytes: &[u8],
+) -> Result<bool, Trouble>
+    requires { file < length (F.told shelf.old).files }
+    ensures { length (F.told shelf.old).files ≤ length (F.told shelf.new).files }
+{
+    let read = read_at_most(alloc, shelf, file, limit)?;
+    Ok(read.as_slice() == bytes)
+}
+
+/// Whether the shelf was asked for three files, first for this one.
+fn asked_first(shelf: &MemoryShelf, name: &str) -> bool {
+    match shelf.asked() {
+        [first, _, _] => first.as_bytes() == name.as_bytes(),
+        _ => false,
+    }
+}
+
+/// Opens the file twice, and reads it whole and up to a limit.
+fn fox_is_read(rt: &impl Abort, alloc: Global, shelf: &mut MemoryShelf) -> Result<(), Trouble>
+    requires { shelf.old.opened ≡ [] }
+{
+    let text = TEXT.as_slice();
+    assert!(rt; shelf.open("dog").is_err());
+    let whole = shelf.open("fox")?;
+    let start = shelf.open("fox")?;
+    assert!(rt; hands_out(alloc, shelf, start, 1, &text[..1])?);
+    assert!(rt; hands_out(alloc, shelf, whole, 100, text).is_err());
+    assert_eq!(rt; shelf.faults(), 2);
+    assert_eq!(rt; shelf.calls(), 5);
+    assert!(rt; asked_first(shelf, "dog"));
+    assert!(rt; hands_out(alloc, shelf, start, 4, &text[1..5])?);
+    assert!(rt; hands_out(alloc, shelf, whole, 100, text)?);
+    assert!(rt; hands_out(alloc, shelf, whole, 100, &[])?);
+    Ok(())
+}
+
+/// The same over a shelf that hands out at most so many bytes a call.
 fn reads(rt: &impl Abort, alloc: Global, greatest: usize) -> Result<(), Fail>
     requires { 1 ≤ greatest }
 {
-    let bytes = Vec::from_slice(alloc, TEXT.as_slice())?;
-    let files = Vec::from_array(
-        alloc,
-        [MemoryFile::new(String::from_str(alloc, "fox")?, bytes)],
-    )?;
-    let text = TEXT.as_slice();
-    let mut shelf = MemoryShelf::new(alloc, files, Vec::from_array(alloc, [5u64])?, greatest);
-    assert_eq!(rt; shelf.open("dog"), Err(Trouble::Failed));
-    let whole = shelf.open("fox")?;
-    let start = shelf.open("fox")?;
-    assert_eq!(rt;
-        read_at_most(alloc, &mut shelf, start, 1)?.as_slice(),
-        &text[..1]
-    );
-    assert!(rt; read_at_most(alloc, &mut shelf, whole, 100).is_err());
-    assert_eq!(rt; shelf.faults(), 2);
-    assert_eq!(rt; shelf.calls(), 5);
-    assert_eq!(rt; shelf.asked().len(), 3);
-    assert_eq!(rt; shelf.asked()[0].as_bytes(), b"dog".as_slice());
-    assert_eq!(rt;
-        read_at_most(alloc, &mut shelf, start, 4)?.as_slice(),
-        &text[1..5]
-    );
-    assert_eq!(rt;
-        read_at_most(alloc, &mut shelf, whole, 100)?.as_slice(),
-        TEXT.as_slice()
-    );
-    assert_eq!(rt; read_at_most(alloc, &mut shelf, whole, 100)?.len(), 0);
-    Ok(())
+    let mut shelf = shelf_of_fox(alloc, greatest)?;
+    Ok(fox_is_read(rt, alloc, &mut shelf)?)
 }
 
 // Writes a text to a sink that takes at most `greatest` bytes a call, and fails at the third one.
@@ -73,48 +102,98 @@ fn memory(rt: HostRuntime) -> Result<(), Fail> {
     writes(&rt, rt.alloc(), 43, 43)
 }
 
+/// What a shelf hands out of the file of this name, up to a limit.
+fn read_of<F: Shelf>(
+    alloc: Global,
+    shelf: &mut F,
+    name: &str,
+    limit: usize,
+) -> Result<Vec<u8>, Trouble>
+    requires { length (F.told shelf.old).files < 2 ^ 32 }
+{
+    let file = shelf.open(name)?;
+    read_at_most(alloc, shelf, file, limit)
+}
+
+/// Whether a shelf hands out the text as the file of this name.
+fn has_text<F: Shelf>(alloc: Global, shelf: &mut F, name: &str) -> bool
+    requires { length (F.told shelf.old).files < 2 ^ 32 }
+{
+    match read_of(alloc, shelf, name, 100) {
+        Ok(read) => read.as_slice() == TEXT.as_slice(),
+        Err(_trouble) => false,
+    }
+}
+
+/// Whether a shelf over these files hands out the text as the file of this name.
+fn disk_has_text(alloc: Global, files: &impl Files, name: &str) -> bool {
+    let mut shelf = DiskShelf::new(alloc, files);
+    has_text(alloc, &mut shelf, name)
+}
+
+/// Whether a shelf over these files opens one of this name.
+fn disk_opens(alloc: Global, files: &impl Files, name: &str) -> bool {
+    let mut shelf = DiskShelf::new(alloc, files);
+    shelf.open(name).is_ok()
+}
+
+/// A path for this test alone, where the process has this number.
+fn path_of_test<R: Env + AllocGlobal>(rt: &R, process: u32) -> io::Result<PathBuf> {
+    let mut path = env::temp_dir(rt)?;
+    let name = format!(in rt.alloc(); "bc_outside_test_{process}")?;
+    path.push(name.as_str())?;
+    Ok(path)
+}
+
+/// Whether a shelf reads what is written at this path.
+fn is_read_again<R: Files + AllocGlobal>(rt: &R, path: Path) -> io::Result<bool> {
+    fs::write(rt, path, TEXT.as_slice())?;
+    let is_read = match path.to_str() {
+        Some(name) => disk_has_text(rt.alloc(), rt, name),
+        None => false,
+    };
+    fs::remove_file(rt, path)?;
+    Ok(is_read)
+}
+
 #[test]
 fn disk(rt: HostRuntime) -> Result<(), Fail> {
-    let mut path = env::temp_dir(&rt)?;
-    path.push(format!(in rt.alloc(); "bc_outside_test_{}", process::id(rt.process()))?.as_str())?;
-    fs::write(&rt, path.as_path(), TEXT.as_slice())?;
-    let mut shelf = DiskShelf::new(rt.alloc(), &rt);
-    let name = path.to_str().ok_or("no text")?;
-    assert!(rt; shelf.open("no such file").is_err());
-    let file = shelf.open(name)?;
-    let read = read_at_most(rt.alloc(), &mut shelf, file, 100)?;
-    fs::remove_file(&rt, path.as_path())?;
-    assert_eq!(rt; read.as_slice(), TEXT.as_slice());
+    assert!(rt; !disk_opens(rt.alloc(), &rt, "no such file"));
+    let path = path_of_test(&rt, process::id(rt.process()))?;
+    assert!(rt; is_read_again(&rt, path.as_path())?);
     Ok(())
 }
 
 #[test]
-fn standard_output(rt: HostRuntime) -> Result<(), Fail> {
+fn standard_output(rt: HostRuntime) {
     let mut sink = StdSink::new(rt.alloc(), io::writer(&rt));
-    write_all(&mut sink, TEXT.as_slice())?;
-    Ok(())
+    assert!(rt; write_all(&mut sink, TEXT.as_slice()).is_ok());
 }
 
-#[test]
-fn made_up_files(rt: HostRuntime) -> Result<(), Fail> {
-    let mut text = Vec::new(rt.alloc());
+/// 150,000 bytes that come again after 251.
+fn long_text(alloc: Global) -> Result<Vec<u8>, AllocError> {
+    let mut text = Vec::new(alloc);
     for i in 0..150_000u32 {
         text.push((i % 251) as u8)?;
     }
-    let files = OneFile {
-        alloc: rt.alloc(),
-        name: " a name ",
-        bytes: text,
-    };
-    let mut shelf = DiskShelf::new(rt.alloc(), &files);
+    Ok(text)
+}
+
+/// Opens the file twice, and reads it whole and up to a limit.
+fn long_file_is_read(
+    rt: &impl Abort,
+    alloc: Global,
+    shelf: &mut DiskShelf<'_, OneFile>,
+    text: &[u8],
+) -> Result<(), Trouble>
+    requires { shelf.old.files ≡ [] }
+{
+    assert!(rt; 70_001 <= text.len());
     assert!(rt; shelf.open("a name").is_err());
     let whole = shelf.open(" a name ")?;
     let front = shelf.open(" a name ")?;
-    let read = read_at_most(rt.alloc(), &mut shelf, whole, 1_000_000)?;
-    assert!(rt; read.as_slice() == files.bytes.as_slice());
-    let read = read_at_most(rt.alloc(), &mut shelf, front, 70_001)?;
-    assert_eq!(rt; read.len(), 70_001);
-    assert!(rt; files.bytes.as_slice().starts_with(read.as_slice()));
+    assert!(rt; hands_out(alloc, shelf, whole, 1_000_000, text)?);
+    assert!(rt; hands_out(alloc, shelf, front, 70_001, &text[..70_001])?);
     assert_eq!(rt; shelf.handed_out(0), Some(150_000));
     assert_eq!(rt; shelf.handed_out(1), Some(70_001));
     assert_eq!(rt; shelf.handed_out(2), None);
@@ -122,13 +201,23 @@ fn made_up_files(rt: HostRuntime) -> Result<(), Fail> {
 }
 
 #[test]
-fn lines_that_were_taken(rt: HostRuntime) -> Result<(), Fail> {
+fn made_up_files(rt: HostRuntime) -> Result<(), Fail> {
+    let files = OneFile {
+        alloc: rt.alloc(),
+        name: " a name ",
+        bytes: long_text(rt.alloc())?,
+    };
+    let mut shelf = DiskShelf::new(rt.alloc(), &files);
+    Ok(long_file_is_read(&rt, rt.alloc(), &mut shelf, &files.bytes)?)
+}
+
+#[test]
+fn lines_that_were_taken(rt: HostRuntime) {
     let mut sink = StdSink::new(rt.alloc(), ThreeBytes { calls: 0 });
-    write_all(&mut sink, b"one\ntwo\n".as_slice())?;
+    assert!(rt; write_all(&mut sink, b"one\ntwo\n".as_slice()).is_ok());
     assert_eq!(rt; sink.lines(), 2);
     assert!(rt; write_all(&mut sink, b"three\n".as_slice()).is_err());
     assert_eq!(rt; sink.lines(), 2);
-    Ok(())
 }
 
 #[test]

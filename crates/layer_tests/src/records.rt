@@ -1,10 +1,10 @@
 //! Records over a shelf in memory, in pieces of several sizes.
 
-ghost use Rattle.std.specs.Prelude.{◌≤◌};
+ghost use Rattle.std.specs.Prelude.{◌≤◌, ◌<◌, ◌≡◌, ◌^◌, [], length, IfOk};
 
 use bc_outside::{MemoryFile, MemoryShelf, Shelf};
 use record_file::{FrameStop, Frames, RecordFault};
-use std::alloc::Global;
+use std::alloc::{AllocError, Global};
 use std::process::Abort;
 use std::test::Fail;
 
@@ -12,111 +12,191 @@ use std::test::Fail;
 const TICKS: &[u8; 43] =
     b"BCR1\x01\x08\0\0\0\xe7\x03\0\0\0\0\0\0\x01\x08\0\0\0\xe8\x03\0\0\0\0\0\0\x01\x08\0\0\0\x1e\x10\0\0\0\0\0\0";
 
-// Counts the events of a record, and compares the number of events, the fault and its event.
+/// A shelf with one file, the record of these bytes.
+fn shelf_of(
+    alloc: Global,
+    bytes: &[u8],
+    failing: Vec<u64>,
+    greatest: usize,
+) -> Result<MemoryShelf, AllocError>
+    requires { 1 ≤ greatest }
+    ensures { IfOk result (λ shelf. shelf.opened ≡ []) }
+{
+    let name = String::from_str(alloc, "record")?;
+    let file = MemoryFile::new(name, Vec::from_slice(alloc, bytes)?);
+    let files = Vec::from_array(alloc, [file])?;
+    Ok(MemoryShelf::new(alloc, files, failing, greatest))
+}
+
+/// Whether an event comes next.
+fn is_event<F: Shelf>(frames: &mut Frames, shelf: &mut F) -> Result<bool, FrameStop>
+    requires { frames.old.file < length (F.told shelf.old).files }
+    ensures { frames.new.file < length (F.told shelf.new).files }
+{
+    Ok(frames.next(shelf)?.is_some())
+}
+
+/// Whether what comes next is this stop.
+fn stops_by<F: Shelf>(frames: &mut Frames, shelf: &mut F, stop: FrameStop) -> bool
+    requires { frames.old.file < length (F.told shelf.old).files }
+    ensures { frames.new.file < length (F.told shelf.new).files }
+{
+    match frames.next(shelf) {
+        Ok(_event) => false,
+        Err(met) => met == stop,
+    }
+}
+
+/// Whether so many events come next, and then the record's end or the fault at its event.
+fn frames_end<F: Shelf>(
+    frames: &mut Frames,
+    shelf: &mut F,
+    events: u32,
+    stop: Option<(RecordFault, u32)>,
+) -> Result<bool, FrameStop>
+    requires { frames.old.file < length (F.told shelf.old).files }
+{
+    for _ in 0..events {
+        if !is_event(frames, shelf)? {
+            return Ok(false);
+        }
+    }
+    match stop {
+        None => Ok(!is_event(frames, shelf)?),
+        Some((fault, event)) => Ok(
+            stops_by(frames, shelf, FrameStop::Fault(fault))
+                && stops_by(frames, shelf, FrameStop::Fault(fault))
+                && frames.event_of(fault) == event,
+        ),
+    }
+}
+
+/// The same of the record of a shelf.
+fn record_ends<F: Shelf>(
+    alloc: Global,
+    shelf: &mut F,
+    events: u32,
+    stop: Option<(RecordFault, u32)>,
+) -> Result<bool, Fail>
+    requires { length (F.told shelf.old).files < 2 ^ 32 }
+{
+    let file = shelf.open("record")?;
+    let mut frames = Frames::new(alloc, file);
+    Ok(frames_end(&mut frames, shelf, events, stop)?)
+}
+
+/// The same of these bytes, where the shelf hands out at most so many a call.
 fn ends(
-    rt: &impl Abort,
     alloc: Global,
     bytes: &[u8],
     greatest: usize,
     events: u32,
     stop: Option<(RecordFault, u32)>,
-) -> Result<(), Fail>
+) -> Result<bool, Fail>
     requires { 1 ≤ greatest }
 {
-    let name = String::from_str(alloc, "record")?;
-    let files = Vec::from_array(
-        alloc,
-        [MemoryFile::new(name, Vec::from_slice(alloc, bytes)?)],
-    )?;
-    let mut shelf = MemoryShelf::new(alloc, files, Vec::new(alloc), greatest);
-    let file = shelf.open("record")?;
-    let mut frames = Frames::new(alloc, file);
-    for _ in 0..events {
-        assert!(rt; frames.next(&mut shelf)?.is_some());
-    }
-    match stop {
-        None => assert!(rt; frames.next(&mut shelf)?.is_none()),
-        Some((fault, event)) => {
-            assert!(rt; frames.next(&mut shelf).err() == Some(FrameStop::Fault(fault)));
-            assert!(rt; frames.next(&mut shelf).err() == Some(FrameStop::Fault(fault)));
-            assert_eq!(rt; frames.event_of(fault), event);
-        }
-    }
-    Ok(())
+    let mut shelf = shelf_of(alloc, bytes, Vec::new(alloc), greatest)?;
+    record_ends(alloc, &mut shelf, events, stop)
 }
 
-// The same over shelves that cut the file in several ways.
+/// The same over shelves that cut the file in several ways.
 fn ends_however_cut(
-    rt: &impl Abort,
     alloc: Global,
     bytes: &[u8],
     events: u32,
     stop: Option<(RecordFault, u32)>,
-) -> Result<(), Fail> {
-    ends(rt, alloc, bytes, 1, events, stop)?;
-    ends(rt, alloc, bytes, 3, events, stop)?;
-    ends(rt, alloc, bytes, 7, events, stop)?;
-    ends(rt, alloc, bytes, 100_000, events, stop)
+) -> Result<bool, Fail> {
+    for greatest in [1, 3, 7, 100_000] {
+        if greatest == 0 || !ends(alloc, bytes, greatest, events, stop)? {
+            return Ok(false);
+        }
+    }
+    Ok(true)
 }
 
 #[test]
 fn records(rt: HostRuntime) -> Result<(), Fail> {
-    let alloc = rt.alloc();
     let ticks = TICKS.as_slice();
-    ends_however_cut(&rt, alloc, ticks, 3, None)?;
-    ends_however_cut(&rt, alloc, b"BCR1", 0, None)?;
-    ends_however_cut(&rt, alloc, b"BCR1\x01\x07\0\0\0\0\0\0\0\0\0\0", 1, None)?;
-    ends_however_cut(&rt, alloc, b"", 0, Some((RecordFault::BadMagic, 0)))?;
-    ends_however_cut(&rt, alloc, b"BC", 0, Some((RecordFault::BadMagic, 0)))?;
-    ends_however_cut(&rt, alloc, b"BCR2", 0, Some((RecordFault::BadMagic, 0)))?;
-    ends_however_cut(&rt, alloc, b"BCR1\0", 0, Some((RecordFault::BadKind(0), 1)))?;
-    ends_however_cut(
-        &rt,
-        alloc,
-        b"BCR1\x09",
-        0,
-        Some((RecordFault::BadKind(9), 1)),
-    )?;
-    let torn_block = b"BCR1\x01\0\0\0\0\x02\x10";
-    ends_however_cut(&rt, alloc, torn_block, 1, Some((RecordFault::Torn, 2)))?;
-    let of_all_kinds = b"BCR1\x02\0\0\0\0\x03\0\0\0\0\x04\0\0\0\0";
-    ends_however_cut(&rt, alloc, of_all_kinds, 3, None)?;
-    ends_however_cut(&rt, alloc, b"BCR1\x01", 0, Some((RecordFault::Torn, 1)))?;
-    ends_however_cut(&rt, alloc, b"BCR1\x01\x10", 0, Some((RecordFault::Torn, 1)))?;
-    ends_however_cut(&rt, alloc, &ticks[..25], 1, Some((RecordFault::Torn, 2)))?;
-    ends_however_cut(
-        &rt,
-        alloc,
-        b"BCR1\x01\x01\0\x40\0",
-        0,
-        Some((RecordFault::TooLong(4_194_305), 1)),
-    )?;
-    let mut longest = Vec::from_slice(alloc, b"BCR1\x01\0\0\x40\0".as_slice())?;
-    longest.resize(9 + 4_194_304, 0)?;
-    ends(&rt, alloc, &longest, 65_536, 1, None)
+    let cases: [(&[u8], u32, Option<(RecordFault, u32)>); 14] = [
+        (ticks, 3, None),
+        (b"BCR1", 0, None),
+        (b"BCR1\x01\x07\0\0\0\0\0\0\0\0\0\0", 1, None),
+        (b"", 0, Some((RecordFault::BadMagic, 0))),
+        (b"BC", 0, Some((RecordFault::BadMagic, 0))),
+        (b"BCR2", 0, Some((RecordFault::BadMagic, 0))),
+        (b"BCR1\0", 0, Some((RecordFault::BadKind(0), 1))),
+        (b"BCR1\x09", 0, Some((RecordFault::BadKind(9), 1))),
+        (b"BCR1\x01\0\0\0\0\x02\x10", 1, Some((RecordFault::Torn, 2))),
+        (b"BCR1\x02\0\0\0\0\x03\0\0\0\0\x04\0\0\0\0", 3, None),
+        (b"BCR1\x01", 0, Some((RecordFault::Torn, 1))),
+        (b"BCR1\x01\x10", 0, Some((RecordFault::Torn, 1))),
+        (&ticks[..25], 1, Some((RecordFault::Torn, 2))),
+        (
+            b"BCR1\x01\x01\0\x40\0",
+            0,
+            Some((RecordFault::TooLong(4_194_305), 1)),
+        ),
+    ];
+    for (bytes, events, stop) in cases {
+        assert!(rt; ends_however_cut(rt.alloc(), bytes, events, stop)?);
+    }
+    Ok(())
+}
+
+/// A record of one event that is as long as one may be.
+fn longest(alloc: Global) -> Result<Vec<u8>, AllocError> {
+    let mut bytes = Vec::from_slice(alloc, b"BCR1\x01\0\0\x40\0".as_slice())?;
+    bytes.resize(9 + 4_194_304, 0)?;
+    Ok(bytes)
+}
+
+#[test]
+fn the_longest_event(rt: HostRuntime) -> Result<(), Fail> {
+    let bytes = longest(rt.alloc())?;
+    assert!(rt; ends(rt.alloc(), &bytes, 65_536, 1, None)?);
+    Ok(())
+}
+
+/// Whether what comes next is the first tick.
+fn is_first_tick<F: Shelf>(frames: &mut Frames, shelf: &mut F) -> Result<bool, FrameStop>
+    requires { frames.old.file < length (F.told shelf.old).files }
+    ensures { frames.new.file < length (F.told shelf.new).files }
+{
+    match frames.next(shelf)? {
+        Some(event) => Ok(
+            event.kind == 1 && event.payload.as_slice() == b"\xe7\x03\0\0\0\0\0\0".as_slice(),
+        ),
+        None => Ok(false),
+    }
+}
+
+/// Three failures, then the three ticks.
+fn goes_on<F: Shelf>(rt: &impl Abort, frames: &mut Frames, shelf: &mut F) -> Result<(), FrameStop>
+    requires { frames.old.file < length (F.told shelf.old).files }
+{
+    assert!(rt; stops_by(frames, shelf, FrameStop::ReadFault));
+    assert!(rt; stops_by(frames, shelf, FrameStop::ReadFault));
+    assert!(rt; stops_by(frames, shelf, FrameStop::ReadFault));
+    assert!(rt; is_first_tick(frames, shelf)?);
+    assert!(rt; is_event(frames, shelf)?);
+    assert!(rt; is_event(frames, shelf)?);
+    assert!(rt; !is_event(frames, shelf)?);
+    assert_eq!(rt; frames.events(), 3);
+    Ok(())
+}
+
+/// The same of the record of a shelf.
+fn record_goes_on<F: Shelf>(rt: &impl Abort, alloc: Global, shelf: &mut F) -> Result<(), Fail>
+    requires { length (F.told shelf.old).files < 2 ^ 32 }
+{
+    let file = shelf.open("record")?;
+    let mut frames = Frames::new(alloc, file);
+    Ok(goes_on(rt, &mut frames, shelf)?)
 }
 
 #[test]
 fn a_failing_read_loses_nothing(rt: HostRuntime) -> Result<(), Fail> {
-    let alloc = rt.alloc();
-    let name = String::from_str(alloc, "record")?;
-    let bytes = Vec::from_slice(alloc, TICKS.as_slice())?;
-    let files = Vec::from_array(alloc, [MemoryFile::new(name, bytes)])?;
-    let mut shelf = MemoryShelf::new(alloc, files, Vec::from_array(alloc, [2u64, 5, 8])?, 3);
-    let file = shelf.open("record")?;
-    let mut frames = Frames::new(alloc, file);
-    assert!(rt; frames.next(&mut shelf).err() == Some(FrameStop::ReadFault));
-    assert!(rt; frames.next(&mut shelf).err() == Some(FrameStop::ReadFault));
-    assert!(rt; frames.next(&mut shelf).err() == Some(FrameStop::ReadFault));
-    let event = frames.next(&mut shelf)?.ok_or("no event")?;
-    assert_eq!(rt; event.kind, 1);
-    assert_eq!(rt;
-        event.payload.as_slice(),
-        b"\xe7\x03\0\0\0\0\0\0".as_slice()
-    );
-    assert!(rt; frames.next(&mut shelf)?.is_some());
-    assert!(rt; frames.next(&mut shelf)?.is_some());
-    assert!(rt; frames.next(&mut shelf)?.is_none());
-    assert_eq!(rt; frames.events(), 3);
-    Ok(())
+    let failing = Vec::from_array(rt.alloc(), [2u64, 5, 8])?;
+    let mut shelf = shelf_of(rt.alloc(), TICKS.as_slice(), failing, 3)?;
+    record_goes_on(&rt, rt.alloc(), &mut shelf)
 }
