@@ -1,34 +1,43 @@
 //! Measures what has to be fast, each against the hashes that it can't do without or another part of the run, in one run.
 //!
 //! The word behind the program's name says what to measure: `pairs`, `shuffle`, `state`, `registry`, `change`, `iter`, `many`,
-//! `slots`, `block`, `attestation`, `operations`, `epoch` or `head`. Without a word nothing is measured.
+//! `slots`, `block`, `attestation`, `operations`, `epoch`, `head`, `record`, `bodies` or `mainnet`. Without a word nothing is measured.
 #![tactic(auto)]
 
 mod attestation;
 mod block;
+mod chain;
 mod epoch;
+mod genesis;
+mod hashes;
 mod head;
+mod memory;
 mod operations;
 mod pairs;
 mod ratio;
+mod record;
+mod running;
 mod shuffle;
 mod state;
 mod states;
+mod transitions;
 mod tree_change;
 mod tree_iter;
 mod tree_many;
 mod tree_slots;
 
+use crate::genesis::Network;
 use anyhow::Result;
 use std::env;
+use std::rt::Files;
 use std::time::CpuClock;
 
 /// What is printed where no word names a measurement.
 const USAGE: &str =
-    "name what to measure: pairs, shuffle, state, registry, change, iter, many, slots, block, attestation, operations, epoch or head";
+    "name what to measure: pairs, shuffle, state, registry, change, iter, many, slots, block, attestation, operations, epoch, head, record, bodies or mainnet";
 
 /// Measures what a word names.
-fn measure(rt: &(impl AllocGlobal + Print + CpuClock), word: &str) -> Result<()> {
+fn measure(rt: &(impl AllocGlobal + Print + CpuClock + Files), word: &str) -> Result<()> {
     match word {
         "pairs" => pairs::measure(rt),
         "shuffle" => shuffle::measure(rt),
@@ -38,7 +47,7 @@ fn measure(rt: &(impl AllocGlobal + Print + CpuClock), word: &str) -> Result<()>
 }
 
 /// Measures what a word names among states and their trees.
-fn measure_states(rt: &(impl AllocGlobal + Print + CpuClock), word: &str) -> Result<()> {
+fn measure_states(rt: &(impl AllocGlobal + Print + CpuClock + Files), word: &str) -> Result<()> {
     match word {
         "state" => state::measure(rt, 16_384),
         "registry" => state::measure(rt, 262_144),
@@ -50,13 +59,16 @@ fn measure_states(rt: &(impl AllocGlobal + Print + CpuClock), word: &str) -> Res
 }
 
 /// Measures what a word names among blocks and what they bring, slots and an epoch's end.
-fn measure_steps(rt: &(impl AllocGlobal + Print + CpuClock), word: &str) -> Result<()> {
+fn measure_steps(rt: &(impl AllocGlobal + Print + CpuClock + Files), word: &str) -> Result<()> {
     match word {
         "block" => block::measure(rt),
         "attestation" => attestation::measure(rt),
         "operations" => operations::measure(rt),
         "epoch" => epoch::measure(rt),
         "slots" => tree_slots::measure(rt),
+        "record" => record::measure(rt, &Network::minimal(), 1),
+        "bodies" => record::measure(rt, &Network::minimal(), 32),
+        "mainnet" => record::measure(rt, &Network::mainnet(), 1),
         _ => Ok(println!(rt; "{USAGE}")?),
     }
 }

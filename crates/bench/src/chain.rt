@@ -1,0 +1,290 @@
+//! A chain as a record tells it: in each slot a tick, the vote of each committee of the slot before on the wire, and a block
+//! that carries these votes, which come again as carried ones. Nothing is hidden in it: all validators vote, for the chain.
+
+ghost use Rattle.std.specs.Prelude.{◌≤◌, ◌^◌};
+
+use crate::genesis::put_offset;
+use crate::hashes::{HEADER, Pairs, Step, pairs_of_body};
+use crate::states::put;
+use anyhow::{Result, bail};
+use balance_totals::{block_root, committees_of_epoch, current_epoch};
+use bc_preset::Config;
+use beacon_body::SignedBeaconBlock;
+use beacon_state::State;
+use hash_tree::{Leaf, Root};
+use sha2::{Digest, Sha256};
+use ssz_codec::Ssz;
+use std::alloc::{AllocError, Global};
+use transition::get_beacon_proposer_index::proposer_index;
+use transition::is_sound;
+use transition::process_block::process_block;
+use transition::process_slots::process_slots;
+
+/// The length of an attestation's fixed part.
+const ATTESTATION: usize = 228;
+
+/// Where the votes begin in a block.
+const BEGIN: usize = 404;
+
+/// An event of a record: its kind, and its payload.
+#[derive(Drop)]
+pub struct Event {
+    /// 1 a tick, 2 a signed block, 3 an attestation from the wire, 4 one from a block.
+    pub kind: u8,
+    /// What it brings.
+    pub payload: Vec<u8>,
+}
+
+/// A vote of the chain: what it says, and how many members its committee has.
+#[derive(Clone, Copy)]
+struct Vote {
+    slot: u64,
+    index: u64,
+    epoch: u64,
+    members: usize,
+}
+
+/// The hash of a slot's number, which stands for all that a proposer is free in.
+fn salt(slot: u64) -> Root {
+    let mut bytes = [0; 16];
+    put(&mut bytes, 8, &slot.to_le_bytes());
+    Sha256::digest(&bytes)
+}
+
+/// The writing of a vote of all members, for the chain that the state of the next slot ends.
+fn vote_bytes(
+    alloc: Global,
+    state: &State,
+    vote: &Vote,
+    target: &Root,
+) -> Result<Vec<u8>, AllocError> {
+    let members = vote.members.min(2048);
+    let mut bytes = vec![in alloc; 255u8; ATTESTATION + members / 8 + 1]?;
+    let source = if vote.slot / state.preset().slots_per_epoch.max(1)
+        == state.slot() / state.preset().slots_per_epoch.max(1)
+    {
+        state.current_justified_checkpoint()
+    } else {
+        state.previous_justified_checkpoint()
+    };
+    put(&mut bytes, 0, &228u32.to_le_bytes());
+    put(&mut bytes, 4, &vote.slot.to_le_bytes());
+    put(&mut bytes, 12, &vote.index.to_le_bytes());
+    put(&mut bytes, 20, &state.latest_block_header().root());
+    put(&mut bytes, 52, &source.epoch.to_le_bytes());
+    put(&mut bytes, 60, &source.root);
+    put(&mut bytes, 92, &vote.epoch.to_le_bytes());
+    put(&mut bytes, 100, target);
+    put(&mut bytes, 132, &[0; 96]);
+    put(
+        &mut bytes,
+        ATTESTATION + members / 8,
+        &[(2u8 << (members % 8)).wrapping_sub(1)],
+    );
+    Ok(bytes)
+}
+
+/// Appends the writings of the votes of the slot before the state's, in order of their committees.
+fn append_votes(alloc: Global, state: &State, votes: &mut Vec<Vec<u8>>) -> Result<()> {
+    let slot = state.slot().saturating_sub(1);
+    let epoch = slot / state.preset().slots_per_epoch.max(1);
+    if epoch > 1 << 40 || epoch > current_epoch(state) {
+        bail!("no such epoch");
+    }
+    let committees = committees_of_epoch(alloc, state, epoch)?;
+    let target = block_root(state, epoch);
+    for index in 0..committees.per_slot() {
+        let members = match committees.committee(slot, index) {
+            Some(committee) => committee.len(),
+            None => 0,
+        };
+        let vote = Vote {
+            slot,
+            index,
+            epoch,
+            members,
+        };
+        votes.push(vote_bytes(alloc, state, &vote, &target)?)?;
+    }
+    Ok(())
+}
+
+/// These votes, so many times.
+fn votes(alloc: Global, state: &State, times: u64) -> Result<Vec<Vec<u8>>> {
+    let mut votes = Vec::new(alloc);
+    for _time in 0..times {
+        append_votes(alloc, state, &mut votes)?;
+    }
+    Ok(votes)
+}
+
+/// The writing of the signed block of the state's slot on its chain, with these votes and no state root yet.
+fn block_bytes(alloc: Global, state: &State, proposer: u64, votes: &[Vec<u8>]) -> Result<Vec<u8>> {
+    let salt = salt(state.slot());
+    let mut bytes = vec![in alloc; 0u8; BEGIN]?;
+    put(&mut bytes, 0, &100u32.to_le_bytes());
+    put(&mut bytes, 100, &state.slot().to_le_bytes());
+    put(&mut bytes, 108, &proposer.to_le_bytes());
+    put(&mut bytes, 116, &state.latest_block_header().root());
+    put(&mut bytes, 180, &84u32.to_le_bytes());
+    for at in [184, 216, 248, 352] {
+        put(&mut bytes, at, &salt);
+    }
+    let eth1_data = state.eth1_data();
+    put(&mut bytes, 280, &eth1_data.deposit_root);
+    put(&mut bytes, 312, &eth1_data.deposit_count.to_le_bytes());
+    put(&mut bytes, 320, &eth1_data.block_hash);
+    for _vote in votes {
+        bytes.extend_from_slice(&[0; 4])?;
+    }
+    let mut at = BEGIN;
+    for vote in votes {
+        let start = bytes.len().saturating_sub(BEGIN);
+        put_offset(&mut bytes, at, start);
+        at = at.saturating_add(4);
+        bytes.extend_from_slice(vote)?;
+    }
+    let end = bytes.len().saturating_sub(184);
+    for (at, offset) in [(384, 220), (388, 220), (392, 220), (396, end), (400, end)] {
+        put_offset(&mut bytes, at, offset);
+    }
+    Ok(bytes)
+}
+
+/// The state behind a block of its slot, and the block's root of it.
+fn behind(alloc: Global, state: &mut State, bytes: &[u8], config: &Config) -> Result<Root> {
+    match SignedBeaconBlock::read(alloc, bytes) {
+        Ok(block) if block.message.slot == state.slot() => {
+            process_block(alloc, state, &block.message, config)?;
+            Ok(state.root())
+        }
+        Ok(_) => bail!("the block is of another slot"),
+        Err(fault) => Err(fault.into()),
+    }
+}
+
+/// An event with a copy of a payload.
+fn event_of(alloc: Global, kind: u8, payload: &[u8]) -> Result<Event, AllocError> {
+    Ok(Event {
+        kind,
+        payload: Vec::from_slice(alloc, payload)?,
+    })
+}
+
+/// What a chain is like.
+#[derive(Clone, Copy)]
+pub struct Shape {
+    /// Of how many slots one has no block; each has one where there are fewer than 6.
+    pub every: u64,
+    /// How often each vote is told.
+    pub votes: u64,
+}
+
+/// What a slot of it is like.
+#[derive(Clone, Copy)]
+struct Slot {
+    has_block: bool,
+    votes: u64,
+}
+
+/// What a chain tells.
+#[derive(Drop)]
+pub struct Told {
+    /// The events of its record.
+    pub events: Vec<Event>,
+    /// The pairs that the roots of its states and blocks need, each node once.
+    pub pairs: Pairs,
+}
+
+/// Tells the block of the state's slot with these votes, takes the state through it, and tells the votes again.
+fn tell_block(
+    alloc: Global,
+    state: &mut State,
+    config: &Config,
+    votes: &[Vec<u8>],
+    events: &mut Vec<Event>,
+) -> Result<()> {
+    let proposer = proposer_index(alloc, state)?;
+    let mut bytes = block_bytes(alloc, state, proposer, votes)?;
+    let root = behind(alloc, state, &bytes, config)?;
+    put(&mut bytes, 148, &root);
+    events.push(event_of(alloc, 2, &bytes)?)?;
+    for vote in votes {
+        events.push(event_of(alloc, 4, vote)?)?;
+    }
+    Ok(())
+}
+
+/// Tells the events of a slot that the state has entered, and takes the state through the slot's block, if it has one.
+fn tell_slot(
+    alloc: Global,
+    state: &mut State,
+    config: &Config,
+    slot: Slot,
+    told: &mut Told,
+) -> Result<()> {
+    let time = state
+        .slot()
+        .wrapping_mul(config.seconds_per_slot())
+        .wrapping_add(state.genesis_time());
+    let events = &mut told.events;
+    events.push(event_of(alloc, 1, &time.to_le_bytes())?)?;
+    let votes = votes(alloc, state, slot.votes)?;
+    for vote in &votes {
+        events.push(event_of(alloc, 3, vote)?)?;
+    }
+    if slot.has_block {
+        tell_block(alloc, state, config, &votes, events)?;
+        told.pairs.add(pairs_of_body(votes.len() as u64));
+    }
+    Ok(())
+}
+
+/// Adds the pairs that the step from a state to that of the next slot needs: those of the new state's root, and of the header's where
+/// the state's latest block got its state root.
+fn count(alloc: Global, old: &State, new: &State, pairs: &mut Pairs) -> Result<()> {
+    if old.latest_block_header().state_root == [0; 32] {
+        pairs.add(HEADER);
+    }
+    Step { old, new }.add_root(alloc, pairs)
+}
+
+/// The state of the next slot, and the events of that slot.
+fn next(
+    alloc: Global,
+    state: &State,
+    config: &Config,
+    slot: Slot,
+    told: &mut Told,
+) -> Result<State> {
+    if !is_sound(alloc, state)? {
+        bail!("the state isn't sound");
+    }
+    let mut step = process_slots(alloc, state, state.slot().saturating_add(1), config)?;
+    tell_slot(alloc, &mut step.state, config, slot, told)?;
+    count(alloc, state, &step.state, &mut told.pairs)?;
+    Ok(step.state)
+}
+
+/// What a chain of so many slots behind genesis tells.
+pub fn chain(
+    alloc: Global,
+    genesis: &State,
+    config: &Config,
+    slots: u64,
+    shape: Shape,
+) -> Result<Told> {
+    let mut told = Told {
+        events: Vec::new(alloc),
+        pairs: Pairs::none(),
+    };
+    let mut state = genesis.share()?;
+    for number in 0..slots {
+        let slot = Slot {
+            has_block: number % shape.every.max(1) != 5,
+            votes: shape.votes,
+        };
+        state = next(alloc, &state, config, slot, &mut told)?;
+    }
+    Ok(told)
+}

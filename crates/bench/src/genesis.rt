@@ -1,0 +1,107 @@
+//! Genesis states of either preset as bytes, and the configurations that go with them: validators that are active from the
+//! beginning, and nothing else.
+
+ghost use Rattle.std.specs.Prelude.{◌≡◌, IfOk};
+ghost use Rattle.bc_preset.specs.Presets.{IsPreset};
+
+use crate::states::{MOST, put};
+use bc_preset::Preset;
+use beacon_body::empty_body_root;
+use beacon_state::State;
+use ssz_codec::SszFault;
+use std::alloc::{AllocError, Global};
+
+/// A configuration of the minimal preset.
+const MINIMAL_CONFIG: &[u8] =
+    b"PRESET_BASE: 'minimal'\nSECONDS_PER_SLOT: 6\nMIN_VALIDATOR_WITHDRAWABILITY_DELAY: 256\nSHARD_COMMITTEE_PERIOD: 64\nEJECTION_BALANCE: 16000000000\nMIN_PER_EPOCH_CHURN_LIMIT: 4\nCHURN_LIMIT_QUOTIENT: 32\nPROPOSER_SCORE_BOOST: 40\n";
+
+/// The balance of each validator, in Gwei.
+const BALANCE: u64 = 32_000_000_000;
+
+/// The length of a validator.
+const VALIDATOR: usize = 121;
+
+/// A network: what its genesis state looks like, and its configuration.
+#[derive(Clone, Copy)]
+pub struct Network {
+    /// How many validators it has.
+    pub validators: u32,
+    /// Where the part of the state behind its latest roots begins.
+    historical: u32,
+    /// Where the part of the state behind its mixes and slashed balances begins.
+    pending: u32,
+    /// The configuration.
+    pub config: &'static [u8],
+}
+
+impl Network {
+    /// The minimal preset with 64 validators.
+    pub fn minimal() -> Network {
+        Network {
+            validators: 64,
+            historical: 4_272,
+            pending: 6_928,
+            config: MINIMAL_CONFIG,
+        }
+    }
+
+    /// The mainnet preset with 16,384 validators.
+    pub fn mainnet() -> Network {
+        Network {
+            validators: 16_384,
+            historical: 524_464,
+            pending: 2_687_248,
+            config: crate::states::CONFIG,
+        }
+    }
+}
+
+/// Puts an offset at a place.
+pub fn put_offset(bytes: &mut [u8], at: usize, offset: usize) {
+    put(bytes, at, &(offset as u64).to_le_bytes()[..4]);
+}
+
+/// Puts a validator that is active from the beginning, and its balance.
+fn put_validator(bytes: &mut [u8], at: usize, balance_at: usize, index: u32) {
+    put(bytes, at, &index.to_le_bytes());
+    put(bytes, at.saturating_add(80), &BALANCE.to_le_bytes());
+    put(bytes, at.saturating_add(105), &[255; 16]);
+    put(bytes, balance_at, &BALANCE.to_le_bytes());
+}
+
+/// The bytes of the network's genesis state.
+pub fn genesis_bytes(alloc: Global, network: &Network) -> Result<Vec<u8>, AllocError> {
+    let count = network.validators.min(MOST) as usize;
+    let historical = network.historical as usize;
+    let pending = network.pending as usize;
+    let fixed = pending + 129;
+    let balances = fixed + VALIDATOR * count;
+    let end = balances + 8 * count;
+    let mut bytes = vec![in alloc; 0u8; end]?;
+    put(&mut bytes, 144, &empty_body_root());
+    for at in [historical, historical + 76, historical + 88] {
+        put_offset(&mut bytes, at, fixed);
+    }
+    put_offset(&mut bytes, historical + 92, balances);
+    put_offset(&mut bytes, pending, end);
+    put_offset(&mut bytes, pending + 4, end);
+    for index in 0..network.validators.min(MOST) {
+        let place = index as usize;
+        put_validator(
+            &mut bytes,
+            fixed + VALIDATOR * place,
+            balances + 8 * place,
+            index,
+        );
+    }
+    Ok(bytes)
+}
+
+/// Reads a state of the preset.
+#[tactic(auto, using(spec_state::proofs::Limits::within_preset))]
+pub fn read_state(alloc: Global, preset: &Preset, bytes: &[u8]) -> Result<State, SszFault>
+    requires { IsPreset preset.now }
+    ensures { IfOk result (λ state. state.preset ≡ preset.now) }
+{
+    State::read(alloc, preset, bytes)
+}

@@ -1,0 +1,38 @@
+//! The memory that the program holds, as the operating system tells it.
+
+use anyhow::Result;
+use std::fs;
+use std::rt::Files;
+
+/// The bytes of a page.
+const PAGE: u64 = 4096;
+
+/// The number at the front of these bytes.
+fn number_at_front(text: &[u8]) -> u64 {
+    let mut number = 0u64;
+    for byte in text {
+        if !byte.is_ascii_digit() {
+            return number;
+        }
+        number = number
+            .saturating_mul(10)
+            .saturating_add(u64::from(*byte).saturating_sub(48));
+    }
+    number
+}
+
+/// What stands behind the first space.
+fn behind_space(text: &[u8]) -> &[u8] {
+    for place in 0..text.len() {
+        if text[place] == b' ' {
+            return &text[place + 1..];
+        }
+    }
+    text
+}
+
+/// The bytes of the program that are in memory: the second number of `/proc/self/statm`, in pages.
+pub fn resident(rt: &(impl AllocGlobal + Files)) -> Result<u64> {
+    let text = fs::read(rt, "/proc/self/statm")?;
+    Ok(number_at_front(behind_space(&text)).saturating_mul(PAGE))
+}

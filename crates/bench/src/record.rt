@@ -1,0 +1,219 @@
+//! A record of 128 slots, each of which has a block with the votes of all committees: its state transitions against the hashes
+//! that their roots need, what a store takes for it event by event, and the memory that it keeps.
+
+ghost use Rattle.std.specs.Prelude.{◌≡◌};
+
+use crate::chain::{Event, Shape, Told, chain};
+use crate::genesis::{Network, genesis_bytes, read_state};
+use crate::hashes::time_pairs;
+use crate::memory::resident;
+use crate::ratio::Ratio;
+use crate::running::{Times, run_store};
+use crate::transitions::pass_all;
+use anyhow::Result;
+use bc_preset::Config;
+use beacon_body::SignedBeaconBlock;
+use beacon_state::State;
+use ssz_codec::Ssz;
+use std::alloc::Global;
+use std::rt::Files;
+use std::time::CpuClock;
+
+/// How many slots the record has.
+const SLOTS: u64 = 128;
+
+/// The bytes of blocks that use up memory let go before.
+const FILL: u64 = 1 << 24;
+
+/// The bytes that a block needs in memory.
+#[derive(Clone, Copy)]
+struct Each {
+    /// Those of the state behind it, beside those before.
+    state: u64,
+    /// Those of the block as it is read.
+    block: u64,
+    /// Those of its writing.
+    written: u64,
+    /// Those of a store.
+    store: u64,
+}
+
+/// Takes the state transitions of all blocks, and prints their time against the hashes of their roots. Gives the bytes of
+/// memory that a state of the second half of the blocks takes.
+fn measure_states(
+    rt: &(impl AllocGlobal + Print + CpuClock + Files),
+    config: &Config,
+    states: &mut Vec<State>,
+    told: &Told,
+) -> Result<u64> {
+    let half = told.events.len() / 2;
+    let first = pass_all(rt, config, states, &told.events[..half])?;
+    let before = resident(rt)?;
+    let count = states.len() as u64;
+    let second = pass_all(rt, config, states, &told.events[half..])?;
+    let grown = resident(rt)?.saturating_sub(before);
+    let passed = (states.len() as u64).saturating_sub(count);
+    let ratio = Ratio {
+        whole: first.saturating_add(second),
+        measure: time_pairs(rt, &told.pairs)?,
+    };
+    let (alone, lanes) = (told.pairs.alone, told.pairs.lanes);
+    println!(rt;
+        "state transitions, against {alone} pairs one by one and {lanes} in lanes, which their roots need: {ratio}"
+    )?;
+    Ok(grown / passed.max(1))
+}
+
+/// Reads all blocks and keeps them. Gives the bytes of their writings.
+fn read_blocks(
+    alloc: Global,
+    blocks: &mut Vec<SignedBeaconBlock>,
+    events: &[Event],
+) -> Result<u64> {
+    let mut written = 0u64;
+    for event in events {
+        if event.kind == 2 {
+            match SignedBeaconBlock::read(alloc, &event.payload) {
+                Ok(block) => blocks.push(block)?,
+                Err(fault) => return Err(fault.into()),
+            }
+            written = written.saturating_add(event.payload.len() as u64);
+        }
+    }
+    Ok(written)
+}
+
+/// Reads all blocks many times and keeps them, so that memory let go before is used up. Gives the bytes of memory and of its
+/// writing that a block takes.
+fn measure_blocks(
+    rt: &(impl AllocGlobal + Files),
+    blocks: &mut Vec<SignedBeaconBlock>,
+    events: &[Event],
+) -> Result<(u64, u64)> {
+    let written = read_blocks(rt.alloc(), blocks, events)?;
+    let once = blocks.len() as u64;
+    let times = (FILL / written.max(1)).saturating_add(1);
+    for _time in 0..times {
+        read_blocks(rt.alloc(), blocks, events)?;
+    }
+    let before = resident(rt)?;
+    for _time in 0..times {
+        read_blocks(rt.alloc(), blocks, events)?;
+    }
+    let grown = resident(rt)?.saturating_sub(before);
+    let later = once.saturating_mul(times);
+    Ok((grown / later.max(1), written / once.max(1)))
+}
+
+/// Prints the memory that a block needs, and the time of a slot.
+fn tell(rt: &impl Print, times: &Times, each: Each, events: usize) -> Result<()> {
+    times.tell(rt, events)?;
+    let slot = times.whole().as_micros() / u128::from(SLOTS);
+    println!(rt; "a slot: {slot} us")?;
+    let Each {
+        state,
+        block,
+        written,
+        store,
+    } = each;
+    println!(rt;
+        "bytes a block: {store} in a store; {state} of the state behind it, {block} of the block, {written} of its writing"
+    )?;
+    Ok(())
+}
+
+/// Takes the state transitions and a store through the record, and prints what they took, with what a block and its writing
+/// take. The states are kept.
+fn measure_with(
+    rt: &(impl AllocGlobal + Print + CpuClock + Files),
+    config: &Config,
+    states: &mut Vec<State>,
+    genesis: &State,
+    told: &Told,
+    sizes: (u64, u64),
+) -> Result<()>
+    requires preset { genesis.now.preset ≡ config.now.preset }
+{
+    let (block, written) = sizes;
+    let state = measure_states(rt, config, states, told)?;
+    let times = run_store(rt, config, genesis, &told.events)?;
+    let each = Each {
+        state,
+        block,
+        written,
+        store: times.grown / (SLOTS / 2),
+    };
+    tell(rt, &times, each, told.events.len())
+}
+
+/// The same from the genesis state on.
+fn measure_kept(
+    rt: &(impl AllocGlobal + Print + CpuClock + Files),
+    config: &Config,
+    genesis: &State,
+    told: &Told,
+    sizes: (u64, u64),
+) -> Result<()>
+    requires preset { genesis.now.preset ≡ config.now.preset }
+{
+    let mut states = Vec::new(rt.alloc());
+    states.push(genesis.share()?)?;
+    measure_with(rt, config, &mut states, genesis, told, sizes)
+}
+
+/// The same behind blocks that are kept.
+fn measure_told(
+    rt: &(impl AllocGlobal + Print + CpuClock + Files),
+    config: &Config,
+    genesis: &State,
+    told: &Told,
+) -> Result<()>
+    requires preset { genesis.now.preset ≡ config.now.preset }
+{
+    let mut blocks = Vec::new(rt.alloc());
+    let sizes = measure_blocks(rt, &mut blocks, &told.events)?;
+    measure_kept(rt, config, genesis, told, sizes)
+}
+
+/// Makes the record, takes it, and prints what it took.
+fn measure_from(
+    rt: &(impl AllocGlobal + Print + CpuClock + Files),
+    config: &Config,
+    genesis: &State,
+    votes: u64,
+) -> Result<()>
+    requires preset { genesis.now.preset ≡ config.now.preset }
+{
+    let shape = Shape { every: 1, votes };
+    let told = chain(rt.alloc(), genesis, config, SLOTS, shape)?;
+    measure_told(rt, config, genesis, &told)
+}
+
+/// Reads the genesis state, and measures a record from there.
+fn measure_state(
+    rt: &(impl AllocGlobal + Print + CpuClock + Files),
+    config: &Config,
+    bytes: &[u8],
+    votes: u64,
+) -> Result<()> {
+    match read_state(rt.alloc(), config.preset(), bytes) {
+        Ok(genesis) => measure_from(rt, config, &genesis, votes),
+        Err(fault) => Err(fault.into()),
+    }
+}
+
+/// Reads the configuration and the genesis state of a network, and measures a record from there, in which each vote is told so
+/// many times.
+pub fn measure(
+    rt: &(impl AllocGlobal + Print + CpuClock + Files),
+    network: &Network,
+    votes: u64,
+) -> Result<()> {
+    let validators = network.validators;
+    println!(rt; "{SLOTS} slots on {validators} validators, each vote told {votes} times")?;
+    let bytes = genesis_bytes(rt.alloc(), network)?;
+    match Config::read(network.config) {
+        Ok(config) => measure_state(rt, &config, &bytes, votes),
+        Err(fault) => Err(fault.into()),
+    }
+}

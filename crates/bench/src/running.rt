@@ -1,0 +1,173 @@
+//! A store that takes the events of a record one by one, with its head behind each: what that takes, and the memory that it
+//! keeps.
+
+ghost use Rattle.std.specs.Prelude.{◌≡◌, ◌<◌, None};
+ghost use Rattle.spec_state.specs.Genesis.{genesis_fault};
+
+use crate::chain::Event;
+use crate::memory::resident;
+use anyhow::{Result, bail};
+use bc_preset::Config;
+use bc_words::Steps;
+use beacon_state::{State, genesis_check};
+use fork_store::Store;
+use hash_tree::Root;
+use std::alloc::Global;
+use std::marker::Brand;
+use std::rt::Files;
+use std::sync::ledger::{Blank, Ledger};
+use std::time::{CpuClock, Duration};
+
+/// What the parts of a run took: events of kinds 1 to 4, and heads.
+#[derive(Clone, Copy)]
+pub struct Times {
+    ticks: Duration,
+    blocks: Duration,
+    wire: Duration,
+    carried: Duration,
+    pub heads: Duration,
+    accepted: u64,
+    /// The bytes of memory that the second half of the events added.
+    pub grown: u64,
+}
+
+impl Times {
+    /// Nothing yet.
+    fn none() -> Times {
+        Times {
+            ticks: Duration::ZERO,
+            blocks: Duration::ZERO,
+            wire: Duration::ZERO,
+            carried: Duration::ZERO,
+            heads: Duration::ZERO,
+            accepted: 0,
+            grown: 0,
+        }
+    }
+
+    /// Adds what an event took.
+    fn add(&mut self, kind: u8, time: Duration) {
+        match kind {
+            1 => self.ticks = self.ticks.saturating_add(time),
+            2 => self.blocks = self.blocks.saturating_add(time),
+            3 => self.wire = self.wire.saturating_add(time),
+            _ => self.carried = self.carried.saturating_add(time),
+        }
+    }
+}
+
+/// The head, with a counter of its own.
+fn counted<L: Ledger>(store: &mut Store, blank: Blank) -> Root
+    requires name { blank.name ≡ L.name }
+    requires parts { blank.parts ≡ L.parts }
+    requires some { 0 < blank.parts }
+{
+    let mut steps = Steps::<L>::new(blank);
+    store.head(&mut steps)
+}
+
+/// Takes one event, and the head behind it.
+fn take(
+    rt: &(impl AllocGlobal + CpuClock),
+    store: &mut Store,
+    event: &Event,
+    times: &mut Times,
+) -> Result<()> {
+    if store.accepted().len() > 1 << 20 {
+        bail!("too many blocks");
+    }
+    let begin = rt.process_cpu_time()?;
+    let taken = store
+        .on_event(rt.alloc(), event.kind, &event.payload)
+        .is_ok();
+    let middle = rt.process_cpu_time()?;
+    let _head = counted::<Brand>(store, Blank::new(1));
+    let end = rt.process_cpu_time()?;
+    times.add(event.kind, middle.saturating_sub(begin));
+    times.heads = times.heads.saturating_add(end.saturating_sub(middle));
+    if taken {
+        times.accepted = times.accepted.saturating_add(1);
+    }
+    Ok(())
+}
+
+/// Takes these events.
+fn take_all(
+    rt: &(impl AllocGlobal + CpuClock),
+    store: &mut Store,
+    events: &[Event],
+    times: &mut Times,
+) -> Result<()> {
+    for event in events {
+        take(rt, store, event, times)?;
+    }
+    Ok(())
+}
+
+/// Takes all events.
+fn run(
+    rt: &(impl AllocGlobal + CpuClock + Files),
+    store: &mut Store,
+    events: &[Event],
+) -> Result<Times> {
+    let mut times = Times::none();
+    let half = events.len() / 2;
+    take_all(rt, store, &events[..half], &mut times)?;
+    let before = resident(rt)?;
+    take_all(rt, store, &events[half..], &mut times)?;
+    times.grown = resident(rt)?.saturating_sub(before);
+    Ok(times)
+}
+
+/// The store at a genesis state.
+fn store_at(alloc: Global, config: &Config, genesis: &State) -> Result<Store>
+    requires preset { genesis.now.preset ≡ config.now.preset }
+{
+    if genesis_check(genesis).is_err() {
+        bail!("it isn't a genesis state");
+    }
+    Ok(Store::new(alloc, config, genesis.share()?)?)
+}
+
+/// What a store takes for the record.
+pub fn run_store(
+    rt: &(impl AllocGlobal + CpuClock + Files),
+    config: &Config,
+    genesis: &State,
+    events: &[Event],
+) -> Result<Times>
+    requires preset { genesis.now.preset ≡ config.now.preset }
+{
+    let mut store = store_at(rt.alloc(), config, genesis)?;
+    run(rt, &mut store, events)
+}
+
+/// A part of a run, and its share of the whole in hundredths.
+pub fn tell_part(rt: &impl Print, part: &str, time: Duration, whole: Duration) -> Result<()> {
+    let micros = time.as_micros();
+    let share = micros.saturating_mul(100) / whole.as_micros().max(1);
+    println!(rt; "  {part}: {micros} us, {share} in 100")?;
+    Ok(())
+}
+
+impl Times {
+    /// What all events and heads took.
+    pub fn whole(&self) -> Duration {
+        let events = self.ticks.saturating_add(self.blocks);
+        let votes = self.wire.saturating_add(self.carried);
+        events.saturating_add(votes).saturating_add(self.heads)
+    }
+
+    /// Prints what the parts took.
+    pub fn tell(&self, rt: &impl Print, events: usize) -> Result<()> {
+        let accepted = self.accepted;
+        let whole = self.whole();
+        let micros = whole.as_micros();
+        println!(rt; "a store with {events} events, {accepted} of them accepted: {micros} us")?;
+        tell_part(rt, "ticks", self.ticks, whole)?;
+        tell_part(rt, "blocks", self.blocks, whole)?;
+        tell_part(rt, "votes on the wire", self.wire, whole)?;
+        tell_part(rt, "carried votes", self.carried, whole)?;
+        tell_part(rt, "heads", self.heads, whole)
+    }
+}

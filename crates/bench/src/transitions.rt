@@ -1,0 +1,63 @@
+//! The state transitions of a record's blocks, each from the state behind the block before: their time, and the memory of the
+//! states behind them, all of which are kept.
+
+use crate::chain::Event;
+use anyhow::{Result, bail};
+use bc_preset::Config;
+use beacon_body::SignedBeaconBlock;
+use beacon_state::State;
+use ssz_codec::Ssz;
+use std::time::{CpuClock, Duration};
+use transition::is_sound;
+use transition::state_transition::state_transition;
+
+/// The state behind a block, and the time of its transition, which is added.
+fn time_block(
+    rt: &(impl AllocGlobal + CpuClock),
+    config: &Config,
+    state: &State,
+    block: &SignedBeaconBlock,
+    time: &mut Duration,
+) -> Result<State> {
+    if !is_sound(rt.alloc(), state)? {
+        bail!("the state isn't sound");
+    }
+    let begin = rt.process_cpu_time()?;
+    let step = state_transition(rt.alloc(), state, block, config)?;
+    let end = rt.process_cpu_time()?;
+    *time = time.saturating_add(end.saturating_sub(begin));
+    Ok(step.state)
+}
+
+/// The same for a block's writing on the last state, behind which it is put.
+fn pass(
+    rt: &(impl AllocGlobal + CpuClock),
+    config: &Config,
+    states: &mut Vec<State>,
+    bytes: &[u8],
+    time: &mut Duration,
+) -> Result<()> {
+    let state = match (SignedBeaconBlock::read(rt.alloc(), bytes), states.last()) {
+        (Ok(block), Some(state)) => time_block(rt, config, state, &block, time)?,
+        _ => bail!("the record has another block"),
+    };
+    states.push(state)?;
+    Ok(())
+}
+
+/// Takes the last of these states through the blocks among these events, and puts each state behind it. Gives the time of the
+/// transitions.
+pub fn pass_all(
+    rt: &(impl AllocGlobal + CpuClock),
+    config: &Config,
+    states: &mut Vec<State>,
+    events: &[Event],
+) -> Result<Duration> {
+    let mut time = Duration::ZERO;
+    for event in events {
+        if event.kind == 2 {
+            pass(rt, config, states, &event.payload, &mut time)?;
+        }
+    }
+    Ok(time)
+}
