@@ -18,7 +18,7 @@ use Rattle.spec_blocks.specs.ProcessAttestation.{check_committee}
 use Rattle.attest_ops.specs.inside.Attested.{attested_of, attested_at, is_attested, Attests}
 
 -- the answer is that of a check with a value behind it
-behind : (result : Result Bool Stop) (checked : Outcome (Unit {0})) (is_so : Bool) → GivesExactly result (bind checked (λ _. done is_so)) → Attests result checked is_so
+pub behind : (result : Result Bool Stop) (checked : Outcome (Unit {0})) (is_so : Bool) → GivesExactly result (bind checked (λ _. done is_so)) → Attests result checked is_so
 behind (Ok attested) (done unit) is_so e = (ap done (let one : unit ≡ tt = refl in one), sym (let same : is_so ≡ attested = cc in same))
 behind (Ok attested) (refused why) is_so e = absurd cc
 behind (Ok attested) (limited bound) is_so e = absurd cc
@@ -30,7 +30,7 @@ behind (Err (stops.Limit bound)) (refused why) is_so e = absurd cc
 behind (Err (stops.Limit bound)) (limited other) is_so e = let same : other ≡ bound = cc in ap limited same
 behind (Err stops.NoMemory) checked is_so e = e
 
-abbrev flag : PlainState → AttestationData → List Bool → Bool
+abbrev pub flag : PlainState → AttestationData → List Bool → Bool
 flag state voted bits = not (nat_eq (length (get_attesting_indices state voted bits)) 0)
 
 either_way : (state : PlainState) (voted : AttestationData) (bits : List Bool) (has : Bool) (committee : Option (List ℕ)) → (has ≡ true → committee ≡ Some (get_beacon_committee state voted.slot voted.index))

@@ -1,3 +1,4 @@
 pub mod Attested
 pub mod Matching
 pub mod Members
+pub mod AmongActive

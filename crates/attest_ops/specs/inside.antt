@@ -3,3 +3,4 @@ pub mod Attested
 pub mod Bits
 pub mod Matching
 pub mod Pending
+pub mod Counted

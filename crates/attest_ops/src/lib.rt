@@ -4,6 +4,7 @@
 //! attestations, which epoch processing reads. A file has the name of the published function that it holds.
 #![tactic(auto)]
 
+mod counted;
 mod get_attesting_indices;
 mod get_matching_attestations;
 mod pending;

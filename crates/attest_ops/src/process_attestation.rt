@@ -1,12 +1,13 @@
 //! The vote of a committee (beacon-chain.md, "Attestations").
 
-ghost use Rattle.std.specs.Prelude.{◌≡◌, OnOk};
+ghost use Rattle.std.specs.Prelude.{◌≡◌, length, OnOk};
 ghost use Rattle.bc_words.specs.Outcome.{Changes, GivesExactly};
 ghost use Rattle.spec_state.specs.Misc.{compute_epoch_at_slot};
-ghost use Rattle.spec_state.specs.Accessors.{get_current_epoch, get_previous_epoch, epoch_committees};
+ghost use Rattle.spec_state.specs.Accessors.{get_current_epoch, get_previous_epoch, get_active_validator_indices, epoch_committees};
 ghost use Rattle.spec_blocks.specs.ProcessAttestation.{check_times, check_committee, process_attestation};
 ghost use Rattle.attest_ops.specs.inside.Attested.{attested_by, attested_at, is_attested, Attests, IsTimely};
 
+use crate::counted::counted_in;
 use crate::get_attesting_indices::is_attested;
 use crate::pending::{pending_of, push_attested};
 use balance_totals::{current_epoch, previous_epoch};
@@ -126,4 +127,26 @@ pub fn process_attestation(
     let delay = checked_sub(state.slot(), attestation.content.slot)?;
     let pending = pending_of(attestation, delay, proposer)?;
     push_attested(state, pending, attested)
+}
+
+/// The same, where `previous` and `current` are how many validators are active in the state's previous and current epoch. The
+/// members of a committee aren't needed, since the signature isn't checked: how many there are decides.
+#[tactic(auto, unfolding(spec_blocks::specs::ProcessAttestation::process_attestation, crate::specs::inside::Pending::with_attested, crate::specs::inside::Attested::is_attested))]
+pub fn process_counted_attestation(
+    state: &mut State,
+    attestation: &Attestation,
+    proposer: u64,
+    previous: u64,
+    current: u64,
+) -> Result<(), Stop>
+    requires previous { previous ≡ length (get_active_validator_indices state.old (get_previous_epoch state.old)) }
+    requires current { current ≡ length (get_active_validator_indices state.old (get_current_epoch state.old)) }
+    ensures { Changes result state.old state.new (process_attestation state.old attestation.now proposer) }
+{
+    let content = &attestation.content;
+    check_times(state, content)?;
+    let attested = counted_in(state, attestation, previous, current)?;
+    let delay = checked_sub(state.slot(), content.slot)?;
+    let waiting = pending_of(attestation, delay, proposer)?;
+    push_attested(state, waiting, attested)
 }

@@ -12,6 +12,8 @@ mod examples;
 #[cfg(test)]
 mod hashing;
 #[cfg(test)]
+mod shuffles;
+#[cfg(test)]
 mod small_state;
 #[cfg(test)]
 mod ssz;

@@ -191,6 +191,29 @@ fn so_many_items_are_set_that_layers_are_hashed(rt: HostRuntime) -> Result<(), F
     Ok(())
 }
 
+/// The items of a list of nineteen in order, joined.
+fn walked(alloc: Global) -> Result<u64, NoMemory> {
+    let items = vec![in alloc;
+        1, 2, 3, 4, 5, 6, 7, 8, 9, 10, 11, 12, 13, 14, 15, 16, 17, 18, 19,
+    ]?;
+    let list = SharedList::<u64>::from_vec(items, 1 << 40)?;
+    let mut joined = 0u64;
+    for item in list.iter() {
+        joined = joined.wrapping_mul(31).wrapping_add(*item);
+    }
+    Ok(joined)
+}
+
+#[test]
+fn a_walk_gives_the_items_in_order(rt: HostRuntime) -> Result<(), Fail> {
+    let mut joined = 0u64;
+    for item in 1..20u64 {
+        joined = joined.wrapping_mul(31).wrapping_add(item);
+    }
+    assert_eq!(rt; walked(rt.alloc())?, joined);
+    Ok(())
+}
+
 /// The roots of a list of three numbers, after two were set at once, one set and two pushed, and its second number. One more
 /// is too many.
 fn change_numbers<L: Ledger>(

@@ -141,10 +141,10 @@ impl<'a, R: Files> DiskShelf<'a, R> {
         ensures opens { Opens name.now result (disk_told self.old) (disk_told self.new) }
         ensures tries { Tries result self.old.faults self.new.faults }
     {
-        let asked = AskedName::new(self.alloc, name)?;
-        let kept = AskedName::new(self.alloc, name)?;
         self.asked.reserve(1)?;
         self.opened.reserve(1)?;
+        let asked = AskedName::new(self.alloc, name)?;
+        let kept = AskedName::new(self.alloc, name)?;
         let number = self.opened.len() as u32;
         let place = self.asked.len();
         self.asked.push_reserved(asked);

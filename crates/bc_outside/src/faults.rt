@@ -7,7 +7,7 @@ ghost use Rattle.bc_outside.specs.inside.Tries.{no_faults, interrupted_by, faile
 use std::io::{Error, ErrorKind};
 
 /// How many calls were interrupted, and how many failed otherwise. Each count stays at its last number.
-#[derive(Clone, Copy, Debug)]
+#[derive(Clone, Copy)]
 pub struct FaultCounts {
     interrupted: u64,
     others: u64,

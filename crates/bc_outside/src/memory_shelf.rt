@@ -16,7 +16,7 @@ use std::alloc::{AllocError, Global};
 use std::marker::Model;
 
 /// A file under a name.
-#[derive(Debug, Drop)]
+#[derive(Drop)]
 pub struct MemoryFile {
     name: String,
     bytes: Vec<u8>,
@@ -50,7 +50,7 @@ impl MemoryFile {
 }
 
 // A file that was opened, with its place.
-#[derive(Debug, Drop)]
+#[derive(Drop)]
 struct OpenFile {
     name: AskedName,
     bytes: Vec<u8>,
@@ -122,7 +122,7 @@ pub(crate) fn is_listed(numbers: &[u64], number: u64) -> bool
 }
 
 /// Files in memory. Of each file that is opened it makes a copy with a place of its own.
-#[derive(Debug, Drop)]
+#[derive(Drop)]
 pub struct MemoryShelf {
     alloc: Global,
     files: Vec<MemoryFile>,
@@ -227,10 +227,10 @@ impl MemoryShelf {
         ensures ok { IfOk result (λ n. (n ≡ length self.old.opened) × (self.new ≡ with_admitted self.old name.now file)) }
         ensures err { IfErr result (λ trouble. (trouble ≡ NoMemory) × (self.new ≡ self.old)) }
     {
-        let asked = AskedName::new(self.alloc, name)?;
-        let number = self.opened.len() as u32;
         self.asked.reserve(1)?;
         self.opened.reserve(1)?;
+        let asked = AskedName::new(self.alloc, name)?;
+        let number = self.opened.len() as u32;
         self.asked.push_reserved(asked);
         self.opened.push_reserved(file);
         self.calls = self.calls.saturating_add(1);

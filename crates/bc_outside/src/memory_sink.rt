@@ -10,7 +10,7 @@ use std::alloc::Global;
 use std::marker::Model;
 
 /// Takes bytes into memory.
-#[derive(Debug, Drop)]
+#[derive(Drop)]
 pub struct MemorySink {
     written: Vec<u8>,
     // The numbers of the calls that are to fail, where calls count from 1.

@@ -6,7 +6,7 @@ use std::alloc::{AllocError, Global};
 use std::marker::Model;
 
 /// The name of a file that was asked for.
-#[derive(Debug, Drop)]
+#[derive(Drop)]
 pub struct AskedName {
     bytes: Vec<u8>,
 }

@@ -15,7 +15,7 @@ pub const MAX_CONFIG_LEN: usize = 65_536;
 
 /// The values of a configuration, one for each key of the table (beacon-chain.md and fork-choice.md,
 /// "Configuration").
-#[derive(Clone, Copy, Debug)]
+#[derive(Clone, Copy)]
 pub struct ConfigValues {
     /// The preset that PRESET_BASE names.
     pub preset: Preset,
@@ -36,7 +36,7 @@ pub struct ConfigValues {
 }
 
 /// A configuration: a preset, and a value in its range for each other key. Contracts see its values.
-#[derive(Clone, Copy, Debug)]
+#[derive(Clone, Copy)]
 pub struct Config {
     values: ConfigValues,
 }

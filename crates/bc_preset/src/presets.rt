@@ -8,7 +8,7 @@ ghost use Rattle.std.specs.Prelude.{◌≡◌};
 /// The numbers of a preset (phase 0 presets), each under its published name.
 ///
 /// It is `Copy` and 256 bytes long: pass it by `&`, and read its fields there.
-#[derive(Clone, Copy, Debug)]
+#[derive(Clone, Copy)]
 pub struct Preset {
     /// The most committees of one slot.
     pub max_committees_per_slot: u64,

@@ -1,3 +1,2 @@
 pub mod Containers
-pub mod inside
 pub mod laws

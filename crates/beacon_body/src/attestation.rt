@@ -8,7 +8,8 @@ use bc_words::NoMemory;
 use beacon_types::{AggregationBits, AttestationData};
 use hash_tree::{Leaf, Root};
 use ssz_codec::{
-    Field, ListValue, Ssz, SszFault, VariableSsz, Writer, read_container, root_of_container,
+    Field, ListValue, Offset, Ssz, SszFault, VariableSsz, Writer, read_container,
+    root_of_container, write_pieces,
 };
 use std::alloc::Global;
 
@@ -49,6 +50,7 @@ impl Ssz for Attestation {
         Field::Variable
     }
 
+    #[tactic(auto, using(ssz_codec::proofs::Fieldwise::three_read, ssz_codec::proofs::Fieldwise::three_unread))]
     fn parse(alloc: Global, bytes: &[u8]) -> Result<Attestation, SszFault> {
         read_container!(
             alloc,
@@ -63,11 +65,13 @@ impl Ssz for Attestation {
 
     #[tactic(auto, unfolding(ssz_codec::specs::Layout::joined, ssz_codec::specs::Layout::fixed_parts, ssz_codec::specs::Layout::variable_parts))]
     fn append_to(&self, out: &mut Writer) -> Result<(), NoMemory> {
-        out.put_u32(228)?;
-        self.content.write_to(out)?;
-        self.signature.write_to(out)?;
-        self.aggregation_bits.write_to(out)?;
-        Ok(())
+        write_pieces!(
+            out,
+            Offset(228),
+            &self.content,
+            &self.signature,
+            &self.aggregation_bits,
+        )
     }
 
     ghost lawful = { attestation_lawful };

@@ -1,17 +1,15 @@
 //! Two votes that may not both be cast.
 
 ghost use Rattle.std.specs.Prelude.{◌≡◌, refl, IsTrue, ◌↔◌, IfOk};
-ghost use Rattle.ssz_codec.specs.Containers.{layout_of, parts_of};
-ghost use Rattle.ssz_codec.specs.inside.Halves.{nothing_written, with_parts};
-ghost use Rattle.beacon_body.specs.Containers.{attester_slashing_fields, attester_slashing_codec};
+ghost use Rattle.beacon_body.specs.Containers.{attester_slashing_codec};
 ghost use Rattle.beacon_body.specs.laws.Containers.{attester_slashing_lawful};
 
 use bc_words::NoMemory;
 use beacon_types::IndexedAttestation;
 use hash_tree::{Leaf, Root};
 use ssz_codec::{
-    Field, ListValue, PartsWriter, Ssz, SszFault, VariableSsz, Writer, read_container,
-    root_of_container,
+    Field, ListValue, Ssz, SszFault, VariableSsz, Writer, read_container, root_of_container,
+    write_variable_container,
 };
 use std::alloc::Global;
 
@@ -25,16 +23,6 @@ pub struct AttesterSlashing {
 }
 
 impl AttesterSlashing {
-    /// Its parts, for writing.
-    fn parts(&self, out: &Writer) -> Result<PartsWriter, NoMemory>
-        ensures { IfOk result (λ parts. parts ≡ with_parts (layout_of attester_slashing_fields) (parts_of attester_slashing_fields self.now) (nothing_written 8)) }
-    {
-        let mut parts = PartsWriter::beside(out, 8);
-        parts.add(&self.attestation_1)?;
-        parts.add(&self.attestation_2)?;
-        Ok(parts)
-    }
-
     /// Whether it is the same slashing.
     pub fn equals(&self, other: &AttesterSlashing) -> bool
         ensures { IsTrue result ↔ (self.now ≡ other.now) }
@@ -70,10 +58,8 @@ impl Ssz for AttesterSlashing {
         )
     }
 
-    #[tactic(auto, using(ssz_codec::proofs::Halves::halves_joined))]
     fn append_to(&self, out: &mut Writer) -> Result<(), NoMemory> {
-        let parts = self.parts(out)?;
-        parts.append_to(out)
+        write_variable_container!(self, out, 8, attestation_1, attestation_2)
     }
 
     ghost lawful = { attester_slashing_lawful };

@@ -7,7 +7,9 @@ ghost use Rattle.beacon_body.specs.laws.Containers.{block_lawful};
 use crate::body::BeaconBlockBody;
 use bc_words::NoMemory;
 use hash_tree::{Leaf, Root};
-use ssz_codec::{Field, Ssz, SszFault, Writer, read_container, root_of_container};
+use ssz_codec::{
+    Field, Offset, Ssz, SszFault, Writer, read_container, root_of_container, write_pieces,
+};
 use std::alloc::Global;
 
 /// A block (beacon-chain.md, "BeaconBlock").
@@ -69,13 +71,15 @@ impl Ssz for BeaconBlock {
 
     #[tactic(auto, unfolding(ssz_codec::specs::Layout::joined, ssz_codec::specs::Layout::fixed_parts, ssz_codec::specs::Layout::variable_parts))]
     fn append_to(&self, out: &mut Writer) -> Result<(), NoMemory> {
-        self.slot.write_to(out)?;
-        self.proposer_index.write_to(out)?;
-        self.parent_root.write_to(out)?;
-        self.state_root.write_to(out)?;
-        out.put_u32(84)?;
-        self.body.write_to(out)?;
-        Ok(())
+        write_pieces!(
+            out,
+            &self.slot,
+            &self.proposer_index,
+            &self.parent_root,
+            &self.state_root,
+            Offset(84),
+            &self.body,
+        )
     }
 
     ghost lawful = { block_lawful };

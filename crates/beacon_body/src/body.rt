@@ -1,12 +1,8 @@
 //! What a block carries.
 
-ghost use Rattle.std.specs.Prelude.{◌≡◌, ◌≤◌, ◌^◌, [], length, map, refl, IfOk, IsTrue, ◌↔◌};
+ghost use Rattle.std.specs.Prelude.{◌≡◌, ◌≤◌, ◌^◌, [], refl, IsTrue, ◌↔◌};
 ghost use Rattle.hash_tree.specs.Merkle.{merkleize, mix_in_length as mixed_in};
-ghost use Rattle.ssz_codec.specs.Containers.{layout_of, parts_of, all_read};
-ghost use Rattle.ssz_codec.specs.Reads.{ReadsAs};
-ghost use Rattle.ssz_codec.specs.inside.Halves.{nothing_written, with_parts};
-ghost use Rattle.beacon_body.specs.Containers.{block_body_fields, block_body_codec, empty_body_root as root_of_default};
-ghost use Rattle.beacon_body.specs.inside.Reading.{operations_of, slashings_of};
+ghost use Rattle.beacon_body.specs.Containers.{block_body_codec, empty_body_root as root_of_default};
 ghost use Rattle.beacon_body.specs.laws.Containers.{block_body_lawful};
 
 use crate::attestation::Attestation;
@@ -20,8 +16,8 @@ use bc_words::NoMemory;
 use beacon_types::{Deposit, Eth1Data, SignedVoluntaryExit};
 use hash_tree::{Leaf, Root, depth_of, fields_root, mix_in_length, zero_hash};
 use ssz_codec::{
-    Field, LimitedList, ListLimit, PartsWriter, Ssz, SszFault, VariableList, Writer, cut,
-    root_of_container,
+    Field, LimitedList, ListLimit, Ssz, SszFault, VariableList, Writer, read_container,
+    root_of_container, write_variable_container,
 };
 use std::alloc::Global;
 
@@ -62,22 +58,6 @@ pub struct BeaconBlockBody {
 }
 
 impl BeaconBlockBody {
-    /// Its parts, for writing.
-    fn parts(&self, out: &Writer) -> Result<PartsWriter, NoMemory>
-        ensures { IfOk result (λ parts. parts ≡ with_parts (layout_of block_body_fields) (parts_of block_body_fields self.now) (nothing_written 220)) }
-    {
-        let mut parts = PartsWriter::beside(out, 220);
-        parts.add(&self.randao_reveal)?;
-        parts.add(&self.eth1_data)?;
-        parts.add(&self.graffiti)?;
-        parts.add(&self.proposer_slashings)?;
-        parts.add(&self.attester_slashings)?;
-        parts.add(&self.attestations)?;
-        parts.add(&self.deposits)?;
-        parts.add(&self.voluntary_exits)?;
-        Ok(parts)
-    }
-
     /// Whether it is the same body.
     pub fn equals(&self, other: &BeaconBlockBody) -> bool
         ensures { IsTrue result ↔ (self.now ≡ other.now) }
@@ -111,74 +91,6 @@ impl Leaf for BeaconBlockBody {
     }
 }
 
-/// Reads the attestations, deposits and exits of a body from the last three parts.
-fn read_operations(
-    alloc: Global,
-    randao_reveal: [u8; 96],
-    eth1_data: Eth1Data,
-    graffiti: Root,
-    proposer_slashings: ProposerSlashings,
-    attester_slashings: AttesterSlashings,
-    parts: &[&[u8]],
-) -> Result<BeaconBlockBody, SszFault>
-    ensures { ReadsAs result (operations_of randao_reveal eth1_data graffiti proposer_slashings attester_slashings (map (λ part. part.now) parts.now)) }
-{
-    match parts {
-        [attestations, deposits, exits] => Ok(BeaconBlockBody {
-            randao_reveal,
-            eth1_data,
-            graffiti,
-            proposer_slashings,
-            attester_slashings,
-            attestations: Attestations::parse(alloc, attestations)?,
-            deposits: Deposits::parse(alloc, deposits)?,
-            voluntary_exits: VoluntaryExits::parse(alloc, exits)?,
-        }),
-        _ => Err(SszFault::NotAWriting),
-    }
-}
-
-/// Reads the lists of a body from the last five parts.
-fn read_lists(
-    alloc: Global,
-    randao_reveal: [u8; 96],
-    eth1_data: Eth1Data,
-    graffiti: Root,
-    parts: &[&[u8]],
-) -> Result<BeaconBlockBody, SszFault>
-    ensures { ReadsAs result (slashings_of randao_reveal eth1_data graffiti (map (λ part. part.now) parts.now)) }
-{
-    match parts {
-        [proposers, attesters, operations @ ..] => read_operations(
-            alloc,
-            randao_reveal,
-            eth1_data,
-            graffiti,
-            ProposerSlashings::parse(alloc, proposers)?,
-            AttesterSlashings::parse(alloc, attesters)?,
-            operations,
-        ),
-        _ => Err(SszFault::NotAWriting),
-    }
-}
-
-/// Reads the fields of a body from its eight parts.
-fn read_fields(alloc: Global, parts: &[&[u8]]) -> Result<BeaconBlockBody, SszFault>
-    requires { length parts.now ≡ 8 }
-    ensures { ReadsAs result (block_body_fields.deserialize all_read (map (λ part. part.now) parts.now)) }
-{
-    match parts {
-        [randao_reveal, eth1_data, graffiti, lists @ ..] => read_lists(
-            alloc,
-            <[u8; 96]>::parse(alloc, randao_reveal)?,
-            Eth1Data::parse(alloc, eth1_data)?,
-            Root::parse(alloc, graffiti)?,
-            lists,
-        ),
-        _ => Err(SszFault::NotAWriting),
-    }
-}
-
 impl Ssz for BeaconBlockBody {
     ghost codec = { block_body_codec };
 
@@ -186,26 +98,38 @@ impl Ssz for BeaconBlockBody {
         Field::Variable
     }
 
+    #[tactic(auto, using(ssz_codec::proofs::Fieldwise::eight_unread))]
     fn parse(alloc: Global, bytes: &[u8]) -> Result<BeaconBlockBody, SszFault> {
-        let fields = [
-            <[u8; 96]>::field(),
-            Eth1Data::field(),
-            Root::field(),
-            ProposerSlashings::field(),
-            AttesterSlashings::field(),
-            Attestations::field(),
-            Deposits::field(),
-            VoluntaryExits::field(),
-        ];
-        let mut parts = [bytes; 8];
-        cut(bytes, &fields, &mut parts)?;
-        read_fields(alloc, &parts)
+        read_container!(
+            alloc,
+            bytes,
+            BeaconBlockBody {
+                randao_reveal: [u8; 96],
+                eth1_data: Eth1Data,
+                graffiti: Root,
+                proposer_slashings: ProposerSlashings,
+                attester_slashings: AttesterSlashings,
+                attestations: Attestations,
+                deposits: Deposits,
+                voluntary_exits: VoluntaryExits
+            }
+        )
     }
 
-    #[tactic(auto, using(ssz_codec::proofs::Halves::halves_joined))]
     fn append_to(&self, out: &mut Writer) -> Result<(), NoMemory> {
-        let parts = self.parts(out)?;
-        parts.append_to(out)
+        write_variable_container!(
+            self,
+            out,
+            220,
+            randao_reveal,
+            eth1_data,
+            graffiti,
+            proposer_slashings,
+            attester_slashings,
+            attestations,
+            deposits,
+            voluntary_exits
+        )
     }
 
     ghost lawful = { block_body_lawful };

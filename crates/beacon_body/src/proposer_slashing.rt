@@ -37,6 +37,7 @@ impl Ssz for ProposerSlashing {
         Field::Fixed(416)
     }
 
+    #[tactic(auto, using(ssz_codec::proofs::Fieldwise::two_read, ssz_codec::proofs::Fieldwise::two_unread))]
     fn parse(alloc: Global, bytes: &[u8]) -> Result<ProposerSlashing, SszFault> {
         read_container!(
             alloc,

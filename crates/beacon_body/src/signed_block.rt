@@ -7,7 +7,9 @@ ghost use Rattle.beacon_body.specs.laws.Containers.{signed_block_lawful};
 use crate::block::BeaconBlock;
 use bc_words::NoMemory;
 use hash_tree::{Leaf, Root};
-use ssz_codec::{Field, Ssz, SszFault, Writer, read_container, root_of_container};
+use ssz_codec::{
+    Field, Offset, Ssz, SszFault, Writer, read_container, root_of_container, write_pieces,
+};
 use std::alloc::Global;
 
 /// A block that was signed (beacon-chain.md, "SignedBeaconBlock").
@@ -47,10 +49,7 @@ impl Ssz for SignedBeaconBlock {
 
     #[tactic(auto, unfolding(ssz_codec::specs::Layout::joined, ssz_codec::specs::Layout::fixed_parts, ssz_codec::specs::Layout::variable_parts))]
     fn append_to(&self, out: &mut Writer) -> Result<(), NoMemory> {
-        out.put_u32(100)?;
-        self.signature.write_to(out)?;
-        self.message.write_to(out)?;
-        Ok(())
+        write_pieces!(out, Offset(100), &self.signature, &self.message,)
     }
 
     ghost lawful = { signed_block_lawful };

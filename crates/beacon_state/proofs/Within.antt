@@ -30,6 +30,17 @@ copied_more xs ys zs i v x so_far at copy more =
     let is = sym at in
     more ∙ ap (λ y. ys ++ y ∷ []) (copy ∙ sym (get_or_from_slice_get xs i v v is)) ∙ ap (λ front. front ++ get_or xs i v ∷ []) so_far ∙ sym (take_more xs i v (slice_get_within xs i v is))
 
+-- one more place of two lists is the same
+pub same_more : {A : Type 0} (xs ys : List A) (i : ℕ) (v x : A) → take i xs ≡ take i ys → Some v ≡ slice_get xs i → i < length ys → x ≡ get_or ys i x → v ≡ x → take (i + 1) xs ≡ take (i + 1) ys
+same_more xs ys i v x so_far at less there is =
+    let inside = slice_get_within xs i v (sym at) in
+    let here : get_or xs i v ≡ get_or ys i x = get_or_from_slice_get xs i v v (sym at) ∙ is ∙ there in
+    take_more xs i v inside ∙ ap (λ y. take i xs ++ y ∷ []) here ∙ ap (λ front. front ++ get_or ys i x ∷ []) so_far ∙ sym (take_more ys i x less)
+
+-- all places of them
+pub all_same : {A : Type 0} (xs ys : List A) (n : ℕ) → length xs ≡ length ys → length ys ≤ n → take n xs ≡ take n ys → xs ≡ ys
+all_same xs ys n even over same = sym (take_all n xs (subst (λ k. k ≤ n) (sym even) over)) ∙ same ∙ take_all n ys over
+
 -- a list has these values, all of which are
 pub all_of_list : {A : Type 0} (P : A → Type 0) (list : Limited A) (limit : ℕ) (xs ys : List A) → list ≡ record { limit = limit; items = xs } → ys ≡ xs → AllByRecursion P ys → AllByRecursion P list.items
 all_of_list P list limit xs ys e h all = subst (AllByRecursion P) (sym (ap (λ l. l.items) e)) (subst (AllByRecursion P) h all)

@@ -2,7 +2,7 @@
 //!
 //! Numbers come from reading and from those who change the state, and go to getters, writing and roots.
 
-ghost use Rattle.std.specs.Prelude.{◌≡◌, ◌<◌, ◌≤◌, ◌^◌, length, slice_get, slice_set, IfOk};
+ghost use Rattle.std.specs.Prelude.{◌≡◌, ◌<◌, ◌≤◌, ◌^◌, length, slice_get, slice_set, IfOk, IsTrue};
 ghost use Rattle.std.specs.List.{AllByRecursion};
 ghost use Rattle.bc_words.specs.Outcome.{Pushes, Becomes, checked_push};
 ghost use Rattle.ssz_codec.specs.Basic.{uint64};
@@ -60,6 +60,25 @@ fn push_number<L: Ledger>(list: &mut PackedList, number: u64, blank: Blank) -> R
     list.push(number, &mut steps)
 }
 
+/// Whether the list has just these numbers.
+#[tactic(auto, using(crate::proofs::Within::same_more, crate::proofs::Within::all_same))]
+fn has_numbers(list: &PackedList, numbers: &[u64]) -> bool
+    ensures { IsTrue result → list.now.items ≡ numbers.now }
+{
+    if list.len() != numbers.len() as u64 {
+        return false;
+    }
+    for i in 0..numbers.len() {
+        let Some(number) = list.get(i as u64) else {
+            return false;
+        };
+        if number != numbers[i] {
+            return false;
+        }
+    }
+    true
+}
+
 impl Numbers {
     /// The numbers that were read, of which there may be so many. Each inner node of their tree is hashed once.
     pub(crate) fn from_items(items: Items<u64>, limit: u64) -> Result<Numbers, NoMemory>
@@ -112,11 +131,15 @@ impl Numbers {
         pushed
     }
 
-    /// Writes other numbers in the place of all of them. Where memory is refused, they are as before.
+    /// Writes other numbers in the place of all of them. Where they are the same, no node is made anew. Where memory is
+    /// refused, they are as before.
     pub(crate) fn replace(&mut self, numbers: Vec<u64>) -> Result<(), NoMemory>
         requires { length numbers.items ≤ self.old.limit }
         ensures { Becomes result self.old self.new (record self.old { items = numbers.items }) }
     {
+        if has_numbers(&self.list, &numbers) {
+            return Ok(());
+        }
         let limit = self.list.limit();
         self.list = PackedList::from_vec(numbers, limit)?;
         Ok(())

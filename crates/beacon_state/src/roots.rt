@@ -8,8 +8,18 @@ use crate::state::State;
 use hash_tree::{Leaf, Root, fields_root};
 
 impl State {
-    /// The root of the state (simple-serialize.md, "Merkleization"), over the roots that its lists keep. It takes no memory.
+    /// The root of the state (simple-serialize.md, "Merkleization"), which may be kept. It takes no memory.
     pub fn root(&self) -> Root
+        ensures { result ≡ (state_codec self.now.preset).hash_tree_root self.now }
+    {
+        match self.kept_root() {
+            Some(root) => root,
+            None => self.taken_root(),
+        }
+    }
+
+    /// The root of the state, over the roots that its lists keep.
+    fn taken_root(&self) -> Root
         ensures { result ≡ (state_codec self.now.preset).hash_tree_root self.now }
     {
         fields_root(&[

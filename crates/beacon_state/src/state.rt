@@ -47,6 +47,8 @@ pub struct State {
     previous_justified_checkpoint: Checkpoint,
     current_justified_checkpoint: Checkpoint,
     finalized_checkpoint: Checkpoint,
+    // The root, where it was kept and nothing changed since.
+    kept_root: Option<Root>,
 }
 
 // Written by hand, so that a call that lets a state go is one call, and not one for each of its lists.
@@ -75,6 +77,7 @@ impl Drop for State {
             previous_justified_checkpoint: _,
             current_justified_checkpoint: _,
             finalized_checkpoint: _,
+            kept_root: _,
         } = self;
         drop(block_roots);
         drop(state_roots);
@@ -171,10 +174,11 @@ impl State {
             previous_justified_checkpoint,
             current_justified_checkpoint,
             finalized_checkpoint,
+            kept_root: None,
         })
     }
 
-    /// An equal state, whose lists stand in the same nodes.
+    /// An equal state, whose lists stand in the same nodes. A root that is kept is kept there too.
     pub fn share(&self) -> Result<State, NoMemory>
         ensures { IfOk result (λ state. state ≡ self.now) }
     {
@@ -208,6 +212,7 @@ impl State {
             previous_justified_checkpoint: self.previous_justified_checkpoint,
             current_justified_checkpoint: self.current_justified_checkpoint,
             finalized_checkpoint: self.finalized_checkpoint,
+            kept_root: self.kept_root,
         })
     }
 

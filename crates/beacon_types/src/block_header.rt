@@ -48,6 +48,7 @@ impl Ssz for BeaconBlockHeader {
         Field::Fixed(112)
     }
 
+    #[tactic(auto, using(ssz_codec::proofs::Fieldwise::five_read, ssz_codec::proofs::Fieldwise::five_unread))]
     fn parse(alloc: Global, bytes: &[u8]) -> Result<BeaconBlockHeader, SszFault> {
         read_container!(
             alloc,

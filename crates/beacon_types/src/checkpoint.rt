@@ -43,6 +43,7 @@ impl Ssz for Checkpoint {
         Field::Fixed(40)
     }
 
+    #[tactic(auto, using(ssz_codec::proofs::Fieldwise::two_read, ssz_codec::proofs::Fieldwise::two_unread))]
     fn parse(alloc: Global, bytes: &[u8]) -> Result<Checkpoint, SszFault> {
         read_container!(
             alloc,

@@ -73,6 +73,7 @@ impl Ssz for Deposit {
         Field::Fixed(1240)
     }
 
+    #[tactic(auto, using(ssz_codec::proofs::Fieldwise::two_read, ssz_codec::proofs::Fieldwise::two_unread))]
     fn parse(alloc: Global, bytes: &[u8]) -> Result<Deposit, SszFault> {
         read_container!(
             alloc,

@@ -39,6 +39,7 @@ impl Ssz for DepositData {
         Field::Fixed(184)
     }
 
+    #[tactic(auto, using(ssz_codec::proofs::Fieldwise::four_read, ssz_codec::proofs::Fieldwise::four_unread))]
     fn parse(alloc: Global, bytes: &[u8]) -> Result<DepositData, SszFault> {
         read_container!(
             alloc,

@@ -37,6 +37,7 @@ impl Ssz for Eth1Data {
         Field::Fixed(72)
     }
 
+    #[tactic(auto, using(ssz_codec::proofs::Fieldwise::three_read, ssz_codec::proofs::Fieldwise::three_unread))]
     fn parse(alloc: Global, bytes: &[u8]) -> Result<Eth1Data, SszFault> {
         read_container!(
             alloc,

@@ -37,6 +37,7 @@ impl Ssz for Fork {
         Field::Fixed(16)
     }
 
+    #[tactic(auto, using(ssz_codec::proofs::Fieldwise::three_read, ssz_codec::proofs::Fieldwise::three_unread))]
     fn parse(alloc: Global, bytes: &[u8]) -> Result<Fork, SszFault> {
         read_container!(
             alloc,

@@ -9,7 +9,8 @@ use crate::limits::CommitteeLimit;
 use bc_words::NoMemory;
 use hash_tree::{Leaf, Root};
 use ssz_codec::{
-    Field, NumberList, Ssz, SszFault, VariableSsz, Writer, read_container, root_of_container,
+    Field, NumberList, Offset, Ssz, SszFault, VariableSsz, Writer, read_container,
+    root_of_container, write_pieces,
 };
 use std::alloc::Global;
 
@@ -53,6 +54,7 @@ impl Ssz for IndexedAttestation {
         Field::Variable
     }
 
+    #[tactic(auto, using(ssz_codec::proofs::Fieldwise::three_read, ssz_codec::proofs::Fieldwise::three_unread))]
     fn parse(alloc: Global, bytes: &[u8]) -> Result<IndexedAttestation, SszFault> {
         read_container!(
             alloc,
@@ -67,11 +69,13 @@ impl Ssz for IndexedAttestation {
 
     #[tactic(auto, unfolding(ssz_codec::specs::Layout::joined, ssz_codec::specs::Layout::fixed_parts, ssz_codec::specs::Layout::variable_parts))]
     fn append_to(&self, out: &mut Writer) -> Result<(), NoMemory> {
-        out.put_u32(228)?;
-        self.content.write_to(out)?;
-        self.signature.write_to(out)?;
-        self.attesting_indices.write_to(out)?;
-        Ok(())
+        write_pieces!(
+            out,
+            Offset(228),
+            &self.content,
+            &self.signature,
+            &self.attesting_indices,
+        )
     }
 
     ghost lawful = { indexed_attestation_lawful };

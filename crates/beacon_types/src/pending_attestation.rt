@@ -9,7 +9,9 @@ use crate::attestation_data::AttestationData;
 use crate::limits::MAX_VALIDATORS_PER_COMMITTEE;
 use bc_words::NoMemory;
 use hash_tree::{Leaf, Root};
-use ssz_codec::{BitList, Field, Ssz, SszFault, Writer, read_container, root_of_container};
+use ssz_codec::{
+    BitList, Field, Offset, Ssz, SszFault, Writer, read_container, root_of_container, write_pieces,
+};
 use std::alloc::Global;
 use std::marker::Model;
 
@@ -178,6 +180,7 @@ impl Ssz for PendingAttestation {
         Field::Variable
     }
 
+    #[tactic(auto, using(ssz_codec::proofs::Fieldwise::four_read, ssz_codec::proofs::Fieldwise::four_unread))]
     fn parse(alloc: Global, bytes: &[u8]) -> Result<PendingAttestation, SszFault> {
         read_container!(
             alloc,
@@ -193,12 +196,14 @@ impl Ssz for PendingAttestation {
 
     #[tactic(auto, unfolding(ssz_codec::specs::Layout::joined, ssz_codec::specs::Layout::fixed_parts, ssz_codec::specs::Layout::variable_parts))]
     fn append_to(&self, out: &mut Writer) -> Result<(), NoMemory> {
-        out.put_u32(148)?;
-        self.content.write_to(out)?;
-        self.inclusion_delay.write_to(out)?;
-        self.proposer_index.write_to(out)?;
-        self.aggregation_bits.write_to(out)?;
-        Ok(())
+        write_pieces!(
+            out,
+            Offset(148),
+            &self.content,
+            &self.inclusion_delay,
+            &self.proposer_index,
+            &self.aggregation_bits,
+        )
     }
 
     ghost lawful = { pending_attestation_lawful };

@@ -37,6 +37,7 @@ impl Ssz for SignedVoluntaryExit {
         Field::Fixed(112)
     }
 
+    #[tactic(auto, using(ssz_codec::proofs::Fieldwise::two_read, ssz_codec::proofs::Fieldwise::two_unread))]
     fn parse(alloc: Global, bytes: &[u8]) -> Result<SignedVoluntaryExit, SszFault> {
         read_container!(
             alloc,

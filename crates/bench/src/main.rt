@@ -1,13 +1,14 @@
 //! Measures what has to be fast, each against the hashes that it can't do without or another part of the run, in one run.
 //!
 //! The word behind the program's name says what to measure: `pairs`, `shuffle`, `state`, `registry`, `change`, `iter`, `many`,
-//! `slots`, `block`, `attestation`, `operations`, `epoch`, `head`, `record`, `bodies` or `mainnet`. Without a word nothing is measured.
+//! `slots`, `block`, `attestation`, `operations`, `epoch`, `head`, `record`, `events`, `bodies` or `mainnet`. Without a word nothing is measured.
 #![tactic(auto)]
 
 mod attestation;
 mod block;
 mod chain;
 mod epoch;
+mod events;
 mod genesis;
 mod hashes;
 mod head;
@@ -34,7 +35,7 @@ use std::time::CpuClock;
 
 /// What is printed where no word names a measurement.
 const USAGE: &str =
-    "name what to measure: pairs, shuffle, state, registry, change, iter, many, slots, block, attestation, operations, epoch, head, record, bodies or mainnet";
+    "name what to measure: pairs, shuffle, state, registry, change, iter, many, slots, block, attestation, operations, epoch, head, record, events, bodies or mainnet";
 
 /// Measures what a word names.
 fn measure(rt: &(impl AllocGlobal + Print + CpuClock + Files), word: &str) -> Result<()> {
@@ -67,6 +68,7 @@ fn measure_steps(rt: &(impl AllocGlobal + Print + CpuClock + Files), word: &str)
         "epoch" => epoch::measure(rt),
         "slots" => tree_slots::measure(rt),
         "record" => record::measure(rt, &Network::minimal(), 1),
+        "events" => events::measure(rt),
         "bodies" => record::measure(rt, &Network::minimal(), 32),
         "mainnet" => record::measure(rt, &Network::mainnet(), 1),
         _ => Ok(println!(rt; "{USAGE}")?),

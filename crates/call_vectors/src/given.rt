@@ -28,28 +28,42 @@ fn read_file<R: Files + AllocGlobal>(rt: &R, case: &str, name: &str) -> Result<O
     }
 }
 
-/// The name and the word behind it that a line holds.
-fn name_and_word(alloc: Global, line: &str) -> Result<(String, String)> {
-    let (name, word) = line.split_once(' ').unwrap_or((line, ""));
-    Ok((
-        String::from_str(alloc, name)?,
-        String::from_str(alloc, word)?,
-    ))
+/// The line that names the call of a case.
+fn load_call<R: Files + AllocGlobal>(rt: &R, case: &str) -> Result<String> {
+    let path = format!(in rt.alloc(); "{case}/call")?;
+    Ok(fs::read_to_string(rt, path.as_str())?)
 }
 
 impl Given {
+    /// The call that a line names, with the word behind it; no file is read yet.
+    fn named(alloc: Global, line: &str) -> Result<Given> {
+        let (name, word) = line.split_once(' ').unwrap_or((line, ""));
+        let mut given = Given {
+            name: String::new(alloc),
+            word: String::new(alloc),
+            state: None,
+            input: None,
+            config: None,
+        };
+        given.name.push_str(name)?;
+        given.word.push_str(word)?;
+        Ok(given)
+    }
+
+    /// Reads the files of the case in this folder.
+    fn load_files<R: Files + AllocGlobal>(&mut self, rt: &R, case: &str) -> Result<()> {
+        self.state = read_file(rt, case, "pre.ssz")?;
+        self.input = read_file(rt, case, "input.ssz")?;
+        self.config = read_file(rt, case, "config.yaml")?;
+        Ok(())
+    }
+
     /// Reads the case in this folder.
     pub fn load<R: Files + AllocGlobal>(rt: &R, case: &str) -> Result<Given> {
         let alloc = rt.alloc();
-        let line = fs::read_to_string(rt, format!(in alloc; "{case}/call")?.as_str())?;
-        let (name, word) = name_and_word(alloc, line.trim())?;
-        Ok(Given {
-            name,
-            word,
-            state: read_file(rt, case, "pre.ssz")?,
-            input: read_file(rt, case, "input.ssz")?,
-            config: read_file(rt, case, "config.yaml")?,
-        })
+        let mut given = Given::named(alloc, load_call(rt, case)?.trim())?;
+        given.load_files(rt, case)?;
+        Ok(given)
     }
 
     /// The number behind the call's name.

@@ -75,7 +75,7 @@ none_by false place e = refl
 not_kept : (blocks : List KeptBlock) (root : List ℕ) → None ≡ number_of blocks root → is_kept blocks root ≡ false
 not_kept blocks root e = none_by (is_kept blocks root) (place_of blocks root) (e ∙ number_is blocks root)
 
-no_block : (o : Option KeptBlock) → is_some o ≡ false → None ≡ o
+pub no_block : (o : Option KeptBlock) → is_some o ≡ false → None ≡ o
 no_block None e = refl
 no_block (Some kept) e = absurd cc
 
@@ -86,7 +86,22 @@ pub block_missed : (blocks : List KeptBlock) (root : List ℕ) → None ≡ numb
 unfolding is_kept
 block_missed blocks root e = no_block (block_of blocks root) (not_kept blocks root e)
 
-pub ruleset finding = (block_found, block_missed)
+kept_numbered : (blocks : List KeptBlock) (root : List ℕ) (n : ℕ) → Some n ≡ number_of blocks root → true ≡ is_kept blocks root
+kept_numbered blocks root n e = some_by (is_kept blocks root) (place_of blocks root) n (e ∙ number_is blocks root)
+  where
+    some_by : (b : Bool) (place n : ℕ) → Some n ≡ cond b (Some place) None → true ≡ b
+    some_by true place n e = refl
+    some_by false place n e = absurd cc
+
+number_some : (o : Option ℕ) (blocks : List KeptBlock) (root : List ℕ) → o ≡ number_of blocks root → is_some o ≡ is_kept blocks root
+number_some (Some n) blocks root e = kept_numbered blocks root n e
+number_some None blocks root e = sym (not_kept blocks root e)
+
+-- a root is kept where it has a number
+pub number_tells : (o : Option ℕ) (blocks : List KeptBlock) (root : List ℕ) → o ≡ number_of blocks root → is_some o ≡ is_kept blocks root
+number_tells o blocks root e = number_some o blocks root e
+
+pub ruleset keeping = (number_tells)
 
 -- ---- its place
 

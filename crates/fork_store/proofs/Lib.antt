@@ -34,3 +34,5 @@ pub mod Voting
 pub mod Heads
 pub mod AtGenesis
 pub mod CheckpointStates
+pub mod Keepers
+pub mod Stepping

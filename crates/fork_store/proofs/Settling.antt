@@ -107,6 +107,9 @@ module _ (old : Store) (slot : ℕ) (root : List ℕ) (justified finalized : Che
     pub settle_blocks : new.blocks ≡ old.blocks
     settle_blocks = ap (λ (s : Store). s.blocks) moved_so.same
 
+    pub settle_config : new.config ≡ old.config
+    settle_config = ap (λ (s : Store). s.config) moved_so.same
+
     pub settle_kept : (array : PlainArray) → IsArrayOf old array → length old.blocks < 2 ^ 32 → is_kept old.blocks root ≡ true → (may_move old justified finalized ≡ true → is_kept old.blocks justified.root ≡ true) → AreKept new
     settle_kept array a few kept known = record {
       few = subst (λ (b : List KeptBlock). length b < 2 ^ 32) (sym settle_blocks) few;

@@ -1,5 +1,5 @@
 -- What the states of kept blocks have.
-use Rattle.std.proofs.Common.{◌≡◌, ◌==◌, ℕ, Bool, true, false, cond, List, [], Option, Some, None, if◌then◌else◌, refl, ap, subst}
+use Rattle.std.proofs.Common.{◌≡◌, ◌==◌, ◌<◌, ◌^◌, ℕ, Bool, true, false, cond, List, [], Option, Some, None, if◌then◌else◌, refl, ap, subst, arith}
 use Rattle.std.specs.Cmp.Lexicographic.{bytes_decides}
 use Rattle.std.proofs.lemmas.Bool.{and_parts, eqb-true}
 use Rattle.bc_words.specs.Outcome.{done}
@@ -51,12 +51,13 @@ unfolding clash_of
 no_clash blocks root state_root block none = (other (same_root state_root zero_root) _ _ (other (same_root root zero_root) _ _ none).1).0
 
 -- so that the state behind a block may be kept with it
-pub is_kept : (blocks : List KeptBlock) (root : List ℕ) (block : BeaconBlock) (state : PlainState) → IsBehind block state → IsRootOf root block → clash_of blocks root block.state_root block ≡ None → IsKept (record { root = root; block = block; state = state })
-is_kept blocks root block state behind is none = record {
+pub is_kept : (blocks : List KeptBlock) (root : List ℕ) (block : BeaconBlock) (state : PlainState) → IsBehind block state → IsRootOf root block → block.slot < 2 ^ 64 → clash_of blocks root block.state_root block ≡ None → IsKept (record { root = root; block = block; state = state })
+is_kept blocks root block state behind is low none = record {
   root = is;
   sound = behind.sound;
   slot = behind.slot;
   latest = behind.latest;
+  low = low;
   some = subst (λ (r : List ℕ). same_root r zero_root ≡ false) {x = block.state_root} {y = (state_codec state.preset).hash_tree_root state} ((bytes_decides _ _).0 behind.state_root) (no_clash blocks root block.state_root block none);
 }
 
@@ -96,6 +97,7 @@ genesis_is_kept s root good none is =
       sound = genesis_sound s good;
       slot = eqb-true _ _ slot.0;
       latest = genesis_latest s (genesis_header s (passed (is_genesis_header s.latest_block_header) _ _ slot.1).0);
+      low = omega arith;
       some = no_clash [] _ _ _ none;
     }
 

@@ -115,12 +115,12 @@ attesters_are view result state attestation committees e is given = subst (Gives
 
 -- ---- an attestation as an event
 
-assoc : {A B C : Type 0} (outcome : Outcome A) (f : A → Outcome B) (g : B → Outcome C) → bind (bind outcome f) g ≡ bind outcome (λ x. bind (f x) g)
+pub assoc : {A B C : Type 0} (outcome : Outcome A) (f : A → Outcome B) (g : B → Outcome C) → bind (bind outcome f) g ≡ bind outcome (λ x. bind (f x) g)
 assoc (done x) f g = refl
 assoc (refused why) f g = refl
 assoc (limited bound) f g = refl
 
-same_next : {A B : Type 0} (outcome : Outcome A) (f g : A → Outcome B) → ((x : A) → f x ≡ g x) → bind outcome f ≡ bind outcome g
+pub same_next : {A B : Type 0} (outcome : Outcome A) (f g : A → Outcome B) → ((x : A) → f x ≡ g x) → bind outcome f ≡ bind outcome g
 same_next (done x) f g same = same x
 same_next (refused why) f g same = refl
 same_next (limited bound) f g same = refl

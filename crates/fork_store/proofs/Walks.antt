@@ -1,5 +1,6 @@
 -- The walk from a block to its parents, by its node's parents in the array.
 use Rattle.std.proofs.Common.{◌≡◌, ℕ, zero, suc, ◌<◌, ◌≤◌, ◌^◌, cond, List, [], length, get_or, Option, Some, None, refl, sym, ap, ◌∙◌, arith}
+use Rattle.std.specs.List.{AllByRecursion}
 use Rattle.std.specs.Option.{option_map_or}
 use Rattle.std.proofs.lemmas.Bool.{le-ltb}
 use Rattle.block_array.specs.PlainArray.{PlainArray}
@@ -9,12 +10,13 @@ use Rattle.spec_fork_choice.specs.Store.{KeptBlock, Store, slot_of, parent_of}
 use Rattle.spec_fork_choice.specs.GetAncestor.{ancestor_within, get_ancestor}
 use Rattle.fork_store.specs.inside.Arrays.{Balances, number_of, AreNodesOf, IsArrayOf}
 use Rattle.fork_store.specs.inside.Roots.{roots_of}
-use Rattle.fork_store.specs.inside.Stores.{IsStore}
+use Rattle.fork_store.specs.inside.Stores.{IsStore, IsKept}
 use Rattle.fork_store.specs.inside.Wholes.{IsWhole}
 use Rattle.fork_store.proofs.ArraysPlaces.{number_inside}
 use Rattle.fork_store.proofs.ArraysNodes.{length_nodes}
 use Rattle.fork_store.proofs.ArraysAncestors.{get_ancestor_number}
 use Rattle.fork_store.proofs.Finds.{block_missed}
+use Rattle.fork_store.proofs.Presets.{slot_is_low}
 use Rattle.fork_store.proofs.Heads.{root_in_place, place_fits}
 
 -- ---- where the walk ends at once
@@ -35,7 +37,11 @@ walk_nowhere store root slot none =
     let at_zero : slot_of store.blocks root ≡ 0 = ap (λ (o : Option KeptBlock). option_map_or (λ kept. kept.block.slot) o 0) (sym (block_missed store.blocks root none)) in
     walk_stays store root slot (omega (arith, at_zero))
 
-pub ruleset ending = (walk_stays)
+-- and no kept block is as late as 2^64
+pub walk_late : (store : Store) (root : List ℕ) (slot : ℕ) → AllByRecursion IsKept store.blocks → 2 ^ 64 ≤ slot → root ≡ get_ancestor store root slot
+walk_late store root slot all late = let low : slot_of store.blocks root < 2 ^ 64 = slot_is_low store.blocks root all in walk_stays store root slot (omega (arith, low, late))
+
+pub ruleset ending = (walk_late)
 
 -- ---- by nodes
 

@@ -17,3 +17,4 @@ pub mod Seen
 pub mod Wholes
 pub mod Following
 pub mod CheckpointStates
+pub mod Keepers

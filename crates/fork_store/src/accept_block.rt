@@ -9,6 +9,7 @@ ghost use Rattle.fork_store.specs.inside.Arrays.{AreNodesOf, IsArrayOf};
 ghost use Rattle.fork_store.specs.inside.Wholes.{IsWhole, IsReady};
 ghost use Rattle.fork_store.specs.inside.Chains.{IsLinked};
 ghost use Rattle.fork_store.specs.inside.Following.{may_move, AreGiven};
+ghost use Rattle.fork_store.specs.inside.Keepers.{IsKeeperOf, IsStepOn};
 ghost use Rattle.bc_words.specs.Outcome.{Becomes};
 ghost use Rattle.fork_store.specs.inside.Stores.{IsKept};
 ghost use Rattle.fork_store.specs.inside.Trees.{HasParent};
@@ -18,20 +19,21 @@ ghost use Rattle.fork_store.specs.inside.Accepted.{boosted, justified_by, finali
 ghost use Rattle.fork_store.specs.inside.Accepts.{BecomesWith};
 
 use crate::block_in::BlockIn;
-use crate::copies::copy_block;
+use crate::chain_stepper::ChainStepper;
+use crate::copies::copy_signed_block;
 use crate::follow::{Given, feed, follow, told_of};
-use crate::kept_block::KeptBlock;
 use crate::number_of::number_of;
 use crate::ready_balances::{ReadyBalances, balances_of};
 use crate::should_update_justified_checkpoint::should_update_justified_checkpoint;
 use crate::slots::current_slot;
 use crate::store_fields::StoreFields;
 use bc_words::NoMemory;
-use beacon_body::BeaconBlock;
+use beacon_body::SignedBeaconBlock;
 use beacon_state::State;
 use beacon_types::{Checkpoint, same_checkpoint};
 use block_array::{BlockArray, Facts};
 use hash_tree::Root;
+use state_keeper::Keeper;
 use std::alloc::Global;
 use transition::Step;
 
@@ -139,11 +141,19 @@ fn may_move(store: &StoreFields, facts: Facts) -> bool
         || store.finalized().epoch < facts.finalized.epoch
 }
 
-/// The balances that a block's justified checkpoint may need, where it may move the store's and isn't the best justified one.
+/// The balances that a block's justified checkpoint may need, where it may move the store's and isn't the best justified one. The
+/// keeper is as before.
 #[tactic(auto, using(crate::proofs::Preparing::preparing))]
-fn prepare(alloc: Global, store: &StoreFields, facts: Facts) -> Result<Given, NoMemory>
-    requires { start_slot_of store.now facts.justified < 2 ^ 64 }
-    ensures { IfOk result (λ given. AreGiven store.now given.justified given.best_justified facts.justified facts.finalized) }
+fn prepare(
+    alloc: Global,
+    store: &StoreFields,
+    keeper: &mut Keeper<ChainStepper>,
+    facts: Facts,
+) -> Result<Given, NoMemory>
+    requires low { start_slot_of store.now facts.justified < 2 ^ 64 }
+    requires keeper { IsKeeperOf store.now keeper.old }
+    ensures given { IfOk result (λ given. AreGiven store.now given.justified given.best_justified facts.justified facts.finalized) }
+    ensures same { keeper.new ≡ keeper.old }
 {
     let best_justified = store.best_justified();
     if !may_move(store, facts) {
@@ -158,8 +168,8 @@ fn prepare(alloc: Global, store: &StoreFields, facts: Facts) -> Result<Given, No
             best_justified: None,
         });
     }
-    let justified = balances_of(alloc, store, facts.justified)?;
-    let best_justified = balances_of(alloc, store, best_justified)?;
+    let justified = balances_of(alloc, store, keeper, facts.justified)?;
+    let best_justified = balances_of(alloc, store, keeper, best_justified)?;
     Ok(Given {
         justified: Some(justified),
         best_justified: Some(best_justified),
@@ -171,20 +181,24 @@ fn prepare(alloc: Global, store: &StoreFields, facts: Facts) -> Result<Given, No
 fn add_block(
     alloc: Global,
     store: &mut StoreFields,
+    keeper: &mut Keeper<ChainStepper>,
     array: &mut BlockArray,
-    block: &BeaconBlock,
+    block: &SignedBeaconBlock,
     root: Root,
     state: State,
 ) -> Result<(), NoMemory>
     requires array { IsArrayOf store.old array.old }
+    requires keeper { IsKeeperOf store.old keeper.old }
     requires few { length store.old.blocks < 2 ^ 32 - 1 }
-    requires kept { IsKept (kept_of root block.now state) }
+    requires kept { IsKept (kept_of root block.now.message state) }
     requires preset { state.preset ≡ store.old.config.preset }
-    requires parent { HasParent store.old.blocks block.now }
+    requires parent { HasParent store.old.blocks block.now.message }
+    requires step { IsStepOn store.old.config store.old.blocks block.now state }
     requires fresh { is_kept store.old.blocks root ≡ false }
     requires named { same_root root zero_root ≡ false }
-    ensures exact { Becomes result store.old store.new (record store.old { blocks = store.old.blocks ++ kept_of root block.now state ∷ [] }) }
+    ensures exact { Becomes result store.old store.new (record store.old { blocks = store.old.blocks ++ kept_of root block.now.message state ∷ [] }) }
     ensures array { IsArrayOf store.new array.new }
+    ensures keeper { IsKeeperOf store.new keeper.new }
     ensures stays { store.new.justified_checkpoint ≡ store.old.justified_checkpoint }
     ensures unset { array.new.balances_set ≡ array.old.balances_set }
 {
@@ -193,13 +207,13 @@ fn add_block(
         justified: state.current_justified_checkpoint(),
         finalized: state.finalized_checkpoint(),
     };
-    let Some(parent) = number_of(store.blocks(), block.parent_root) else {
+    let Some(parent) = number_of(store.blocks(), block.message.parent_root) else {
         unreachable!()
     };
     array.reserve(0)?;
-    let copy = copy_block(alloc, block)?;
-    store.keep(KeptBlock::new(root, copy, state))?;
-    let _room = array.push(parent, block.slot, root, facts);
+    let copy = copy_signed_block(alloc, block)?;
+    store.keep(keeper, parent, root, copy, state)?;
+    let _room = array.push(parent, block.message.slot, root, facts);
     Ok(())
 }
 
@@ -208,26 +222,30 @@ fn add_block(
 fn keep_block(
     alloc: Global,
     store: &mut StoreFields,
+    keeper: &mut Keeper<ChainStepper>,
     array: &mut BlockArray,
-    block: &BeaconBlock,
+    block: &SignedBeaconBlock,
     root: Root,
     state: State,
 ) -> Result<(), NoMemory>
     requires array { IsArrayOf store.old array.old }
+    requires keeper { IsKeeperOf store.old keeper.old }
     requires few { length store.old.blocks < 2 ^ 32 - 1 }
-    requires kept { IsKept (kept_of root block.now state) }
+    requires kept { IsKept (kept_of root block.now.message state) }
     requires preset { state.preset ≡ store.old.config.preset }
-    requires parent { HasParent store.old.blocks block.now }
+    requires parent { HasParent store.old.blocks block.now.message }
+    requires step { IsStepOn store.old.config store.old.blocks block.now state }
     requires named { same_root root zero_root ≡ false }
-    ensures exact { Becomes result store.old store.new (with_block store.old (kept_of root block.now state)) }
+    ensures exact { Becomes result store.old store.new (with_block store.old (kept_of root block.now.message state)) }
     ensures array { IsArrayOf store.new array.new }
+    ensures keeper { IsKeeperOf store.new keeper.new }
     ensures stays { store.new.justified_checkpoint ≡ store.old.justified_checkpoint }
     ensures unset { array.new.balances_set ≡ array.old.balances_set }
 {
-    if store.kept(root).is_some() {
+    if store.is_kept(root) {
         return Ok(());
     }
-    add_block(alloc, store, array, block, root, state)
+    add_block(alloc, store, keeper, array, block, root, state)
 }
 
 /// Boost and checkpoints behind a kept block of this slot and root whose state has these checkpoints, and the array follows.
@@ -260,25 +278,29 @@ fn settle_whole(
 }
 
 /// Takes a valid block into the store. Where memory is refused, the store is as before: all room is made first.
-#[tactic(auto, using(crate::proofs::AcceptedBlocks::accepting, crate::proofs::Numbers::justified_is_low))]
+#[tactic(auto, using(crate::proofs::AcceptedBlocks::accepting, crate::proofs::Numbers::justified_is_low, crate::proofs::Keepers::keeping))]
 pub(crate) fn accept(
     alloc: Global,
     store: &mut StoreFields,
+    keeper: &mut Keeper<ChainStepper>,
     array: &mut BlockArray,
     ready: &mut Option<ReadyBalances>,
-    block: &BeaconBlock,
+    block: &SignedBeaconBlock,
     root: Root,
     step: Step,
 ) -> Result<BlockIn, NoMemory>
     requires whole { IsWhole store.old array.old ready.old }
     requires few { length store.old.blocks < 2 ^ 32 - 1 }
-    requires kept { IsKept (kept_of root block.now step.state) }
+    requires keeper { IsKeeperOf store.old keeper.old }
+    requires kept { IsKept (kept_of root block.now.message step.state) }
     requires preset { step.state.preset ≡ store.old.config.preset }
-    requires parent { HasParent store.old.blocks block.now }
+    requires parent { HasParent store.old.blocks block.now.message }
     requires named { same_root root zero_root ≡ false }
     requires linked { IsLinked store.old.config store.old.blocks step.state }
-    ensures exact { BecomesWith result store.old store.new (with_accepted store.old (kept_of root block.now step.state)) (block_in_of root block.now step) }
+    requires stepped { IsStepOn store.old.config store.old.blocks block.now step.state }
+    ensures exact { BecomesWith result store.old store.new (with_accepted store.old (kept_of root block.now.message step.state)) (block_in_of root block.now.message step) }
     ensures whole { IsWhole store.new array.new ready.new }
+    ensures keeper { IsKeeperOf store.new keeper.new }
     ensures unset { store.new.justified_checkpoint ≡ store.old.justified_checkpoint → array.new.balances_set ≡ array.old.balances_set }
 {
     let Step { state, entered } = step;
@@ -287,12 +309,12 @@ pub(crate) fn accept(
         finalized: state.finalized_checkpoint(),
     };
     let _slot = state.slot();
-    let given = prepare(alloc, store, facts)?;
-    keep_block(alloc, store, array, block, root, state)?;
-    settle_whole(store, array, ready, given, block.slot, root, facts);
+    let given = prepare(alloc, store, keeper, facts)?;
+    keep_block(alloc, store, keeper, array, block, root, state)?;
+    settle_whole(store, array, ready, given, block.message.slot, root, facts);
     Ok(BlockIn {
         root,
-        state_root: block.state_root,
+        state_root: block.message.state_root,
         entered,
     })
 }

@@ -3,7 +3,7 @@
 ghost use Rattle.std.specs.Prelude.{◌≡◌, IfOk};
 
 use bc_words::NoMemory;
-use beacon_body::{BeaconBlock, BeaconBlockBody};
+use beacon_body::{BeaconBlock, BeaconBlockBody, SignedBeaconBlock};
 use std::alloc::Global;
 
 /// The same body once more.
@@ -28,7 +28,7 @@ fn copy_body(alloc: Global, body: &BeaconBlockBody) -> Result<BeaconBlockBody, N
 }
 
 /// The same block once more.
-pub(crate) fn copy_block(alloc: Global, block: &BeaconBlock) -> Result<BeaconBlock, NoMemory>
+fn copy_block(alloc: Global, block: &BeaconBlock) -> Result<BeaconBlock, NoMemory>
     ensures { IfOk result (λ copy. copy ≡ block.now) }
 {
     let body = copy_body(alloc, &block.body)?;
@@ -38,5 +38,19 @@ pub(crate) fn copy_block(alloc: Global, block: &BeaconBlock) -> Result<BeaconBlo
         parent_root: block.parent_root,
         state_root: block.state_root,
         body,
+    })
+}
+
+/// The same signed block once more.
+pub(crate) fn copy_signed_block(
+    alloc: Global,
+    block: &SignedBeaconBlock,
+) -> Result<SignedBeaconBlock, NoMemory>
+    ensures { IfOk result (λ copy. copy ≡ block.now) }
+{
+    let message = copy_block(alloc, &block.message)?;
+    Ok(SignedBeaconBlock {
+        message,
+        signature: block.signature,
     })
 }

@@ -2,7 +2,6 @@
 
 ghost use Rattle.std.specs.Prelude.{◌≡◌};
 ghost use Rattle.beacon_types.specs.Equality.{same_root};
-ghost use Rattle.spec_fork_choice.specs.Store.{slot_of};
 ghost use Rattle.spec_fork_choice.specs.Slots.{start_slot_of};
 ghost use Rattle.spec_fork_choice.specs.GetAncestor.{get_ancestor};
 ghost use Rattle.fork_store.specs.inside.Arrays.{AreNodesOf};
@@ -14,17 +13,6 @@ use crate::store_fields::StoreFields;
 use beacon_types::Checkpoint;
 use block_array::BlockArray;
 use hash_tree::Root;
-
-/// The slot of a kept block, and 0 of another root.
-#[tactic(auto, unfolding(spec_fork_choice::specs::Store::slot_of))]
-pub(crate) fn slot_of(store: &StoreFields, root: Root) -> u64
-    ensures { result ≡ slot_of store.now.blocks root }
-{
-    match store.kept(root) {
-        Some(kept) => kept.block().slot,
-        None => 0,
-    }
-}
 
 /// The block at a slot of 64 bits on the chain of a kept block, by its node.
 #[tactic(auto, using(crate::proofs::Walks::walking))]
@@ -43,13 +31,14 @@ fn ancestor_of(store: &StoreFields, array: &BlockArray, root: Root, slot: u64) -
 }
 
 /// The block at a slot on the chain of a kept block, or the last one before it (fork-choice.md, `get_ancestor`), by the numbers
-/// of parents in the array. The slot may be any first slot of an epoch, so that it has 128 bits.
+/// of parents in the array. The slot may be any first slot of an epoch, so that it has 128 bits; no block is as late as 2^64.
 #[tactic(auto, using(crate::proofs::Walks::ending))]
 pub(crate) fn get_ancestor(store: &StoreFields, array: &BlockArray, root: Root, slot: u128) -> Root
     requires { AreNodesOf store.now.blocks array.now.nodes }
     ensures { result ≡ get_ancestor store.now root slot }
 {
-    if u128::from(slot_of(store, root)) <= slot {
+    store.is_sound();
+    if slot > u128::from(u64::MAX) {
         return root;
     }
     ancestor_of(store, array, root, slot as u64)

@@ -4,7 +4,7 @@ ghost use Rattle.std.specs.Prelude.{◌≡◌, ◌<◌, ◌^◌, true, length};
 ghost use Rattle.fork_store.specs.inside.Arrays.{number_of, IsBoostedNode};
 ghost use Rattle.fork_store.specs.inside.Boosts.{IsZeroOrKept};
 
-use crate::kept_block::KeptBlocks;
+use crate::kept_blocks::KeptBlocks;
 use hash_tree::Root;
 
 /// The number of a root's block. None exactly where the root isn't kept.

@@ -10,8 +10,10 @@ ghost use Rattle.spec_state.specs.Misc.{compute_epoch_at_slot};
 ghost use Rattle.spec_fork_choice.specs.OnAttestation.{on_attestation};
 ghost use Rattle.fork_store.specs.inside.Arrays.{AreNodesOf};
 ghost use Rattle.fork_store.specs.inside.CheckpointStates.{IsStateOf};
+ghost use Rattle.fork_store.specs.inside.Keepers.{IsKeeperOf};
 ghost use Rattle.fork_store.specs.inside.Votes.{attesters_among, attesters_of, judged, event_of};
 
+use crate::chain_stepper::ChainStepper;
 use crate::checkpoint_states::CheckpointState;
 use crate::store::Store;
 use crate::store_fields::StoreFields;
@@ -24,6 +26,7 @@ use beacon_body::Attestation;
 use beacon_types::{AggregationBits, AttestationData};
 use block_array::BlockArray;
 use committees::EpochCommittees;
+use state_keeper::Keeper;
 use std::alloc::Global;
 
 /// The members of a committee that attest. Refused where there are fewer bits than members, and where nobody attests; bits
@@ -89,13 +92,20 @@ struct Judged {
 
 /// The attesters of such an attestation, whose target's state has to be made.
 #[tactic(auto, unfolding(crate::specs::inside::Votes::attesters_of), using(crate::proofs::Votes::start_is_low))]
-fn judge_anew(alloc: Global, store: &StoreFields, attestation: &Attestation) -> Result<Judged, Stop>
+fn judge_anew(
+    alloc: Global,
+    store: &StoreFields,
+    keeper: &mut Keeper<ChainStepper>,
+    attestation: &Attestation,
+) -> Result<Judged, Stop>
     requires epoch { compute_epoch_at_slot store.now.config.preset attestation.now.content.slot ≡ attestation.now.content.target.epoch }
+    requires keeper { IsKeeperOf store.now keeper.old }
     ensures exact { GivesBy (λ judged. judged.indices.items) result (attesters_of store.now attestation.now) }
     ensures made { IfOk result (λ judged. IfSome judged.made (λ made. IsStateOf store.now made)) }
+    ensures same { keeper.new ≡ keeper.old }
 {
     let _slot = attestation.content.slot;
-    let made = checkpoint_state_anew(alloc, store, attestation.content.target)?;
+    let made = checkpoint_state_anew(alloc, store, keeper, attestation.content.target)?;
     let indices = attesters_by(alloc, store, &made, attestation)?;
     Ok(Judged {
         indices,
@@ -127,15 +137,18 @@ fn judge_kept(
 fn judge_target(
     alloc: Global,
     store: &StoreFields,
+    keeper: &mut Keeper<ChainStepper>,
     attestation: &Attestation,
 ) -> Result<Judged, Stop>
     requires epoch { compute_epoch_at_slot store.now.config.preset attestation.now.content.slot ≡ attestation.now.content.target.epoch }
+    requires keeper { IsKeeperOf store.now keeper.old }
     ensures exact { GivesBy (λ judged. judged.indices.items) result (attesters_of store.now attestation.now) }
     ensures made { IfOk result (λ judged. IfSome judged.made (λ made. IsStateOf store.now made)) }
+    ensures same { keeper.new ≡ keeper.old }
 {
     match store.checkpoint_state(attestation.content.target) {
         Some(target) => judge_kept(alloc, store, target, attestation),
-        None => judge_anew(alloc, store, attestation),
+        None => judge_anew(alloc, store, keeper, attestation),
     }
 }
 
@@ -144,16 +157,19 @@ fn judge_target(
 fn judge(
     alloc: Global,
     store: &StoreFields,
+    keeper: &mut Keeper<ChainStepper>,
     array: &BlockArray,
     attestation: &Attestation,
     is_from_block: bool,
 ) -> Result<Judged, Stop>
-    requires { AreNodesOf store.now.blocks array.now.nodes }
+    requires nodes { AreNodesOf store.now.blocks array.now.nodes }
+    requires keeper { IsKeeperOf store.now keeper.old }
     ensures exact { GivesBy (λ judged. judged.indices.items) result (judged store.now attestation.now is_from_block) }
     ensures made { IfOk result (λ judged. IfSome judged.made (λ made. IsStateOf store.now made)) }
+    ensures same { keeper.new ≡ keeper.old }
 {
-    validate_on_attestation(store, array, attestation, is_from_block)?;
-    judge_target(alloc, store, attestation)
+    validate_on_attestation(store, keeper, array, attestation, is_from_block)?;
+    judge_target(alloc, store, keeper, attestation)
 }
 
 /// Keeps the state of a target that was made. What contracts see of the store stays.
@@ -167,19 +183,23 @@ fn keep_made(store: &mut StoreFields, made: Option<CheckpointState>) -> Result<(
     }
 }
 
-/// The attesters of an attestation that may count now. Its target's state is kept. What contracts see of the store stays.
+/// The attesters of an attestation that may count now. Its target's state is kept. What contracts see of the store and the keeper
+/// stays.
 fn take_attesters(
     alloc: Global,
     store: &mut StoreFields,
+    keeper: &mut Keeper<ChainStepper>,
     array: &BlockArray,
     attestation: &Attestation,
     is_from_block: bool,
 ) -> Result<Vec<u64>, Stop>
-    requires { AreNodesOf store.old.blocks array.now.nodes }
+    requires nodes { AreNodesOf store.old.blocks array.now.nodes }
+    requires keeper { IsKeeperOf store.old keeper.old }
     ensures exact { GivesBy (λ members. members.items) result (judged store.old attestation.now is_from_block) }
     ensures same { store.new ≡ store.old }
+    ensures keeper { keeper.new ≡ keeper.old }
 {
-    let judged = judge(alloc, store, array, attestation, is_from_block)?;
+    let judged = judge(alloc, store, keeper, array, attestation, is_from_block)?;
     let Judged { indices, made } = judged;
     keep_made(store, made)?;
     Ok(indices)
@@ -205,6 +225,7 @@ impl Store {
         let indices = take_attesters(
             alloc,
             &mut self.fields,
+            &mut self.keeper,
             &self.array,
             attestation,
             from_block,

@@ -1,20 +1,24 @@
 //! Blocks (fork-choice.md, "on_block").
 
 ghost use Rattle.std.specs.Prelude.{◌≡◌, ◌<◌, ◌-◌, ◌^◌, length, IfOk};
-ghost use Rattle.bc_words.specs.Outcome.{Gives};
+ghost use Rattle.bc_words.specs.Outcome.{Gives, GivesExactly};
 ghost use Rattle.fork_store.specs.inside.Stores.{IsRootOf, IsBehind};
 ghost use Rattle.fork_store.specs.inside.Trees.{HasParent};
 ghost use Rattle.spec_fork_choice.specs.Clash.{clash_of};
 ghost use Rattle.spec_fork_choice.specs.OnBlock.{block_step, accept_block, on_block};
+ghost use Rattle.fork_store.specs.inside.Accepted.{check_block};
 ghost use Rattle.fork_store.specs.inside.Accepts.{Accepts};
 ghost use Rattle.fork_store.specs.inside.Arrays.{AreNodesOf};
 ghost use Rattle.fork_store.specs.inside.Wholes.{IsWhole};
 ghost use Rattle.fork_store.specs.inside.Chains.{IsChained, IsLinked};
+ghost use Rattle.fork_store.specs.inside.Keepers.{IsKeeperOf, IsStepOn};
 
 use crate::accept_block::accept;
 use crate::block_in::BlockIn;
+use crate::chain_stepper::ChainStepper;
 use crate::clash_of::clash_of;
 use crate::get_ancestor::get_ancestor;
+use crate::kept_state::kept_state;
 use crate::ready_balances::ReadyBalances;
 use crate::slots::{current_slot, start_slot};
 use crate::store::Store;
@@ -23,42 +27,58 @@ use bc_words::{Refusal, Stop, StoreStop};
 use beacon_body::{BeaconBlock, SignedBeaconBlock};
 use block_array::BlockArray;
 use hash_tree::{Leaf, Root};
+use state_keeper::Keeper;
 use std::alloc::Global;
 use transition::Step;
 use transition::state_transition::state_transition;
 
-/// The checks of a block, and the step of its parent's state by it.
-#[tactic(auto, using(crate::proofs::Steps::state_root_is), unfolding(spec_fork_choice::specs::OnBlock::block_step, spec_fork_choice::specs::StoreTargetCheckpointState::kept_or))]
+/// The checks of a block whose parent is kept.
+#[tactic(auto, unfolding(crate::specs::inside::Accepted::check_block))]
+fn check_block(store: &StoreFields, array: &BlockArray, block: &BeaconBlock) -> Result<(), Stop>
+    requires { AreNodesOf store.now.blocks array.now.nodes }
+    ensures { GivesExactly result (check_block store.now block.now) }
+{
+    if block.slot > current_slot(store) {
+        return Err(Stop::Refused(Refusal::FutureBlock));
+    }
+    let finalized_slot = start_slot(store, store.finalized());
+    if u128::from(block.slot) <= finalized_slot {
+        return Err(Stop::Refused(Refusal::BeforeFinalized));
+    }
+    if get_ancestor(store, array, block.parent_root, finalized_slot) != store.finalized().root {
+        return Err(Stop::Refused(Refusal::NotOnFinalized));
+    }
+    Ok(())
+}
+
+/// The checks of a block, and the step of its parent's state by it. The keeper is as before.
+#[tactic(auto, using(crate::proofs::Steps::state_root_is, crate::proofs::Stepping::stepping, crate::proofs::Keepers::keeping))]
 fn block_step(
     alloc: Global,
     store: &StoreFields,
+    keeper: &mut Keeper<ChainStepper>,
     array: &BlockArray,
     block: &SignedBeaconBlock,
 ) -> Result<Step, Stop>
     requires nodes { AreNodesOf store.now.blocks array.now.nodes }
     requires chained { IsChained store.now }
+    requires keeper { IsKeeperOf store.now keeper.old }
     ensures step { Gives result (block_step store.now block.now) }
     ensures behind { IfOk result (λ step. IsBehind block.now.message step.state) }
     ensures preset { IfOk result (λ step. step.state.preset ≡ store.now.config.preset) }
     ensures parent { IfOk result (λ _. HasParent store.now.blocks block.now.message) }
     ensures linked { IfOk result (λ step. IsLinked store.now.config store.now.blocks step.state) }
+    ensures stepped { IfOk result (λ step. IsStepOn store.now.config store.now.blocks block.now step.state) }
+    ensures same { keeper.new ≡ keeper.old }
 {
     store.is_sound();
     let message = &block.message;
-    let Some(parent) = store.kept(message.parent_root) else {
+    if !store.is_kept(message.parent_root) {
         return Err(Stop::Refused(Refusal::ParentUnknown));
-    };
-    if message.slot > current_slot(store) {
-        return Err(Stop::Refused(Refusal::FutureBlock));
     }
-    let finalized_slot = start_slot(store, store.finalized());
-    if u128::from(message.slot) <= finalized_slot {
-        return Err(Stop::Refused(Refusal::BeforeFinalized));
-    }
-    if get_ancestor(store, array, message.parent_root, finalized_slot) != store.finalized().root {
-        return Err(Stop::Refused(Refusal::NotOnFinalized));
-    }
-    let step = state_transition(alloc, parent.state(), block, store.config())?;
+    check_block(store, array, message)?;
+    let parent = kept_state(store.blocks(), keeper, message.parent_root)?;
+    let step = state_transition(alloc, &parent, block, store.config())?;
     Ok(step)
 }
 
@@ -67,26 +87,31 @@ fn block_step(
 fn accept_unless(
     alloc: Global,
     store: &mut StoreFields,
+    keeper: &mut Keeper<ChainStepper>,
     array: &mut BlockArray,
     ready: &mut Option<ReadyBalances>,
-    block: &BeaconBlock,
+    block: &SignedBeaconBlock,
     root: Root,
     step: Step,
 ) -> Result<BlockIn, StoreStop>
     requires whole { IsWhole store.old array.old ready.old }
     requires few { length store.old.blocks < 2 ^ 32 - 1 }
-    requires root { IsRootOf root block.now }
-    requires behind { IsBehind block.now step.state }
-    requires parent { HasParent store.old.blocks block.now }
+    requires keeper { IsKeeperOf store.old keeper.old }
+    requires root { IsRootOf root block.now.message }
+    requires behind { IsBehind block.now.message step.state }
+    requires parent { HasParent store.old.blocks block.now.message }
     requires preset { step.state.preset ≡ store.old.config.preset }
     requires linked { IsLinked store.old.config store.old.blocks step.state }
-    ensures exact { Accepts result store.old store.new (accept_block store.old block.now root step (clash_of store.old.blocks root block.now.state_root block.now)) }
+    requires stepped { IsStepOn store.old.config store.old.blocks block.now step.state }
+    ensures exact { Accepts result store.old store.new (accept_block store.old block.now.message root step (clash_of store.old.blocks root block.now.message.state_root block.now.message)) }
     ensures whole { IsWhole store.new array.new ready.new }
+    ensures keeper { IsKeeperOf store.new keeper.new }
     ensures unset { store.new.justified_checkpoint ≡ store.old.justified_checkpoint → array.new.balances_set ≡ array.old.balances_set }
 {
-    match clash_of(store.blocks(), root, block) {
+    let _slot = block.message.slot;
+    match clash_of(store.blocks(), keeper, root, &block.message) {
         Some(kind) => Err(StoreStop::Clash(kind)),
-        None => Ok(accept(alloc, store, array, ready, block, root, step)?),
+        None => Ok(accept(alloc, store, keeper, array, ready, block, root, step)?),
     }
 }
 
@@ -107,13 +132,14 @@ impl Store {
         ensures exact { Accepts result self.old.plain self.new.plain (on_block self.old.plain block.now) }
         ensures unset { self.new.plain.justified_checkpoint ≡ self.old.plain.justified_checkpoint → self.new.array.balances_set ≡ self.old.array.balances_set }
     {
-        let step = block_step(alloc, &self.fields, &self.array, block)?;
+        let step = block_step(alloc, &self.fields, &mut self.keeper, &self.array, block)?;
         accept_unless(
             alloc,
             &mut self.fields,
+            &mut self.keeper,
             &mut self.array,
             &mut self.ready,
-            &block.message,
+            block,
             block.message.root(),
             step,
         )

@@ -31,7 +31,9 @@ fn is_better_justified(store: &StoreFields, array: &BlockArray) -> bool
 #[tactic(auto, unfolding(spec_fork_choice::specs::OnTick::in_new_epoch))]
 fn in_new_epoch(store: &mut StoreFields, array: &BlockArray)
     requires { AreNodesOf store.old.blocks array.now.nodes }
-    ensures { store.new ≡ in_new_epoch store.old }
+    ensures exact { store.new ≡ in_new_epoch store.old }
+    ensures config { store.new.config ≡ store.old.config }
+    ensures blocks { store.new.blocks ≡ store.old.blocks }
 {
     if is_better_justified(store, array) {
         let best = store.best_justified();
@@ -43,7 +45,9 @@ fn in_new_epoch(store: &mut StoreFields, array: &BlockArray)
 #[tactic(auto, unfolding(spec_fork_choice::specs::OnTick::in_new_slot))]
 fn in_new_slot(store: &mut StoreFields, array: &BlockArray)
     requires { AreNodesOf store.old.blocks array.now.nodes }
-    ensures { store.new ≡ in_new_slot store.old }
+    ensures exact { store.new ≡ in_new_slot store.old }
+    ensures config { store.new.config ≡ store.old.config }
+    ensures blocks { store.new.blocks ≡ store.old.blocks }
 {
     let behind = slots_since_epoch_start(store.config().preset(), current_slot(store));
     store.set_boost_root([0; 32]);
@@ -56,7 +60,9 @@ fn in_new_slot(store: &mut StoreFields, array: &BlockArray)
 #[tactic(auto, unfolding(spec_fork_choice::specs::OnTick::on_tick))]
 fn tick(store: &mut StoreFields, array: &BlockArray, time: u64) -> Result<(), Refusal>
     requires { AreNodesOf store.old.blocks array.now.nodes }
-    ensures { ChangesOrRefuses result store.old store.new (on_tick store.old time) }
+    ensures exact { ChangesOrRefuses result store.old store.new (on_tick store.old time) }
+    ensures config { store.new.config ≡ store.old.config }
+    ensures blocks { store.new.blocks ≡ store.old.blocks }
 {
     if time < store.time() {
         return Err(Refusal::TickBack);
@@ -94,7 +100,7 @@ impl Store {
     ///
     /// Refused as `TickBack` where it is before the store's, which is then as it was. Where the justified checkpoint stays, the
     /// array is given no balances.
-    #[tactic(auto, using(crate::proofs::Ticks::ticking, crate::proofs::Walks::whole_nodes))]
+    #[tactic(auto, using(crate::proofs::Ticks::ticking, crate::proofs::Walks::whole_nodes, crate::proofs::Keepers::keeping))]
     pub fn on_tick(&mut self, time: u64) -> Result<(), Refusal>
         ensures exact { ChangesOrRefuses result self.old.plain self.new.plain (on_tick self.old.plain time) }
         ensures unset { self.new.plain.justified_checkpoint ≡ self.old.plain.justified_checkpoint → self.new.array.balances_set ≡ self.old.array.balances_set }

@@ -10,9 +10,11 @@ ghost use Rattle.spec_fork_choice.specs.Slots.{start_slot_of};
 ghost use Rattle.spec_fork_choice.specs.StoreTargetCheckpointState.{store_target_checkpoint_state};
 ghost use Rattle.spec_fork_choice.specs.GetLatestAttestingBalance.{active_in};
 ghost use Rattle.fork_store.specs.inside.Arrays.{balance_in, balances_in, no_balances, balances_of};
+ghost use Rattle.fork_store.specs.inside.Keepers.{IsKeeperOf};
 ghost use Rattle.fork_store.specs.inside.Weights.{balance_from, IsBalanceAt};
 ghost use Rattle.block_array.specs.Calls.{with_balances};
 
+use crate::chain_stepper::ChainStepper;
 use crate::store_fields::StoreFields;
 use crate::store_target_checkpoint_state::store_target_checkpoint_state;
 use balance_totals::{count_active, current_epoch, is_active_validator};
@@ -20,6 +22,7 @@ use bc_words::{NoMemory, Stop};
 use beacon_state::State;
 use beacon_types::{Checkpoint, Validator};
 use block_array::BlockArray;
+use state_keeper::Keeper;
 use std::alloc::Global;
 use std::marker::Model;
 
@@ -164,17 +167,20 @@ fn balances_in(alloc: Global, state: &State) -> Result<ReadyBalances, NoMemory>
     })
 }
 
-/// The balances of a checkpoint's state, and none where that is refused or limited.
+/// The balances of a checkpoint's state, and none where that is refused or limited. The keeper is as before.
 #[tactic(auto, using(crate::proofs::Weights::no_state))]
 pub(crate) fn balances_of(
     alloc: Global,
     store: &StoreFields,
+    keeper: &mut Keeper<ChainStepper>,
     checkpoint: Checkpoint,
 ) -> Result<ReadyBalances, NoMemory>
     requires low { start_slot_of store.now checkpoint < 2 ^ 64 }
-    ensures { IfOk result (λ balances. balances ≡ balances_of (store_target_checkpoint_state store.now checkpoint)) }
+    requires keeper { IsKeeperOf store.now keeper.old }
+    ensures balances { IfOk result (λ balances. balances ≡ balances_of (store_target_checkpoint_state store.now checkpoint)) }
+    ensures same { keeper.new ≡ keeper.old }
 {
-    match store_target_checkpoint_state(alloc, store, checkpoint) {
+    match store_target_checkpoint_state(alloc, store, keeper, checkpoint) {
         Ok(state) => balances_in(alloc, &state),
         Err(Stop::NoMemory) => Err(NoMemory),
         Err(_) => Ok(ReadyBalances::none(alloc)),

@@ -1,7 +1,7 @@
 //! The store of fork choice (fork-choice.md, "Store").
 //!
-//! Beside its fields it keeps the array of nodes, by which blocks are weighed, and holds ready the balances of the best justified
-//! checkpoint, so that neither a tick nor the head takes memory.
+//! Beside its fields it keeps the array of nodes, by which blocks are weighed, and the keeper of the states behind them, and holds
+//! ready the balances of the best justified checkpoint, so that neither a tick nor the head takes memory.
 
 ghost use Rattle.std.specs.Prelude.{◌≡◌, true, IfOk};
 ghost use Rattle.std.specs.Option.{option_map};
@@ -9,8 +9,11 @@ ghost use Rattle.spec_fork_choice.specs.Store.{block_of, is_kept};
 ghost use Rattle.spec_fork_choice.specs.StoreTargetCheckpointState.{store_target_checkpoint_state};
 ghost use Rattle.fork_store.specs.inside.Arrays.{IsArrayOf};
 ghost use Rattle.fork_store.specs.inside.Chains.{IsDone};
+ghost use Rattle.fork_store.specs.inside.Keepers.{IsKeeperOf};
 ghost use Rattle.fork_store.specs.inside.Roots.{roots_of};
 
+use crate::chain_stepper::ChainStepper;
+use crate::kept_state::{block_of, kept_state};
 use crate::ready_balances::ReadyBalances;
 use crate::store_fields::StoreFields;
 use bc_words::NoMemory;
@@ -19,25 +22,28 @@ use beacon_state::State;
 use beacon_types::Checkpoint;
 use block_array::BlockArray;
 use hash_tree::Root;
+use state_keeper::Keeper;
 use std::marker::Model;
 
-/// The store. Contracts see the plain store, and beside it the array, which is always that of the plain store.
+/// The store. Contracts see the plain store, and beside it the array and the keeper, which are always those of the plain store.
 #[derive(Drop)]
 pub struct Store {
     pub(crate) fields: StoreFields,
     pub(crate) array: BlockArray,
+    pub(crate) keeper: Keeper<ChainStepper>,
     pub(crate) ready: Option<ReadyBalances>,
 }
 
 impl Model for Store {
+    ghost use Rattle.fork_store.specs.inside.Keepers.{IsKeeperOf};
     ghost use Rattle.fork_store.specs.inside.Seen.{Seen};
     ghost use Rattle.fork_store.specs.inside.Wholes.{IsWhole};
 
     ghost Value = { Seen };
 
-    ghost view = { λ s. record { plain = s.fields; array = s.array } };
+    ghost view = { λ s. record { plain = s.fields; array = s.array; keeper = s.keeper } };
 
-    ghost invariant = { λ s. IsWhole s.fields s.array s.ready };
+    ghost invariant = { λ s. IsWhole s.fields s.array s.ready × IsKeeperOf s.fields s.keeper };
 }
 
 impl Store {
@@ -48,6 +54,15 @@ impl Store {
         ensures of_store { IsArrayOf self.now.plain self.now.array }
     {
         &self.array
+    }
+
+    /// The keeper of states: the kept blocks in order, each with its signature as it first came, its parent's number and the state
+    /// behind it, which it gives whichever states were dropped.
+    pub fn keeper(&self) -> &Keeper<ChainStepper>
+        ensures same { result.now ≡ self.now.keeper }
+        ensures of_store { IsKeeperOf self.now.plain self.now.keeper }
+    {
+        &self.keeper
     }
 
     /// The law that the justified checkpoint's block is kept and that its state is there: the slots up to its epoch are neither
@@ -82,19 +97,24 @@ impl Store {
     }
 
     /// The block of a root. None exactly where the root isn't kept.
+    #[tactic(auto, using(crate::proofs::Keepers::keeping))]
     pub fn block(&self, root: Root) -> Option<&BeaconBlock>
         ensures { option_map (λ block. block.now) result ≡ option_map (λ kept. kept.block) (block_of self.now.plain.blocks root) }
     {
-        self.fields.blocks().block(root)
+        block_of(self.fields.blocks(), &self.keeper, root)
     }
 
-    /// The state behind the block of a root. None exactly where the root isn't kept.
-    pub fn state(&self, root: Root) -> Result<Option<State>, NoMemory>
-        ensures { IfOk result (λ state. state ≡ option_map (λ kept. kept.state) (block_of self.now.plain.blocks root)) }
+    /// The state behind the block of a root. None exactly where the root isn't kept. The store is as before: a state that was dropped
+    /// is made again.
+    #[tactic(auto, using(crate::proofs::Keepers::answering, crate::proofs::Keepers::keeping))]
+    pub fn state(&mut self, root: Root) -> Result<Option<State>, NoMemory>
+        ensures state { IfOk result (λ state. state ≡ option_map (λ kept. kept.state) (block_of self.old.plain.blocks root)) }
+        ensures same { self.new ≡ self.old }
     {
-        match self.fields.blocks().find(root) {
-            Some(kept) => Ok(Some(kept.state().share()?)),
-            None => Ok(None),
+        if !self.fields.is_kept(root) {
+            return Ok(None);
         }
+        let state = kept_state(self.fields.blocks(), &mut self.keeper, root)?;
+        Ok(Some(state))
     }
 }

@@ -2,33 +2,39 @@
 //!
 //! They come from genesis, and the handlers of events change them.
 
-ghost use Rattle.std.specs.Prelude.{◌≡◌, ◌∷◌, ◌++◌, ◌≤◌, ◌<◌, ◌^◌, [], IfSome};
-ghost use Rattle.std.specs.Option.{option_map};
+ghost use Rattle.std.specs.Prelude.{◌≡◌, ◌∷◌, ◌++◌, ◌≤◌, ◌<◌, ◌-◌, ◌^◌, [], length, Some, IfSome};
 ghost use Rattle.bc_words.specs.Outcome.{Becomes};
 ghost use Rattle.std.specs.List.{AllByRecursion};
 ghost use Rattle.bc_preset.specs.Presets.{IsPreset};
-ghost use Rattle.fork_store.specs.inside.Stores.{HasPreset, IsStore};
+ghost use Rattle.fork_store.specs.inside.Accepted.{kept_of};
+ghost use Rattle.fork_store.specs.inside.Keepers.{IsKeeperOf, IsStepOn};
+ghost use Rattle.fork_store.specs.inside.Stores.{HasPreset, IsKept, IsStore};
 ghost use Rattle.fork_store.specs.inside.Trees.{Follows, IsTree};
-ghost use Rattle.spec_fork_choice.specs.Store.{block_of};
+ghost use Rattle.spec_fork_choice.specs.Store.{is_kept};
 ghost use Rattle.spec_fork_choice.specs.Slots.{start_slot_of};
-ghost use Rattle.fork_store.specs.inside.Arrays.{messages_at};
+ghost use Rattle.fork_store.specs.inside.Arrays.{messages_at, number_of};
 ghost use Rattle.fork_store.specs.inside.Genesis.{at_genesis};
 ghost use Rattle.fork_store.specs.inside.CheckpointStates.{IsStateOf};
 
+use crate::chain_stepper::ChainStepper;
 use crate::checkpoint_states::{CheckpointState, CheckpointStates};
-use crate::kept_block::{KeptBlock, KeptBlocks};
+use crate::kept_blocks::KeptBlocks;
 use bc_preset::Config;
 use bc_words::NoMemory;
+use beacon_body::SignedBeaconBlock;
+use beacon_state::State;
 use beacon_types::Checkpoint;
 use block_array::BlockArray;
 use hash_tree::Root;
+use state_keeper::Keeper;
 use std::marker::Model;
 use std::snapshot::Snapshot;
 
-/// The fields: the configuration, the time, three checkpoints, the boosted block's root, and the kept blocks with their states.
+/// The fields: the configuration, the time, three checkpoints, the boosted block's root, and the roots of the kept blocks.
 ///
-/// The latest votes are kept in the array of nodes alone. What is here of them is the array as it was when votes were last taken,
-/// which only clauses read.
+/// The blocks and the states behind them are kept in the keeper alone, and the latest votes in the array of nodes alone. What is
+/// here of them is the keeper as it was when a block was last kept, and the array as it was when votes were last taken, which only
+/// clauses read.
 #[derive(Drop)]
 pub(crate) struct StoreFields {
     config: Config,
@@ -88,8 +94,10 @@ impl StoreFields {
     /// The law that holds of all fields. It does nothing when it runs.
     pub(crate) fn is_sound(&self)
         ensures store { IsStore self.now }
+        ensures kept { AllByRecursion IsKept self.now.blocks }
         ensures preset { IsPreset self.now.config.preset }
     {
+        self.blocks.are_kept();
         let _preset = self.config.preset();
     }
 
@@ -152,13 +160,12 @@ impl StoreFields {
         &self.blocks
     }
 
-    /// The kept block of a root. None exactly where the root isn't kept.
-    #[tactic(auto, using(crate::proofs::Presets::found_preset))]
-    pub(crate) fn kept(&self, root: Root) -> Option<&KeptBlock>
-        ensures found { option_map (λ kept. kept.now) result ≡ block_of self.now.blocks root }
-        ensures preset { IfSome result (λ kept. kept.now.state.preset ≡ self.now.config.preset) }
+    /// Whether a root is a kept block's.
+    #[tactic(auto, using(crate::proofs::Finds::keeping))]
+    pub(crate) fn is_kept(&self, root: Root) -> bool
+        ensures { result ≡ is_kept self.now.blocks root }
     {
-        self.blocks.find(root)
+        self.blocks.number_of(root).is_some()
     }
 
     /// The latest votes are those that the array has now. It takes no memory.
@@ -206,13 +213,26 @@ impl StoreFields {
         self.boost_root = root;
     }
 
-    /// Keeps a block behind the others. Where memory is refused, the store is as before.
-    pub(crate) fn keep(&mut self, kept: KeptBlock) -> Result<(), NoMemory>
-        requires preset { kept.state.preset ≡ self.old.config.preset }
-        requires follows { Follows self.old.blocks kept }
-        ensures { Becomes result self.old self.new (record self.old { blocks = self.old.blocks ++ kept ∷ [] }) }
+    /// Keeps a block behind the others, in the keeper of these blocks. Where memory is refused, the store is as before.
+    pub(crate) fn keep(
+        &mut self,
+        keeper: &mut Keeper<ChainStepper>,
+        parent: u32,
+        root: Root,
+        block: SignedBeaconBlock,
+        state: State,
+    ) -> Result<(), NoMemory>
+        requires keeper { IsKeeperOf self.old keeper.old }
+        requires few { length self.old.blocks < 2 ^ 32 - 1 }
+        requires preset { state.preset ≡ self.old.config.preset }
+        requires follows { Follows self.old.blocks (kept_of root block.message state) }
+        requires kept { IsKept (kept_of root block.message state) }
+        requires parent { Some parent ≡ number_of self.old.blocks block.message.parent_root }
+        requires step { IsStepOn self.old.config self.old.blocks block state }
+        ensures kept { Becomes result self.old self.new (record self.old { blocks = self.old.blocks ++ kept_of root block.message state ∷ [] }) }
+        ensures keeper { IsKeeperOf self.new keeper.new }
     {
-        self.blocks.push(kept)
+        self.blocks.push(keeper, parent, root, block, state)
     }
 
     /// The state that is kept of a checkpoint, if one is. It is the checkpoint's own.

@@ -1,28 +1,32 @@
 //! The store at genesis (fork-choice.md, "get_forkchoice_store").
 
-ghost use Rattle.std.specs.Prelude.{◌≡◌, None, IfOk};
+ghost use Rattle.std.specs.Prelude.{◌≡◌, ◌∷◌, [], None, IfOk};
 ghost use Rattle.bc_words.specs.Events.{StoreGivesBy};
 ghost use Rattle.beacon_body.specs.Containers.{default_block_body};
 ghost use Rattle.spec_state.specs.Genesis.{genesis_fault};
 ghost use Rattle.spec_fork_choice.specs.GetForkchoiceStore.{genesis_block, get_forkchoice_store};
+ghost use Rattle.fork_store.specs.inside.Accepted.{kept_of};
+ghost use Rattle.fork_store.specs.inside.Keepers.{kept_blocks, IsKeeperOf};
 ghost use Rattle.fork_store.specs.inside.Stores.{IsRootOf};
 ghost use Rattle.fork_store.specs.inside.Genesis.{array_at_genesis};
 ghost use Rattle.spec_fork_choice.specs.OnEvent.{genesis_clash, open_store};
 
+use crate::chain_stepper::ChainStepper;
 use crate::checkpoint_states::CheckpointStates;
-use crate::clash_of::clash_of;
-use crate::kept_block::{KeptBlock, KeptBlocks};
+use crate::clash_of::clash_with;
+use crate::kept_blocks::KeptBlocks;
 use crate::ready_balances::balances_of;
 use crate::store::Store;
 use crate::store_fields::StoreFields;
 use bc_preset::Config;
 use bc_words::{ClashKind, NoMemory, StoreStop};
-use beacon_body::{BeaconBlock, BeaconBlockBody};
+use beacon_body::{BeaconBlock, BeaconBlockBody, SignedBeaconBlock};
 use beacon_state::State;
 use beacon_types::{Checkpoint, Eth1Data};
 use block_array::{BlockArray, Facts};
 use hash_tree::{Leaf, Root};
 use ssz_codec::{Items, LimitedList, VariableList};
+use state_keeper::Keeper;
 use std::alloc::Global;
 use transition::genesis_is_sound;
 
@@ -61,68 +65,86 @@ fn genesis_block(alloc: Global, genesis: &State) -> BeaconBlock
 }
 
 /// How the genesis block clashes, if it does.
-#[tactic(auto, unfolding(spec_fork_choice::specs::OnEvent::genesis_clash, spec_fork_choice::specs::GetForkchoiceStore::genesis_block, crate::specs::inside::Stores::IsRootOf))]
-fn genesis_clash(
-    alloc: Global,
-    genesis: &State,
-    block: &BeaconBlock,
-    root: Root,
-) -> Option<ClashKind>
+#[tactic(auto, using(crate::proofs::Keepers::first_clashing))]
+fn genesis_clash(genesis: &State, block: &BeaconBlock, root: Root) -> Option<ClashKind>
     requires block { block.now ≡ genesis_block genesis.now }
     requires root { IsRootOf root (genesis_block genesis.now) }
     ensures { result ≡ genesis_clash genesis.now }
 {
     let _state = genesis;
-    clash_of(&KeptBlocks::new(alloc), root, block)
+    clash_with(None, 0, root, block)
 }
 
-/// The fields of the store whose one block is that of genesis.
-#[tactic(auto, using(crate::proofs::Steps::genesis_is_kept, crate::proofs::Trees::tree_of_one, crate::proofs::Finds::nothing_kept), unfolding(spec_fork_choice::specs::GetForkchoiceStore::get_forkchoice_store, crate::specs::inside::Stores::IsRootOf))]
+/// The keeper whose one block is that of genesis. Nobody signed it, so that its signature is all zero.
+#[tactic(auto, using(crate::proofs::Keepers::beginning))]
+fn genesis_keeper(
+    alloc: Global,
+    config: &Config,
+    block: BeaconBlock,
+    root: Root,
+    genesis: State,
+) -> Result<Keeper<ChainStepper>, NoMemory>
+    requires { IsRootOf root block }
+    ensures stepper { IfOk result (λ keeper. keeper.stepper ≡ config.now) }
+    ensures blocks { IfOk result (λ keeper. kept_blocks keeper.blocks ≡ kept_of root block genesis ∷ []) }
+{
+    let signed = SignedBeaconBlock {
+        message: block,
+        signature: [0; 96],
+    };
+    let keeper = Keeper::new(alloc, ChainStepper::new(config), signed, genesis)?;
+    Ok(keeper)
+}
+
+/// The fields of the store whose one block is that of genesis, which is the keeper's.
+#[tactic(auto, using(crate::proofs::Steps::genesis_is_kept, crate::proofs::Trees::tree_of_one, crate::proofs::Keepers::opening), unfolding(spec_fork_choice::specs::GetForkchoiceStore::get_forkchoice_store, crate::specs::inside::Stores::IsRootOf))]
 fn forkchoice_fields(
     alloc: Global,
     config: &Config,
-    genesis: State,
-    block: BeaconBlock,
+    genesis: &State,
+    keeper: &Keeper<ChainStepper>,
     root: Root,
 ) -> Result<StoreFields, NoMemory>
-    requires genesis { genesis_fault genesis ≡ None }
-    requires preset { genesis.preset ≡ config.now.preset }
-    requires block { block ≡ genesis_block genesis }
-    requires root { IsRootOf root (genesis_block genesis) }
-    requires none { genesis_clash genesis ≡ None }
-    ensures { IfOk result (λ store. store ≡ get_forkchoice_store config.now genesis) }
+    requires genesis { genesis_fault genesis.now ≡ None }
+    requires preset { genesis.now.preset ≡ config.now.preset }
+    requires keeper { kept_blocks keeper.now.blocks ≡ kept_of root (genesis_block genesis.now) genesis.now ∷ [] }
+    requires root { IsRootOf root (genesis_block genesis.now) }
+    requires none { genesis_clash genesis.now ≡ None }
+    ensures { IfOk result (λ store. store ≡ get_forkchoice_store config.now genesis.now) }
 {
     genesis_is_sound();
     let time = genesis.genesis_time();
-    let mut blocks = KeptBlocks::new(alloc);
-    blocks.push(KeptBlock::new(root, block, genesis))?;
+    let blocks = KeptBlocks::at_genesis(alloc, keeper, root)?;
     let checkpoint = Checkpoint { epoch: 0, root };
     let states = CheckpointStates::new(alloc);
     Ok(StoreFields::at_genesis(*config, time, checkpoint, blocks, states))
 }
 
-/// The array whose one node is that of genesis, with the balances of the justified checkpoint.
+/// The array whose one node is that of genesis, with the balances of the justified checkpoint. The keeper is as before.
 fn genesis_array(
     alloc: Global,
     store: &StoreFields,
+    keeper: &mut Keeper<ChainStepper>,
     root: Root,
     facts: Facts,
 ) -> Result<BlockArray, NoMemory>
-    ensures { IfOk result (λ array. array ≡ array_at_genesis store.now root facts) }
+    requires { IsKeeperOf store.now keeper.old }
+    ensures array { IfOk result (λ array. array ≡ array_at_genesis store.now root facts) }
+    ensures same { keeper.new ≡ keeper.old }
 {
     let config = store.config();
     let preset = config.preset();
     preset.bounds();
     let slots_per_epoch = preset.slots_per_epoch;
     let percent = config.proposer_score_boost();
-    let balances = balances_of(alloc, store, store.justified())?;
+    let balances = balances_of(alloc, store, keeper, store.justified())?;
     let mut array = BlockArray::new(alloc, slots_per_epoch, percent, 0, root, facts)?;
     balances.give(&mut array);
     Ok(array)
 }
 
 /// The store whose one block is that of genesis.
-#[tactic(auto, using(crate::proofs::AtGenesis::opening))]
+#[tactic(auto, using(crate::proofs::AtGenesis::opening, crate::proofs::Keepers::keeping))]
 fn forkchoice_store(
     alloc: Global,
     config: &Config,
@@ -142,11 +164,14 @@ fn forkchoice_store(
         justified: genesis.current_justified_checkpoint(),
         finalized: genesis.finalized_checkpoint(),
     };
-    let fields = forkchoice_fields(alloc, config, genesis, block, root)?;
-    let array = genesis_array(alloc, &fields, root, facts)?;
+    let shared = genesis.share()?;
+    let mut keeper = genesis_keeper(alloc, config, block, root, shared)?;
+    let fields = forkchoice_fields(alloc, config, &genesis, &keeper, root)?;
+    let array = genesis_array(alloc, &fields, &mut keeper, root, facts)?;
     Ok(Store {
         fields,
         array,
+        keeper,
         ready: None,
     })
 }
@@ -162,7 +187,7 @@ impl Store {
     {
         let block = genesis_block(alloc, &genesis);
         let root = block.root();
-        match genesis_clash(alloc, &genesis, &block, root) {
+        match genesis_clash(&genesis, &block, root) {
             Some(kind) => Err(StoreStop::Clash(kind)),
             None => Ok(forkchoice_store(alloc, config, genesis, block, root)?),
         }

@@ -6,14 +6,18 @@ ghost use Rattle.spec_state.specs.Soundness.{IsSound};
 ghost use Rattle.spec_fork_choice.specs.Slots.{start_slot_of};
 ghost use Rattle.spec_fork_choice.specs.StoreTargetCheckpointState.{state_at, store_target_checkpoint_state};
 ghost use Rattle.fork_store.specs.inside.CheckpointStates.{IsStateOf};
+ghost use Rattle.fork_store.specs.inside.Keepers.{IsKeeperOf};
 
+use crate::chain_stepper::ChainStepper;
 use crate::checkpoint_states::CheckpointState;
+use crate::kept_state::kept_state;
 use crate::slots::start_slot;
 use crate::store_fields::StoreFields;
 use balance_totals::committees_of_epoch;
 use bc_words::{Refusal, Stop};
 use beacon_state::State;
 use beacon_types::Checkpoint;
+use state_keeper::Keeper;
 use std::alloc::Global;
 use transition::process_slots::process_slots;
 
@@ -34,53 +38,68 @@ fn state_at(alloc: Global, store: &StoreFields, state: &State, slot: u64) -> Res
 }
 
 /// The state of a checkpoint whose epoch begins at a slot of 64 bits, made anew: that of its root, taken on to the first slot of
-/// its epoch.
+/// its epoch. The keeper is as before.
 ///
 /// Refused as `FcTargetUnknown` where the root isn't kept, and refused and limited as the slots are.
-#[tactic(auto, unfolding(spec_fork_choice::specs::StoreTargetCheckpointState::store_target_checkpoint_state, spec_fork_choice::specs::StoreTargetCheckpointState::kept_or))]
-fn state_anew(alloc: Global, store: &StoreFields, target: Checkpoint) -> Result<State, Stop>
-    requires low { start_slot_of store.now target < 2 ^ 64 }
-    ensures exact { Gives result (store_target_checkpoint_state store.now target) }
-    ensures sound { IfOk result (λ state. IsSound state) }
-    ensures preset { IfOk result (λ state. state.preset ≡ store.now.config.preset) }
-{
-    let Some(kept) = store.kept(target.root) else {
-        return Err(Stop::Refused(Refusal::FcTargetUnknown));
-    };
-    let slot = start_slot(store, target) as u64;
-    state_at(alloc, store, kept.state(), slot)
-}
-
-/// The state of a checkpoint whose epoch begins at a slot of 64 bits (fork-choice.md, `store_target_checkpoint_state`): the
-/// one that is kept of it, or else one made anew, with the refusals and limits of that.
-pub(crate) fn store_target_checkpoint_state(
+#[tactic(auto, using(crate::proofs::Keepers::targeting))]
+fn state_anew(
     alloc: Global,
     store: &StoreFields,
+    keeper: &mut Keeper<ChainStepper>,
     target: Checkpoint,
 ) -> Result<State, Stop>
     requires low { start_slot_of store.now target < 2 ^ 64 }
-    ensures { Gives result (store_target_checkpoint_state store.now target) }
+    requires keeper { IsKeeperOf store.now keeper.old }
+    ensures exact { Gives result (store_target_checkpoint_state store.now target) }
+    ensures sound { IfOk result (λ state. IsSound state) }
+    ensures preset { IfOk result (λ state. state.preset ≡ store.now.config.preset) }
+    ensures same { keeper.new ≡ keeper.old }
+{
+    store.is_sound();
+    if !store.is_kept(target.root) {
+        return Err(Stop::Refused(Refusal::FcTargetUnknown));
+    }
+    let state = kept_state(store.blocks(), keeper, target.root)?;
+    let slot = start_slot(store, target) as u64;
+    state_at(alloc, store, &state, slot)
+}
+
+/// The state of a checkpoint whose epoch begins at a slot of 64 bits (fork-choice.md, `store_target_checkpoint_state`): the
+/// one that is kept of it, or else one made anew, with the refusals and limits of that. The keeper is as before.
+pub(crate) fn store_target_checkpoint_state(
+    alloc: Global,
+    store: &StoreFields,
+    keeper: &mut Keeper<ChainStepper>,
+    target: Checkpoint,
+) -> Result<State, Stop>
+    requires low { start_slot_of store.now target < 2 ^ 64 }
+    requires keeper { IsKeeperOf store.now keeper.old }
+    ensures state { Gives result (store_target_checkpoint_state store.now target) }
+    ensures same { keeper.new ≡ keeper.old }
 {
     match store.checkpoint_state(target) {
         Some(kept) => Ok(kept.state().share()?),
-        None => state_anew(alloc, store, target),
+        None => state_anew(alloc, store, keeper, target),
     }
 }
 
-/// The state of such a checkpoint, made anew, with the committees of its epoch.
+/// The state of such a checkpoint, made anew, with the committees of its epoch. The keeper is as before.
 #[tactic(auto, using(crate::proofs::CheckpointStates::epoch_is_low))]
 pub(crate) fn checkpoint_state_anew(
     alloc: Global,
     store: &StoreFields,
+    keeper: &mut Keeper<ChainStepper>,
     target: Checkpoint,
 ) -> Result<CheckpointState, Stop>
     requires low { start_slot_of store.now target < 2 ^ 64 }
+    requires keeper { IsKeeperOf store.now keeper.old }
     ensures exact { GivesBy (λ made. made.state) result (store_target_checkpoint_state store.now target) }
     ensures own { IfOk result (λ made. IsStateOf store.now made) }
     ensures checkpoint { IfOk result (λ made. made.checkpoint ≡ target) }
+    ensures same { keeper.new ≡ keeper.old }
 {
     store.config().preset().bounds();
-    let state = state_anew(alloc, store, target)?;
+    let state = state_anew(alloc, store, keeper, target)?;
     let committees = committees_of_epoch(alloc, &state, target.epoch)?;
     Ok(CheckpointState::new(target, state, committees))
 }

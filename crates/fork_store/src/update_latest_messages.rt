@@ -65,6 +65,8 @@ pub(crate) fn update_latest_messages(
     ensures exact { Becomes result store.old store.new (update_latest_messages store.old attesting_indices.now attestation.now) }
     ensures whole { IsWhole store.new array.new ready.now }
     ensures unset { array.new.balances_set ≡ array.old.balances_set }
+    ensures config { store.new.config ≡ store.old.config }
+    ensures blocks { store.new.blocks ≡ store.old.blocks }
 {
     store.is_sound();
     let voted = &attestation.content;

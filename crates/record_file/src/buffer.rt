@@ -44,7 +44,7 @@ fn read_behind<F: Shelf>(
 const PIECE: usize = 8_192;
 
 /// Bytes that were taken of a file and not read yet.
-#[derive(Debug, Drop)]
+#[derive(Drop)]
 pub struct Buffer {
     // The bytes from `start` on aren't read yet.
     bytes: Vec<u8>,

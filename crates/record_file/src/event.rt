@@ -5,7 +5,7 @@ ghost use Rattle.std.specs.Prelude.{◌≡◌, ℕ, List};
 use std::marker::Model;
 
 /// The bytes of an event, which its kind says how to read.
-#[derive(Debug, Drop)]
+#[derive(Drop)]
 pub struct Payload {
     bytes: Vec<u8>,
 }
@@ -33,7 +33,7 @@ impl Payload {
 }
 
 /// One frame of a record.
-#[derive(Debug, Drop)]
+#[derive(Drop)]
 pub struct Event {
     /// What kind of event it is: 1 is a tick, 2 a signed block, 3 an attestation from the wire, 4 one from a block.
     pub kind: u8,

@@ -13,7 +13,7 @@ pub const MOST_EVENTS: u32 = 4_194_304;
 pub const LONGEST_PAYLOAD: u32 = 4_194_304;
 
 /// What some bytes show of a frame.
-#[derive(Clone, Copy, Debug, PartialEq, Eq)]
+#[derive(Clone, Copy)]
 pub enum Found {
     /// There are no bytes.
     Ended,

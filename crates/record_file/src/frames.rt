@@ -19,7 +19,7 @@ use std::alloc::Global;
 use std::marker::Model;
 
 /// The frames of a record, read from a file of a shelf.
-#[derive(Debug, Drop)]
+#[derive(Drop)]
 pub struct Frames {
     alloc: Global,
     file: u32,

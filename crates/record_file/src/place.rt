@@ -3,7 +3,7 @@
 use crate::RecordFault;
 
 /// What the next call of [`Frames::next`](crate::Frames::next) meets.
-#[derive(Clone, Copy, Debug, PartialEq, Eq)]
+#[derive(Clone, Copy)]
 pub enum Place {
     /// The record's first four bytes.
     AtMagic,

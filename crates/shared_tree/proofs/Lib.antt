@@ -10,3 +10,4 @@ pub mod ChunkChanges
 pub mod Climbs
 pub mod Every
 pub mod Plans
+pub mod NewLeaves

@@ -1,7 +1,6 @@
 -- Paths of a walk over a tree, and what is left behind a place.
 use Rattle.std.proofs.Common.{◌≡◌, ℕ, zero, suc, ◌+◌, ◌-◌, ◌<◌, ◌≤◌, ◌^◌, List, [], ◌∷◌, ◌++◌, length, map, take, drop, refl, sym, ap, subst, ◌∙◌, arith, length-append}
 use Rattle.std.specs.Prelude.{get_or, slice_get, slice_set, Option, Some, None}
-use Rattle.std.specs.Iterator.{YieldsFirstRef}
 use Rattle.std.specs.Borrow.{Bor}
 use Rattle.std.specs.List.{flat_map}
 use Rattle.shared_tree.specs.declared.four.Four.{Four}
@@ -71,20 +70,23 @@ module _ {A : Type 0} where
       (subst (λ (v : ℕ × List A). (v.0 ≤ from - 1) × Joins v (right ∷ rest) × IsPath (from - 1) (right ∷ rest)) el
       (halves_join left right rest from h (subst (λ (v : ℕ × List A). v.0 ≤ from) (sym view) low) (subst (λ (v : ℕ × List A). Joins v rest) (sym view) joins) path))
 
-  enters_pair : (left right : ℕ × List A) (before now : List A) (item : Option (Bor A)) → AreHalves left right → Enters item left.1 (right.1 ++ before) now → Enters item (left.1 ++ right.1) before now
-  enters_pair left right before now (Some item) h enters = append_assoc left.1 right.1 before ∙ enters
-  enters_pair left right before now None h enters =
-      let first_full = h.left_first in
-      let empty : length left.1 ≡ 0 = ap length enters.0 in
-      let none : right.1 ≡ [] = none_in right.1 (grind (arith, first_full, empty)) in
-      (ap (λ (xs : List A). xs ++ right.1) enters.0 ∙ none, enters.1 ∙ ap (λ (xs : List A). xs ++ before) none)
+  enters_pair : (left right : ℕ × List A) (entered before now : List A) → AreHalves left right → Enters entered left.1 (right.1 ++ before) now → Enters entered (left.1 ++ right.1) before now
+  enters_pair left right entered before now h enters = (
+    enters.0 ∙ sym (append_assoc left.1 right.1 before),
+    λ nothing.
+        let both = enters.1 nothing in
+        let first_full = h.left_first in
+        let empty : length left.1 ≡ 0 = ap length both.0 in
+        let none : right.1 ≡ [] = none_in right.1 (grind (arith, first_full, empty)) in
+        (ap (λ (xs : List A). xs ++ right.1) both.0 ∙ none, both.1 ∙ ap (λ (xs : List A). xs ++ before) none),
+  )
 
-  pub enters_node : (node left right l r : ℕ × List A) (before between now : List A) (item : Option (Bor A)) → AreHalves left right → (suc left.0, left.1 ++ right.1) ≡ node → left ≡ l → right ≡ r → between ≡ r.1 ++ before → Enters item l.1 between now → Enters item node.1 before now
-  enters_node node left right l r before between now item h view el er e enters =
-      subst (λ (v : ℕ × List A). Enters item v.1 before now) view
-      (enters_pair left right before now item h
-      (subst (λ (xs : List A). Enters item left.1 xs now) (e ∙ ap (λ (v : ℕ × List A). v.1 ++ before) (sym er))
-      (subst (λ (v : ℕ × List A). Enters item v.1 between now) (sym el) enters)))
+  pub enters_node : (node left right l r : ℕ × List A) (entered before between now : List A) → AreHalves left right → (suc left.0, left.1 ++ right.1) ≡ node → left ≡ l → right ≡ r → between ≡ r.1 ++ before → Enters entered l.1 between now → Enters entered node.1 before now
+  enters_node node left right l r entered before between now h view el er e enters =
+      subst (λ (v : ℕ × List A). Enters entered v.1 before now) view
+      (enters_pair left right entered before now h
+      (subst (λ (xs : List A). Enters entered left.1 xs now) (e ∙ ap (λ (v : ℕ × List A). v.1 ++ before) (sym er))
+      (subst (λ (v : ℕ × List A). Enters entered v.1 between now) (sym el) enters)))
 
   pub ahead_set : (path : List (Bor (ℕ × List A))) (from : ℕ) (node : Bor (ℕ × List A)) → 0 < from → from ≤ length path → ahead (from - 1) (slice_set path (from - 1) node) ≡ node.now ∷ ahead from path
   ahead_set path from node some fits =
@@ -113,17 +115,20 @@ module _ {A : Type 0} where
   pub path_at : (path : List (Bor (ℕ × List A))) (from : ℕ) (node : Bor (ℕ × List A)) → Some node ≡ slice_get path from → IsPath from (ahead from path) → IsPath from (node.now ∷ ahead (from + 1) path)
   path_at path from node e is = subst (λ (ns : List (ℕ × List A)). IsPath from ns) (ahead_at path from node e) is
 
-  first_of : (node : ℕ × List A) (rest : List (ℕ × List A)) (item : Option (Bor A)) (now : List A) → Joins node rest → Enters item node.1 (held rest) now → YieldsFirstRef {S = List A} (λ left. left) (node.1 ++ held rest) item now
-  first_of node rest (Some item) now joins enters = enters
-  first_of node rest None now joins enters =
-      let none : length node.1 ≡ 0 = ap length enters.0 in
-      let empty : held rest ≡ [] = none_in (held rest) (grind (arith, joins, none, pow_some node.0)) in
-      (ap (λ (xs : List A). xs ++ held rest) enters.0 ∙ empty, enters.1 ∙ empty)
+  first_of : (node : ℕ × List A) (rest : List (ℕ × List A)) (entered now : List A) → Joins node rest → Enters entered node.1 (held rest) now → Enters entered (node.1 ++ held rest) [] now
+  first_of node rest entered now joins enters = (
+    enters.0 ∙ sym (append-nil (node.1 ++ held rest)),
+    λ nothing.
+        let both = enters.1 nothing in
+        let none : length node.1 ≡ 0 = ap length both.0 in
+        let empty : held rest ≡ [] = none_in (held rest) (grind (arith, joins, none, pow_some node.0)) in
+        (ap (λ (xs : List A). xs ++ held rest) both.0 ∙ empty, both.1 ∙ empty),
+  )
 
-  pub first_ahead : (path : List (Bor (ℕ × List A))) (from : ℕ) (node : Bor (ℕ × List A)) (item : Option (Bor A)) (now : List A) → Some node ≡ slice_get path from → IsPath from (ahead from path) → Enters item node.now.1 (waiting (from + 1) path) now → YieldsFirstRef {S = List A} (λ left. left) (waiting from path) item now
-  first_ahead path from node item now e is enters =
-      subst (λ (xs : List A). YieldsFirstRef {S = List A} (λ left. left) xs item now) (sym (held_laid (ahead from path) (ahead (from + 1) path) node.now (ahead_at path from node e)))
-      (first_of node.now (ahead (from + 1) path) item now (path_at path from node e is).1 enters)
+  pub first_ahead : (path : List (Bor (ℕ × List A))) (from : ℕ) (node : Bor (ℕ × List A)) (entered now : List A) → Some node ≡ slice_get path from → IsPath from (ahead from path) → Enters entered node.now.1 (waiting (from + 1) path) now → Enters entered (waiting from path) [] now
+  first_ahead path from node entered now e is enters =
+      subst (λ (xs : List A). Enters entered xs [] now) (sym (held_laid (ahead from path) (ahead (from + 1) path) node.now (ahead_at path from node e)))
+      (first_of node.now (ahead (from + 1) path) entered now (path_at path from node e is).1 enters)
 
 pub numbers_all : (len : ℕ) (rest : List ℕ) (fours now : List Four) → rest ≡ [] → fours ≡ now → numbers_left len rest fours ≡ numbers_in len now
 unfolding numbers_in

@@ -1,10 +1,21 @@
 //! The item at a place of a tree.
 
-ghost use Rattle.std.specs.Prelude.{◌≡◌, ◌≤◌, slice_get};
+ghost use Rattle.std.specs.Prelude.{◌≡◌, ◌≤◌, map, slice_get};
 ghost use Rattle.std.specs.Option.{option_map};
 
-use crate::node::{Kind, Node, half_width};
+use crate::node::{Item, Kind, Node, half_width};
 use hash_tree::Leaf;
+use std::rc::Rc;
+
+/// The item of the leaf at a place. None exactly where there is none.
+fn item_at<T: Leaf + Drop>(leaves: &[Rc<Item<T>>], at: u64) -> Option<&T>
+    ensures { option_map (λ x. x.now) result ≡ slice_get (map (λ leaf. leaf.value.item) leaves.now) at }
+{
+    match leaves.get(at as usize) {
+        Some(leaf) => Some(&leaf.item),
+        None => None,
+    }
+}
 
 /// The item at a place. None exactly where there is none.
 pub(crate) fn find<T: Leaf + Drop>(node: &Node<T>, depth: u32, at: u64) -> Option<&T>
@@ -23,5 +34,6 @@ pub(crate) fn find<T: Leaf + Drop>(node: &Node<T>, depth: u32, at: u64) -> Optio
                 find(&pair.right, depth - 1, at - half)
             }
         }
+        Kind::Broad(broad) => item_at(&broad.leaves, at),
     }
 }

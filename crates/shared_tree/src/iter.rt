@@ -1,15 +1,18 @@
 //! The items of a tree in order.
 //!
-//! A walk keeps its path: the nodes that are still to be visited, of which there is one for each level at most, so that each
-//! node of the tree is visited once. It takes no memory.
+//! A walk keeps its path, the nodes that are still to be visited, of which there is one for each level at most, and what is left
+//! of the leaves in which it stands. Each node of the tree is visited once, and none of those below one that keeps its leaves. It
+//! takes no memory.
 
-ghost use Rattle.std.specs.Prelude.{◌≡◌, ◌-◌, ◌<◌, ◌≤◌, ◌∷◌, length};
+ghost use Rattle.std.specs.Prelude.{◌≡◌, ◌-◌, ◌<◌, ◌≤◌, ◌∷◌, [], length, map};
 ghost use Rattle.std.specs.Iterator.{YieldsFirstRef, item_count};
-ghost use Rattle.shared_tree.specs.inside.Walks.{IsPath, Enters, Joins, ahead, waiting};
+ghost use Rattle.shared_tree.specs.inside.Walks.{IsPath, Enters, Joins, ahead, waiting, standing};
 
-use crate::node::{Kind, Node};
+use crate::node::{Item, Kind, Node};
 use hash_tree::Leaf;
 use std::marker::Model;
+use std::rc::Rc;
+use std::slice;
 
 /// How many nodes a path has room for: the first, and one for each level.
 const ROOM: usize = 41;
@@ -19,16 +22,17 @@ const ROOM: usize = 41;
 pub struct Iter<'a, T: Leaf + Drop> {
     path: [&'a Node<T>; ROOM],
     from: usize,
+    leaves: &'a [Rc<Item<T>>],
 }
 
 impl<'a, T: Leaf + Drop> Model for Iter<'a, T> {
-    ghost use Rattle.std.specs.Prelude.{List};
+    ghost use Rattle.std.specs.Prelude.{List, map};
 
     ghost Value = { List T };
 
-    ghost use Rattle.shared_tree.specs.inside.Walks.{IsPath, ahead, waiting};
+    ghost use Rattle.shared_tree.specs.inside.Walks.{IsPath, ahead, standing};
 
-    ghost view = { λ walk. waiting walk.from walk.path };
+    ghost view = { λ walk. standing (map (λ leaf. leaf.value.item) walk.leaves.now) walk.from walk.path };
 
     ghost invariant = { λ walk. IsPath walk.from (ahead walk.from walk.path) };
 }
@@ -44,13 +48,13 @@ fn lay<'a, T: Leaf + Drop>(path: &mut [&'a Node<T>], from: usize, node: &'a Node
     path[from - 1] = node;
 }
 
-/// The first item of a node, which is before those of the path. The nodes behind it are put on the path, whose new first
-/// place goes with it.
+/// The first leaves of a node, which is before those of the path. The nodes behind them are put on the path, whose new first
+/// place goes with them.
 fn enter<'a, T: Leaf + Drop>(
     node: &'a Node<T>,
     path: &mut [&'a Node<T>],
     from: usize,
-) -> (Option<&'a T>, usize)
+) -> (&'a [Rc<Item<T>>], usize)
     requires room { length path.old ≡ 41 }
     requires begun { from ≤ 41 }
     requires low { node.now.0 ≤ from }
@@ -58,31 +62,55 @@ fn enter<'a, T: Leaf + Drop>(
     requires path { IsPath from (ahead from path.old) }
     ensures room { length path.new ≡ 41 }
     ensures path { IsPath result.1 (ahead result.1 path.new) }
-    ensures enters { Enters result.0 node.now.1 (waiting from path.old) (waiting result.1 path.new) }
+    ensures enters { Enters (map (λ leaf. leaf.value.item) result.0.now) node.now.1 (waiting from path.old) (waiting result.1 path.new) }
 {
     match &node.kind {
-        Kind::Absent(_) => (None, from),
-        Kind::Item(leaf) => (Some(&leaf.item), from),
+        Kind::Absent(_) => (&[], from),
+        Kind::Item(leaf) => (slice::from_ref(leaf), from),
         Kind::Pair(pair) => {
             lay(path, from, &pair.right);
             enter(&pair.left, path, from - 1)
         }
+        Kind::Broad(broad) => (&broad.leaves, from),
     }
 }
 
-/// The first item of the nodes of the path, whose new first place goes with it. None exactly where they have none.
-fn first<'a, T: Leaf + Drop>(path: &mut [&'a Node<T>], from: usize) -> (Option<&'a T>, usize)
+/// The first leaves of the nodes of the path, whose new first place goes with them. None exactly where they have none.
+fn first<'a, T: Leaf + Drop>(path: &mut [&'a Node<T>], from: usize) -> (&'a [Rc<Item<T>>], usize)
     requires room { length path.old ≡ 41 }
     requires path { IsPath from (ahead from path.old) }
     ensures room { length path.new ≡ 41 }
     ensures path { IsPath result.1 (ahead result.1 path.new) }
-    ensures gives { YieldsFirstRef (λ left. left) (waiting from path.old) result.0 (waiting result.1 path.new) }
+    ensures enters { Enters (map (λ leaf. leaf.value.item) result.0.now) (waiting from path.old) [] (waiting result.1 path.new) }
 {
     if from >= ROOM {
-        return (None, from);
+        return (&[], from);
     }
     let node = path[from];
     enter(node, path, from + 1)
+}
+
+/// The first item of the leaves, or of the nodes of the path where there are no leaves. The leaves that are left go with it, and
+/// the path's new first place.
+fn step<'a, T: Leaf + Drop>(
+    leaves: &'a [Rc<Item<T>>],
+    path: &mut [&'a Node<T>],
+    from: usize,
+) -> (Option<&'a T>, &'a [Rc<Item<T>>], usize)
+    requires room { length path.old ≡ 41 }
+    requires path { IsPath from (ahead from path.old) }
+    ensures room { length path.new ≡ 41 }
+    ensures path { IsPath result.2 (ahead result.2 path.new) }
+    ensures gives { YieldsFirstRef (λ left. left) (standing (map (λ leaf. leaf.value.item) leaves.now) from path.old) result.0 (standing (map (λ leaf. leaf.value.item) result.1.now) result.2 path.new) }
+{
+    if let Some((leaf, rest)) = leaves.split_first() {
+        return (Some(&leaf.item), rest, from);
+    }
+    let (leaves, from) = first(path, from);
+    match leaves.split_first() {
+        Some((leaf, rest)) => (Some(&leaf.item), rest, from),
+        None => (None, leaves, from),
+    }
 }
 
 impl<'a, T: Leaf + Drop> Iter<'a, T> {
@@ -94,6 +122,7 @@ impl<'a, T: Leaf + Drop> Iter<'a, T> {
         Iter {
             path: [root; ROOM],
             from: ROOM - 1,
+            leaves: &[],
         }
     }
 }
@@ -107,7 +136,9 @@ impl<'a, T: Leaf + Drop> Iterator for Iter<'a, T> {
 
     fn next(&mut self) -> Option<&'a T> {
         let begin = self.from;
-        let (item, from) = first(&mut self.path, begin);
+        let stood = self.leaves;
+        let (item, leaves, from) = step(stood, &mut self.path, begin);
+        self.leaves = leaves;
         self.from = from;
         item
     }

@@ -18,7 +18,7 @@ use std::sync::ledger::{Blank, Ledger};
 use std::vec::IntoIter;
 
 /// How many items are made leaves at a time, so that what is beside items and leaves is small.
-const BATCH: usize = 64;
+pub(crate) const BATCH: usize = 64;
 
 /// The next of the items that are left, so many as are wanted.
 fn take_items<T: Drop>(
@@ -167,8 +167,8 @@ fn climb<T: Leaf + Drop, L: Ledger>(
     make_even(&mut nodes, roots, depth)?;
     let mut above = vec![in alloc; [0u8; 32]; nodes.len() / 2]?;
     layer_step(roots, &mut above, steps);
-    let joined = join(nodes, &above, alloc)?;
     *roots = above;
+    let joined = join(nodes, roots, alloc)?;
     Ok(joined)
 }
 

@@ -11,6 +11,7 @@ mod four;
 mod iter;
 mod laws;
 mod layers;
+mod new_leaves;
 mod node;
 mod numbers;
 mod packed_list;

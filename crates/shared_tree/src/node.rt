@@ -2,7 +2,7 @@
 //!
 //! `build` makes them of items, and `put` makes a path of them anew.
 
-ghost use Rattle.std.specs.Prelude.{◌≡◌, ℕ, suc, ◌+◌, ◌<◌, ◌≤◌, ◌^◌, List, [], ◌∷◌, ◌++◌, length, map, IfOk};
+ghost use Rattle.std.specs.Prelude.{◌≡◌, ℕ, suc, ◌+◌, ◌<◌, ◌≤◌, ◌^◌, List, [], ◌∷◌, ◌++◌, length, map, IfOk, OnOk};
 ghost use Rattle.hash_tree.specs.Merkle.{hash, merkle_root};
 ghost use Rattle.shared_tree.specs.inside.Nodes.{AreHalves, HalvesOf};
 
@@ -12,6 +12,12 @@ use std::alloc::Global;
 use std::marker::Model;
 use std::rc::Rc;
 
+/// How deep the halves are of a node that keeps its leaves. More leaves make walks over items faster, and changes of one slower.
+const BROAD: u32 = 3;
+
+/// How many leaves such a node has room for.
+const LEAVES: usize = 16;
+
 /// A tree of some depth over the items in its first leaves, which contracts see as the depth and the items.
 #[cycle(tree)]
 #[derive(Drop)]
@@ -19,13 +25,14 @@ pub(crate) struct Node<T: Leaf + Drop> {
     pub(crate) kind: Kind<T>,
 }
 
-/// What a node is: a tree of so many levels without items, an item, or two trees of the same depth.
+/// What a node is: a tree of so many levels without items, an item, two trees of the same depth, or two with their leaves.
 #[cycle(tree)]
 #[derive(Drop)]
 pub(crate) enum Kind<T: Leaf + Drop> {
     Absent(u32),
     Item(Rc<Item<T>>),
     Pair(Rc<Pair<T>>),
+    Broad(Rc<Broad<T>>),
 }
 
 /// An item and its root.
@@ -42,6 +49,50 @@ pub(crate) struct Pair<T: Leaf + Drop> {
     root: Root,
     pub(crate) left: Node<T>,
     pub(crate) right: Node<T>,
+}
+
+/// Two trees and the hash of their roots, and the leaves of both in order: a walk over items reads none of the nodes between.
+#[cycle(tree)]
+#[derive(Drop)]
+pub(crate) struct Broad<T: Leaf + Drop> {
+    root: Root,
+    pub(crate) left: Node<T>,
+    pub(crate) right: Node<T>,
+    pub(crate) leaves: Vec<Rc<Item<T>>>,
+}
+
+/// An item that is to be a leaf of a tree, with its root. Contracts see it as the item.
+#[derive(Drop)]
+pub(crate) struct NewLeaf<T: Leaf + Drop> {
+    leaf: Rc<Item<T>>,
+}
+
+impl<T: Leaf + Drop> Model for NewLeaf<T> {
+    ghost Value = { T };
+
+    ghost view = { λ new. new.leaf.value.item };
+
+    ghost invariant = { λ new. new.leaf.value.root ≡ T.root_of new.leaf.value.item };
+}
+
+impl<T: Leaf + Drop> NewLeaf<T> {
+    /// The leaf of an item, whose root is known.
+    pub(crate) fn known(item: T, root: Root, alloc: Global) -> Result<NewLeaf<T>, NoMemory>
+        requires { root ≡ T.root_of item }
+        ensures { IfOk result (λ new. new ≡ item) }
+    {
+        let leaf = Rc::new(alloc, Item { root, item })?;
+        Ok(NewLeaf { leaf })
+    }
+
+    /// The tree that is this leaf.
+    pub(crate) fn node(self) -> Node<T>
+        ensures { result ≡ (0, self ∷ []) }
+    {
+        Node {
+            kind: Kind::Item(self.leaf),
+        }
+    }
 }
 
 impl<T: Leaf + Drop> Model for Node<T> {
@@ -71,6 +122,7 @@ impl<T: Leaf + Drop> Node<T> {
             Kind::Absent(depth) => zero_hash(*depth),
             Kind::Item(leaf) => leaf.root,
             Kind::Pair(pair) => pair.root,
+            Kind::Broad(broad) => broad.root,
         }
     }
 
@@ -97,10 +149,8 @@ impl<T: Leaf + Drop> Node<T> {
         requires { root ≡ T.root_of item }
         ensures { IfOk result (λ node. node ≡ (0, item ∷ [])) }
     {
-        let leaf = Rc::new(alloc, Item { root, item })?;
-        Ok(Node {
-            kind: Kind::Item(leaf),
-        })
+        let leaf = NewLeaf::known(item, root, alloc)?;
+        Ok(leaf.node())
     }
 
     /// The tree over two halves, where the hash of their roots is known.
@@ -114,9 +164,35 @@ impl<T: Leaf + Drop> Node<T> {
         requires root { root ≡ hash (merkle_root left.0 (map T.root_of left.1) ++ merkle_root right.0 (map T.root_of right.1)) }
         ensures { IfOk result (λ node. node ≡ (suc left.0, left.1 ++ right.1)) }
     {
+        if is_high(&left, BROAD) {
+            return Node::broad(left, right, root, alloc);
+        }
         let pair = Rc::new(alloc, Pair { root, left, right })?;
         Ok(Node {
             kind: Kind::Pair(pair),
+        })
+    }
+
+    /// The same, which keeps its leaves.
+    fn broad(left: Node<T>, right: Node<T>, root: Root, alloc: Global) -> Result<Node<T>, NoMemory>
+        requires halves { AreHalves left right }
+        requires root { root ≡ hash (merkle_root left.0 (map T.root_of left.1) ++ merkle_root right.0 (map T.root_of right.1)) }
+        ensures { IfOk result (λ node. node ≡ (suc left.0, left.1 ++ right.1)) }
+    {
+        let mut leaves = Vec::with_capacity(alloc, LEAVES)?;
+        gather(&left, &mut leaves)?;
+        gather(&right, &mut leaves)?;
+        let broad = Rc::new(
+            alloc,
+            Broad {
+                root,
+                left,
+                right,
+                leaves,
+            },
+        )?;
+        Ok(Node {
+            kind: Kind::Broad(broad),
         })
     }
 
@@ -137,6 +213,7 @@ impl<T: Leaf + Drop> Node<T> {
             Kind::Absent(depth) => Kind::Absent(*depth),
             Kind::Item(leaf) => Kind::Item(leaf.clone()?),
             Kind::Pair(pair) => Kind::Pair(pair.clone()?),
+            Kind::Broad(broad) => Kind::Broad(broad.clone()?),
         };
         Ok(Node { kind })
     }
@@ -150,6 +227,34 @@ impl<T: Leaf + Drop> Node<T> {
             Kind::Absent(depth) => Ok((Node::absent(*depth - 1), Node::absent(*depth - 1))),
             Kind::Item(_) => unreachable!(),
             Kind::Pair(pair) => Ok((pair.left.share()?, pair.right.share()?)),
+            Kind::Broad(broad) => Ok((broad.left.share()?, broad.right.share()?)),
+        }
+    }
+}
+
+/// Whether the first leaf of a node is so many pairs below it.
+fn is_high<T: Leaf + Drop>(node: &Node<T>, levels: u32) -> bool {
+    match &node.kind {
+        Kind::Item(_) => levels == 0,
+        Kind::Pair(pair) => levels > 0 && is_high(&pair.left, levels - 1),
+        _ => false,
+    }
+}
+
+/// Puts the leaves of a node behind the others.
+fn gather<T: Leaf + Drop>(node: &Node<T>, leaves: &mut Vec<Rc<Item<T>>>) -> Result<(), NoMemory>
+    ensures { OnOk result (map (λ leaf. leaf.value.item) leaves.new.items ≡ map (λ leaf. leaf.value.item) leaves.old.items ++ node.now.1) }
+{
+    match &node.kind {
+        Kind::Absent(_) => Ok(()),
+        Kind::Item(leaf) => Ok(leaves.push(leaf.clone()?)?),
+        Kind::Pair(pair) => {
+            gather(&pair.left, leaves)?;
+            gather(&pair.right, leaves)
+        }
+        Kind::Broad(broad) => {
+            gather(&broad.left, leaves)?;
+            gather(&broad.right, leaves)
         }
     }
 }

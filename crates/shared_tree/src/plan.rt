@@ -1,7 +1,7 @@
 //! What a tree becomes by many changes, before its new pairs are hashed.
 //!
-//! Changes come from `put`. A plan says which nodes are kept, which leaves are new, and which pairs are made of them, so that
-//! `several` can hash the pairs of a layer by one call.
+//! Changes come from `put`, with leaves of `new_leaves`. A plan says which nodes are kept, which leaves are new, and which pairs
+//! are made of them, so that `several` can hash the pairs of a layer by one call.
 
 ghost use Rattle.std.specs.Prelude.{◌≡◌, suc, ◌+◌, ◌*◌, ◌<◌, ◌≤◌, ◌^◌, ◌++◌, length, IfOk, OnOk};
 ghost use Rattle.shared_tree.specs.Lists.{AreChanges};
@@ -9,7 +9,7 @@ ghost use Rattle.shared_tree.specs.inside.Nodes.{AreHalves};
 ghost use Rattle.shared_tree.specs.inside.Plans.{planned, IsPlan};
 ghost use Rattle.shared_tree.specs.inside.Puts.{before, changed_in};
 
-use crate::node::{Node, half_width};
+use crate::node::{NewLeaf, Node, half_width};
 use crate::put::reaches;
 use bc_words::NoMemory;
 use hash_tree::Leaf;
@@ -94,7 +94,7 @@ pub(crate) fn plan_many<T: Leaf + Drop>(
     node: &Node<T>,
     depth: u32,
     from: u64,
-    changes: &mut Vec<(u64, T)>,
+    changes: &mut Vec<(u64, NewLeaf<T>)>,
     alloc: Global,
 ) -> Result<Plan<T>, NoMemory>
     requires same { depth ≡ node.now.0 }
@@ -113,7 +113,7 @@ pub(crate) fn plan_many<T: Leaf + Drop>(
     }
     if depth == 0 {
         return match changes.pop() {
-            Some((_at, item)) => Ok(Plan::made(Node::item(item, alloc)?)),
+            Some((_at, leaf)) => Ok(Plan::made(leaf.node())),
             None => unreachable!(),
         };
     }

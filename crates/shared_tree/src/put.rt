@@ -1,7 +1,7 @@
 //! A tree like another one with one item changed, or with one more.
 //!
 //! The nodes of one path are made anew, and all others are shared. Where every item changes, the tree is built layer by
-//! layer, and where many do, their pairs are hashed layer by layer.
+//! layer, and where many do, their leaves are rooted side by side and their pairs hashed layer by layer.
 
 ghost use Rattle.std.specs.Prelude.{◌≡◌, ◌+◌, ◌*◌, ◌<◌, ◌≤◌, ◌^◌, length, map, IfOk, OnOk};
 ghost use Rattle.shared_tree.specs.Lists.{AreChanges, changed};
@@ -9,6 +9,7 @@ ghost use Rattle.shared_tree.specs.inside.Puts.{put_at, Grows, before, changed_i
 
 use crate::build::leaves_of;
 use crate::layers::layered;
+use crate::new_leaves::new_leaves;
 use crate::node::{Node, half_width};
 use crate::plan::plan_many;
 use crate::several::settle_one;
@@ -137,7 +138,7 @@ pub(crate) fn new_items<T: Drop>(changes: Vec<(u64, T)>, alloc: Global) -> Resul
 
 /// The tree with the changes made. Each node is made anew once: at most a step for each level and change, and no more than
 /// there are inner nodes. Where every item changes, the tree is built layer by layer, and where there are enough changes to hash
-/// side by side, the pairs of a layer are hashed by one call.
+/// side by side, the new leaves are rooted so, and the pairs of a layer are hashed by one call.
 pub(crate) fn put_all<T: Leaf + Drop, L: Ledger>(
     node: &Node<T>,
     depth: u32,
@@ -164,7 +165,8 @@ pub(crate) fn put_all<T: Leaf + Drop, L: Ledger>(
     if changes.len() < LANES {
         return put_many(node, depth, 0, &mut changes, alloc, steps);
     }
-    let plan = plan_many(node, depth, 0, &mut changes, alloc)?;
+    let mut leaves = new_leaves(changes, alloc)?;
+    let plan = plan_many(node, depth, 0, &mut leaves, alloc)?;
     settle_one(plan, depth, alloc, steps)
 }
 

@@ -39,7 +39,8 @@ fn root_index(state: &State) -> u64
 /// Ends the slot: keeps the state's root, gives it to a block header that has none, and keeps the root of the latest
 /// block. The slot itself doesn't grow. Where memory is refused, the state is as before.
 ///
-/// The state's root is computed once. The lists of the state are shared first, which copies none.
+/// The state's root is computed once, and not at all where the state keeps it. The lists of the state are shared first, which
+/// copies none.
 #[tactic(auto, unfolding(spec_transition::specs::ProcessSlot::process_slot, spec_state::specs::Genesis::header_root_of))]
 pub fn process_slot(state: &mut State) -> Result<(), NoMemory>
     ensures { Becomes result state.old state.new (process_slot state.old) }

@@ -9,4 +9,3 @@ pub mod SoundAttestations
 pub mod Fixed
 pub mod SoundBlock
 pub mod Each
-pub mod AttestedCommittees

@@ -3,3 +3,4 @@ pub mod ItemsLoop
 pub mod ListOfParts
 pub mod HeldBits
 pub mod Halves
+pub mod Fieldwise

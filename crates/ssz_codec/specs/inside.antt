@@ -1,3 +1,4 @@
 pub mod Cutting
 pub mod HeldBits
 pub mod Halves
+pub mod Rows

@@ -1,4 +1,4 @@
-//! The variable_parts of containers, field by field: macros for the types above, whose definitions name the same fields.
+//! The bodies of containers, field by field: macros for the types above, whose definitions name the same fields.
 //!
 //! What they expand to is proved where they are called.
 
@@ -9,12 +9,21 @@ macro_rules! read_container {
     ($alloc:ident, $bytes:ident, $name:ident { $($field:ident: $type:ty),+ $(,)? }) => {{
         let fields = [$(<$type as $crate::Ssz>::field()),+];
         let mut parts = [$($crate::bytes_of_field!($bytes, $field)),+];
-        $crate::cut($bytes, &fields, &mut parts)?;
-        let [$($field),+] = parts;
-        Ok($name {
-            $($field: <$type as $crate::Ssz>::parse($alloc, $field)?),+
-        })
+        match $crate::read_row($alloc, $bytes, &fields, &mut parts) {
+            Ok(row) => {
+                let $crate::row_of!($($field)+) = row;
+                Ok($name { $($field),+ })
+            }
+            Err(fault) => Err(fault),
+        }
     }};
+}
+
+/// The pattern of a row of these values.
+#[macro_export]
+macro_rules! row_of {
+    () => { () };
+    ($first:ident $($more:ident)*) => { ($first, $crate::row_of!($($more)*)) };
 }
 
 /// The bytes, once for each field.
@@ -25,13 +34,36 @@ macro_rules! bytes_of_field {
     };
 }
 
+/// Writes pieces one behind another: `write_pieces!(out, &self.slot, Offset(12), &self.body)`.
+#[macro_export]
+macro_rules! write_pieces {
+    ($out:ident, $($piece:expr),+ $(,)?) => {
+        $crate::Pieces::put_all(&$crate::pieces_of!($($piece),+), $out)
+    };
+}
+
+/// These pieces.
+#[macro_export]
+macro_rules! pieces_of {
+    () => { () };
+    ($first:expr $(, $more:expr)*) => { ($first, $crate::pieces_of!($($more),*)) };
+}
+
 /// Writes a container of fixed size: `write_container!(self, out, epoch, root)`.
 #[macro_export]
 macro_rules! write_container {
-    ($value:expr, $out:ident, $($field:ident),+ $(,)?) => {{
-        $($crate::Ssz::write_to(&$value.$field, $out)?;)+
-        Ok(())
-    }};
+    ($value:expr, $out:ident, $($field:ident),+ $(,)?) => {
+        $crate::write_pieces!($out, $(&$value.$field),+)
+    };
+}
+
+/// Writes a container with variable parts, whose fixed part has that length:
+/// `write_variable_container!(self, out, 8, attestation_1, attestation_2)`.
+#[macro_export]
+macro_rules! write_variable_container {
+    ($value:expr, $out:ident, $fixed_length:literal, $($field:ident),+ $(,)?) => {
+        $crate::append_fields(&$crate::pieces_of!($(&$value.$field),+), $fixed_length, $out)
+    };
 }
 
 /// The root of a container: `root_of_container!(self, epoch, root)`.

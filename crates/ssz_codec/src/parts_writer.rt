@@ -111,6 +111,7 @@ impl PartsWriter {
         out.put_bytes(self.fixed.as_slice())?;
         out.put_bytes(self.variable.as_slice())
     }
+
     /// All that is written, in one piece.
     pub fn finish(self) -> Result<Vec<u8>, NoMemory>
         ensures { IfOk result (λ bytes. bytes.items ≡ whole_of self) }
@@ -123,4 +124,47 @@ impl PartsWriter {
         fixed.put_bytes(variable.as_slice())?;
         Ok(fixed.finish())
     }
+}
+
+/// Fields of a container one behind another, as they are written into its two halves: a field and the others, or none.
+pub trait FieldRow {
+    ghost use Rattle.ssz_codec.specs.inside.Halves.{Halves};
+
+    /// The two halves with these fields.
+    ghost adding: { Self → Halves → Halves };
+
+    /// Adds the fields in their order.
+    fn add_to(&self, parts: &mut PartsWriter) -> Result<(), NoMemory>
+        ensures { OnOk result (parts.new ≡ adding self.now parts.old) };
+}
+
+impl FieldRow for () {
+    ghost adding = { λ _ halves. halves };
+
+    fn add_to(&self, _parts: &mut PartsWriter) -> Result<(), NoMemory> {
+        Ok(())
+    }
+}
+
+impl<'a, T: Ssz, R: FieldRow> FieldRow for (&'a T, R) {
+    ghost adding = { λ row halves. R.adding row.1 (with_part T.codec.field (T.codec.serialize row.0.now) halves) };
+
+    fn add_to(&self, parts: &mut PartsWriter) -> Result<(), NoMemory> {
+        parts.add(self.0)?;
+        self.1.add_to(parts)
+    }
+}
+
+/// Writes a container whose fixed part has that length. Where memory is refused, a part of it may stand there.
+pub fn append_fields<R: FieldRow>(
+    fields: &R,
+    fixed_length: u64,
+    out: &mut Writer,
+) -> Result<(), NoMemory>
+    ensures ok { OnOk result (out.new ≡ out.old ++ whole_of (R.adding fields.now (nothing_written fixed_length))) }
+    ensures err { OnErr result (take (length out.old) out.new ≡ out.old) }
+{
+    let mut parts = PartsWriter::beside(out, fixed_length);
+    fields.add_to(&mut parts)?;
+    parts.append_to(out)
 }

@@ -1,22 +1,21 @@
 //! The operations of a block (beacon-chain.md, "Operations").
 
-ghost use Rattle.std.specs.Prelude.{◌≡◌, IfOk};
+ghost use Rattle.std.specs.Prelude.{◌≡◌, length, IfOk};
 ghost use Rattle.bc_words.specs.Outcome.{Moves, GivesBy};
-ghost use Rattle.spec_state.specs.Accessors.{get_current_epoch, get_previous_epoch, epoch_committees};
+ghost use Rattle.spec_state.specs.Accessors.{get_current_epoch, get_previous_epoch, get_active_validator_indices};
 ghost use Rattle.spec_blocks.specs.Checks.{each_of};
 ghost use Rattle.spec_blocks.specs.ProcessDeposit.{process_deposit};
 ghost use Rattle.spec_blocks.specs.ProcessOperations.{check_deposit_count, process_operations};
 ghost use Rattle.deposit_ops.specs.Indexes.{Indexes};
 ghost use Rattle.transition.specs.inside.Operations.{by_proposer_slashing, by_attester_slashing, by_attestation, by_exit};
 
-use attest_ops::process_attestation::process_attestation;
-use balance_totals::{committees_of_epoch, current_epoch, previous_epoch};
+use attest_ops::process_attestation::process_counted_attestation;
+use balance_totals::{count_active, current_epoch, previous_epoch};
 use bc_preset::Config;
 use bc_words::{Refusal, Stop, checked_sub};
 use beacon_body::{Attestation, AttesterSlashing, BeaconBlockBody, ProposerSlashing};
 use beacon_state::State;
 use beacon_types::{Deposit, SignedVoluntaryExit};
-use committees::EpochCommittees;
 use deposit_ops::PubkeyIndex;
 use deposit_ops::process_deposit::process_deposit;
 use exit_queue::process_voluntary_exit::process_voluntary_exit;
@@ -109,22 +108,22 @@ fn voluntary_exits(
     Ok(())
 }
 
-/// One attestation, with the committees of the state's previous and current epoch, which it leaves as they are.
-#[tactic(auto, using(spec_blocks::proofs::AttestedCommittees::previous_stays, spec_blocks::proofs::AttestedCommittees::current_stays), unfolding(crate::specs::inside::Operations::by_attestation))]
+/// One attestation, with how many validators are active in the state's previous and current epoch, which it leaves as they are.
+#[tactic(auto, using(crate::proofs::Counted::previous_stays, crate::proofs::Counted::current_stays), unfolding(crate::specs::inside::Operations::by_attestation))]
 fn attestation(
     state: &mut State,
     attestation: &Attestation,
     proposer: u64,
-    previous: &EpochCommittees,
-    current: &EpochCommittees,
+    previous: u64,
+    current: u64,
 ) -> Result<(), Stop>
-    requires previous { previous.now ≡ epoch_committees state.old (get_previous_epoch state.old) }
-    requires current { current.now ≡ epoch_committees state.old (get_current_epoch state.old) }
+    requires previous { previous ≡ length (get_active_validator_indices state.old (get_previous_epoch state.old)) }
+    requires current { current ≡ length (get_active_validator_indices state.old (get_current_epoch state.old)) }
     ensures step { Moves result state.new (by_attestation proposer state.old attestation.now) }
-    ensures previous { IfOk result (λ _. previous.now ≡ epoch_committees state.new (get_previous_epoch state.new)) }
-    ensures current { IfOk result (λ _. current.now ≡ epoch_committees state.new (get_current_epoch state.new)) }
+    ensures previous { IfOk result (λ _. previous ≡ length (get_active_validator_indices state.new (get_previous_epoch state.new))) }
+    ensures current { IfOk result (λ _. current ≡ length (get_active_validator_indices state.new (get_current_epoch state.new))) }
 {
-    process_attestation(state, attestation, proposer, previous, current)
+    process_counted_attestation(state, attestation, proposer, previous, current)
 }
 
 /// Each attestation, in order.
@@ -133,11 +132,11 @@ fn each_attestation(
     state: &mut State,
     attestations: &[Attestation],
     proposer: u64,
-    previous: &EpochCommittees,
-    current: &EpochCommittees,
+    previous: u64,
+    current: u64,
 ) -> Result<(), Stop>
-    requires previous { previous.now ≡ epoch_committees state.old (get_previous_epoch state.old) }
-    requires current { current.now ≡ epoch_committees state.old (get_current_epoch state.old) }
+    requires previous { previous ≡ length (get_active_validator_indices state.old (get_previous_epoch state.old)) }
+    requires current { current ≡ length (get_active_validator_indices state.old (get_current_epoch state.old)) }
     ensures { Moves result state.new (each_of (by_attestation proposer) state.old attestations.now) }
 {
     for voted in attestations {
@@ -146,23 +145,18 @@ fn each_attestation(
     Ok(())
 }
 
-/// The attestations of a block: the committees of the two epochs whose attestations may wait are made once for all of
-/// them, and not at all where there are none.
+/// The attestations of a block: the active validators of the two epochs whose attestations may wait are counted once for all
+/// of them, and not at all where there are none.
 #[tactic(auto, using(spec_blocks::proofs::Each::no_items))]
-fn attestations(
-    alloc: Global,
-    state: &mut State,
-    attestations: &[Attestation],
-    proposer: u64,
-) -> Result<(), Stop>
+fn attestations(state: &mut State, attestations: &[Attestation], proposer: u64) -> Result<(), Stop>
     ensures { Moves result state.new (each_of (by_attestation proposer) state.old attestations.now) }
 {
     if attestations.len() == 0 {
         return Ok(());
     }
-    let previous = committees_of_epoch(alloc, state, previous_epoch(state))?;
-    let current = committees_of_epoch(alloc, state, current_epoch(state))?;
-    each_attestation(state, attestations, proposer, &previous, &current)
+    let previous = count_active(state, previous_epoch(state));
+    let current = count_active(state, current_epoch(state));
+    each_attestation(state, attestations, proposer, previous, current)
 }
 
 /// One deposit, with the first index of each key.
@@ -228,7 +222,7 @@ pub fn process_operations(
     check_deposit_count(state, body)?;
     proposer_slashings(state, body.proposer_slashings.as_slice(), proposer, config)?;
     attester_slashings(state, body.attester_slashings.as_slice(), proposer, config)?;
-    attestations(alloc, state, body.attestations.as_slice(), proposer)?;
+    attestations(state, body.attestations.as_slice(), proposer)?;
     deposits(alloc, state, body.deposits.as_slice())?;
     voluntary_exits(state, body.voluntary_exits.as_slice(), config)
 }

@@ -37,7 +37,7 @@ fn take_block(
 {
     let mut step = process_slots(alloc, state, block.message.slot, config)?;
     process_block(alloc, &mut step.state, &block.message, config)?;
-    if block.message.state_root != step.state.root() {
+    if block.message.state_root != step.state.keep_root() {
         return Err(Stop::Refused(Refusal::StateRoot));
     }
     Ok(step)
@@ -48,7 +48,7 @@ fn take_block(
 /// latest one. The signature isn't checked.
 ///
 /// Refused, in this order: as the slots and the block are, and as `StateRoot` where the block's state root isn't that of the
-/// state behind it.
+/// state behind it. The new state keeps its root, which its next slot takes.
 #[tactic(auto, using(spec_transition::proofs::HeaderRoot::block_is_latest))]
 pub fn state_transition(
     alloc: Global,

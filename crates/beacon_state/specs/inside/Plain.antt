@@ -1,7 +1,8 @@
 -- What the fields of a state stand for, and what holds of them.
 use Rattle.std.specs.Prelude.{◌≡◌, ℕ, List}
+use Rattle.std.specs.Option.{IfSome}
 use Rattle.shared_tree.specs.Lists.{Limited}
-use Rattle.spec_state.specs.States.{votes_limit, attestations_limit}
+use Rattle.spec_state.specs.States.{state_codec, votes_limit, attestations_limit}
 use Rattle.spec_state.specs.Limits.{IsState}
 use Rattle.beacon_types.specs.declared.eth1_data.Eth1Data.{Eth1Data}
 use Rattle.beacon_types.specs.declared.validator.Validator.{Validator}
@@ -39,7 +40,7 @@ plain_of s = record {
 abbrev pub limited_to : {A : Type 0} → ℕ → List A → Limited A
 limited_to limit items = record { limit = limit; items = items }
 
--- it is a state, and each list has the limit of the preset, each vector its length
+-- it is a state, each list has the limit of the preset, each vector its length, and a root that is kept is the state's
 pub record IsHeld (s : Inside) : Type 0 where
   pub state : IsState (plain_of s)
   pub block_roots_limit : s.block_roots.limit ≡ s.preset.slots_per_historical_root
@@ -52,6 +53,7 @@ pub record IsHeld (s : Inside) : Type 0 where
   pub slashings_limit : s.slashings.limit ≡ s.preset.epochs_per_slashings_vector
   pub previous_epoch_attestations_limit : s.previous_epoch_attestations.limit ≡ attestations_limit s.preset
   pub current_epoch_attestations_limit : s.current_epoch_attestations.limit ≡ attestations_limit s.preset
+  pub kept_root : IfSome s.kept_root (λ root. root ≡ (state_codec s.preset).hash_tree_root (plain_of s))
 
 -- these are the lists of a state, each with its limit: those of roots, those by validator or epoch, and those that a period or
 -- an epoch fills

@@ -1,6 +1,7 @@
 //! Changing the fields of a state: each call says in one clause which field or place changes, and that all else stays.
 //!
-//! What may take memory answers whether it was refused, and then leaves the state as it was.
+//! What may take memory answers whether it was refused, and then leaves the state as it was. A root that was kept goes with the
+//! first change.
 
 ghost use Rattle.std.specs.Prelude.{◌≡◌, ◌<◌, [], length, slice_set};
 ghost use Rattle.bc_words.specs.Outcome.{Pushes, Becomes};
@@ -19,6 +20,7 @@ impl State {
     pub fn set_genesis_time(&mut self, time: u64)
         ensures { self.new ≡ record self.old { genesis_time = time } }
     {
+        self.kept_root = None;
         self.genesis_time = time;
     }
 
@@ -26,6 +28,7 @@ impl State {
     pub fn set_genesis_validators_root(&mut self, root: Root)
         ensures { self.new ≡ record self.old { genesis_validators_root = root } }
     {
+        self.kept_root = None;
         self.genesis_validators_root = root;
     }
 
@@ -33,6 +36,7 @@ impl State {
     pub fn set_slot(&mut self, slot: u64)
         ensures { self.new ≡ record self.old { slot = slot } }
     {
+        self.kept_root = None;
         self.slot = slot;
     }
 
@@ -40,6 +44,7 @@ impl State {
     pub fn set_fork(&mut self, fork: Fork)
         ensures { self.new ≡ record self.old { fork = fork } }
     {
+        self.kept_root = None;
         self.fork = fork;
     }
 
@@ -47,6 +52,7 @@ impl State {
     pub fn set_latest_block_header(&mut self, header: BeaconBlockHeader)
         ensures { self.new ≡ record self.old { latest_block_header = header } }
     {
+        self.kept_root = None;
         self.latest_block_header = header;
     }
 
@@ -54,6 +60,7 @@ impl State {
     pub fn set_eth1_data(&mut self, eth1_data: Eth1Data)
         ensures { self.new ≡ record self.old { eth1_data = eth1_data } }
     {
+        self.kept_root = None;
         self.eth1_data = eth1_data;
     }
 
@@ -61,6 +68,7 @@ impl State {
     pub fn set_eth1_deposit_index(&mut self, index: u64)
         ensures { self.new ≡ record self.old { eth1_deposit_index = index } }
     {
+        self.kept_root = None;
         self.eth1_deposit_index = index;
     }
 
@@ -68,6 +76,7 @@ impl State {
     pub fn set_justification_bits(&mut self, bits: [bool; 4])
         ensures { self.new ≡ record self.old { justification_bits = bits } }
     {
+        self.kept_root = None;
         self.justification_bits = bits;
     }
 
@@ -75,6 +84,7 @@ impl State {
     pub fn set_previous_justified_checkpoint(&mut self, checkpoint: Checkpoint)
         ensures { self.new ≡ record self.old { previous_justified_checkpoint = checkpoint } }
     {
+        self.kept_root = None;
         self.previous_justified_checkpoint = checkpoint;
     }
 
@@ -82,6 +92,7 @@ impl State {
     pub fn set_current_justified_checkpoint(&mut self, checkpoint: Checkpoint)
         ensures { self.new ≡ record self.old { current_justified_checkpoint = checkpoint } }
     {
+        self.kept_root = None;
         self.current_justified_checkpoint = checkpoint;
     }
 
@@ -89,6 +100,7 @@ impl State {
     pub fn set_finalized_checkpoint(&mut self, checkpoint: Checkpoint)
         ensures { self.new ≡ record self.old { finalized_checkpoint = checkpoint } }
     {
+        self.kept_root = None;
         self.finalized_checkpoint = checkpoint;
     }
 }
@@ -99,6 +111,7 @@ impl State {
         requires { i < length self.old.block_roots }
         ensures { Becomes result self.old self.new (record self.old { block_roots = slice_set self.old.block_roots i root }) }
     {
+        self.kept_root = None;
         self.block_roots.set(i, root)
     }
 
@@ -107,6 +120,7 @@ impl State {
         requires { i < length self.old.state_roots }
         ensures { Becomes result self.old self.new (record self.old { state_roots = slice_set self.old.state_roots i root }) }
     {
+        self.kept_root = None;
         self.state_roots.set(i, root)
     }
 
@@ -115,6 +129,7 @@ impl State {
         requires { i < length self.old.historical_roots }
         ensures { Becomes result self.old self.new (record self.old { historical_roots = slice_set self.old.historical_roots i root }) }
     {
+        self.kept_root = None;
         self.historical_roots.set(i, root)
     }
 
@@ -123,6 +138,7 @@ impl State {
     pub fn push_historical_roots(&mut self, root: Root) -> Result<(), PushStop>
         ensures { Pushes result self.old self.new (one_more_historical_root self.old root) }
     {
+        self.kept_root = None;
         self.historical_roots.push(root)
     }
 
@@ -131,6 +147,7 @@ impl State {
         requires { i < length self.old.eth1_data_votes }
         ensures { Becomes result self.old self.new (record self.old { eth1_data_votes = slice_set self.old.eth1_data_votes i vote }) }
     {
+        self.kept_root = None;
         self.eth1_data_votes.set(i, vote)
     }
 
@@ -139,6 +156,7 @@ impl State {
     pub fn push_eth1_data_votes(&mut self, vote: Eth1Data) -> Result<(), PushStop>
         ensures { Pushes result self.old self.new (one_more_vote self.old vote) }
     {
+        self.kept_root = None;
         self.eth1_data_votes.push(vote)
     }
 
@@ -147,6 +165,7 @@ impl State {
         requires { i < length self.old.validators }
         ensures { Becomes result self.old self.new (record self.old { validators = slice_set self.old.validators i validator }) }
     {
+        self.kept_root = None;
         self.validators.set(i, validator)
     }
 
@@ -155,6 +174,7 @@ impl State {
     pub fn push_validators(&mut self, validator: Validator) -> Result<(), PushStop>
         ensures { Pushes result self.old self.new (one_more_validator self.old validator) }
     {
+        self.kept_root = None;
         self.validators.push(validator)
     }
 
@@ -163,6 +183,7 @@ impl State {
         requires { i < length self.old.balances }
         ensures { Becomes result self.old self.new (record self.old { balances = slice_set self.old.balances i balance }) }
     {
+        self.kept_root = None;
         self.balances.set(i, balance)
     }
 
@@ -171,6 +192,7 @@ impl State {
     pub fn push_balances(&mut self, balance: u64) -> Result<(), PushStop>
         ensures { Pushes result self.old self.new (one_more_balance self.old balance) }
     {
+        self.kept_root = None;
         self.balances.push(balance)
     }
 
@@ -179,6 +201,7 @@ impl State {
         requires { i < length self.old.randao_mixes }
         ensures { Becomes result self.old self.new (record self.old { randao_mixes = slice_set self.old.randao_mixes i mix }) }
     {
+        self.kept_root = None;
         self.randao_mixes.set(i, mix)
     }
 
@@ -187,6 +210,7 @@ impl State {
         requires { i < length self.old.slashings }
         ensures { Becomes result self.old self.new (record self.old { slashings = slice_set self.old.slashings i balance }) }
     {
+        self.kept_root = None;
         self.slashings.set(i, balance)
     }
 
@@ -199,6 +223,7 @@ impl State {
         requires { i < length self.old.previous_epoch_attestations }
         ensures { Becomes result self.old self.new (with_previous_attestation_at self.old i attestation) }
     {
+        self.kept_root = None;
         self.previous_epoch_attestations.set(i, attestation)
     }
 
@@ -210,6 +235,7 @@ impl State {
     ) -> Result<(), PushStop>
         ensures { Pushes result self.old self.new (one_more_previous_attestation self.old attestation) }
     {
+        self.kept_root = None;
         self.previous_epoch_attestations.push(attestation)
     }
 
@@ -222,6 +248,7 @@ impl State {
         requires { i < length self.old.current_epoch_attestations }
         ensures { Becomes result self.old self.new (with_current_attestation_at self.old i attestation) }
     {
+        self.kept_root = None;
         self.current_epoch_attestations.set(i, attestation)
     }
 
@@ -233,6 +260,7 @@ impl State {
     ) -> Result<(), PushStop>
         ensures { Pushes result self.old self.new (one_more_current_attestation self.old attestation) }
     {
+        self.kept_root = None;
         self.current_epoch_attestations.push(attestation)
     }
 
@@ -240,6 +268,7 @@ impl State {
     pub fn clear_eth1_data_votes(&mut self) -> Result<(), NoMemory>
         ensures { Becomes result self.old self.new (record self.old { eth1_data_votes = [] }) }
     {
+        self.kept_root = None;
         self.eth1_data_votes = self.eth1_data_votes.none()?;
         Ok(())
     }
@@ -249,6 +278,7 @@ impl State {
     pub fn rotate_attestations(&mut self) -> Result<(), NoMemory>
         ensures { Becomes result self.old self.new (with_rotated_attestations self.old) }
     {
+        self.kept_root = None;
         let none = self.current_epoch_attestations.none()?;
         self.previous_epoch_attestations = mem::replace(&mut self.current_epoch_attestations, none);
         Ok(())

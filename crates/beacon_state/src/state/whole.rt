@@ -1,9 +1,12 @@
-//! Whole lists of a state: all their values written at once, and the roots of the vectors of roots.
+//! What is of a whole list or of the whole state: all values of a list written at once, the roots of the vectors of roots, and the
+//! state's root where it is kept.
 
 ghost use Rattle.std.specs.Prelude.{◌≡◌, ◌≤◌, length};
+ghost use Rattle.std.specs.Option.{IfSome};
 ghost use Rattle.bc_words.specs.Outcome.{Becomes};
 ghost use Rattle.ssz_codec.specs.Basic.{bytes32};
 ghost use Rattle.ssz_codec.specs.Lists.{vector_codec};
+ghost use Rattle.spec_state.specs.States.{state_codec};
 
 use super::State;
 use bc_words::NoMemory;
@@ -16,6 +19,7 @@ impl State {
         requires { length validators.items ≤ self.old.preset.validator_registry_limit }
         ensures { Becomes result self.old self.new (record self.old { validators = validators.items }) }
     {
+        self.kept_root = None;
         self.validators.replace(validators)
     }
 
@@ -24,6 +28,7 @@ impl State {
         requires { length balances.items ≤ self.old.preset.validator_registry_limit }
         ensures { Becomes result self.old self.new (record self.old { balances = balances.items }) }
     {
+        self.kept_root = None;
         self.balances.replace(balances)
     }
 
@@ -39,5 +44,23 @@ impl State {
         ensures { result ≡ (vector_codec bytes32 self.now.preset.slots_per_historical_root).hash_tree_root self.now.state_roots }
     {
         self.state_roots().vector_root()
+    }
+
+    /// The root of the state, where it is kept.
+    pub(crate) fn kept_root(&self) -> Option<Root>
+        ensures { IfSome result (λ root. root ≡ (state_codec self.now.preset).hash_tree_root self.now) }
+    {
+        self.kept_root
+    }
+
+    /// The root of the state (simple-serialize.md, "Merkleization"), which is kept until a field changes: `root` answers it
+    /// without a hash, and so it does for what is shared from here on. It takes no memory.
+    pub fn keep_root(&mut self) -> Root
+        ensures same { self.new ≡ self.old }
+        ensures root { result ≡ (state_codec self.old.preset).hash_tree_root self.old }
+    {
+        let root = self.root();
+        self.kept_root = Some(root);
+        root
     }
 }

@@ -1,12 +1,24 @@
--- The parts of an accepted block's way into the store, of a block's slot and root and of its state's checkpoints alone.
-use Rattle.std.specs.Prelude.{ℕ, List, ◌&&◌, ◌==◌, nat_lt, if◌then◌else◌}
+-- The checks of a block whose parent is kept, and the parts of an accepted block's way into the store, of a block's slot and root
+-- and of its state's checkpoints alone.
+use Rattle.std.specs.Prelude.{ℕ, List, ◌&&◌, ◌==◌, leb, nat_lt, if◌then◌else◌}
+use Rattle.bc_words.specs.Outcome.{Outcome}
+use Rattle.bc_words.specs.declared.refusal.Refusal.TheVariants.{FutureBlock, BeforeFinalized, NotOnFinalized}
+use Rattle.beacon_types.specs.Equality.{same_root}
 use Rattle.beacon_types.specs.declared.checkpoint.Checkpoint.{Checkpoint}
 use Rattle.beacon_body.specs.declared.block.BeaconBlock.{BeaconBlock}
 use Rattle.spec_state.specs.declared.plain.PlainState.{PlainState}
+use Rattle.spec_blocks.specs.Checks.{check, ◌>>◌}
 use Rattle.spec_transition.specs.ProcessSlots.{Stepped}
+use Rattle.spec_fork_choice.specs.GetAncestor.{get_ancestor}
 use Rattle.spec_fork_choice.specs.Store.{KeptBlock, Store}
-use Rattle.spec_fork_choice.specs.Slots.{get_current_slot}
+use Rattle.spec_fork_choice.specs.Slots.{get_current_slot, start_slot_of}
 use Rattle.spec_fork_choice.specs.OnBlock.{BlockIn, is_before_attesting_interval, with_better_justified}
+
+unfoldable pub check_block : Store → BeaconBlock → Outcome (Unit {0})
+check_block store block = do
+  check (leb block.slot (get_current_slot store)) FutureBlock
+  check (nat_lt (start_slot_of store store.finalized_checkpoint) block.slot) BeforeFinalized
+  check (same_root (get_ancestor store block.parent_root (start_slot_of store store.finalized_checkpoint)) store.finalized_checkpoint.root) NotOnFinalized
 
 unfoldable pub boosted : Store → ℕ → List ℕ → Store
 boosted store slot root =

@@ -18,13 +18,14 @@ use Rattle.fork_store.specs.inside.Trees.{IsTree}
 unfoldable pub IsRootOf : List ℕ → BeaconBlock → Type 0
 IsRootOf root block = root ≡ block_codec.hash_tree_root block
 
--- A kept block has its own root, and the state behind it is what the state transition asks for: sound, of the block's slot, with
--- the block as its latest one, and with a root that isn't zero
+-- A kept block has its own root and a slot of 64 bits, and the state behind it is what the state transition asks for: sound, of the
+-- block's slot, with the block as its latest one, and with a root that isn't zero
 pub record IsKept (kept : KeptBlock) : Type 0 where
   pub root : IsRootOf kept.root kept.block
   pub sound : IsSound kept.state
   pub slot : kept.state.slot ≡ kept.block.slot
   pub latest : IsLatest kept.state kept.block
+  pub low : kept.block.slot < 2 ^ 64
   pub some : same_root ((state_codec kept.state.preset).hash_tree_root kept.state) zero_root ≡ false
 
 -- the state behind a block that isn't kept yet: it has the block's state root

@@ -2,13 +2,14 @@
 use Rattle.std.specs.Prelude.{◌≡◌, ℕ, suc, ◌<◌, ◌≤◌, ◌^◌, List, [], ◌∷◌, ◌++◌, length, map}
 use Rattle.hash_tree.specs.Merkle.{hash, merkle_root}
 use Rattle.shared_tree.specs.declared.node.Kind.{Kind}
-use Rattle.shared_tree.specs.declared.node.Kind.TheVariants.{Absent, Item, Pair}
+use Rattle.shared_tree.specs.declared.node.Kind.TheVariants.{Absent, Item, Pair, Broad}
 
 -- the depth, and the items in order
 abbrev pub seen : {T : Type 0} → Kind T → ℕ × List T
 seen (Absent depth) = (depth, [])
 seen (Item leaf) = (0, leaf.value.item ∷ [])
 seen (Pair pair) = (suc pair.value.left.0, pair.value.left.1 ++ pair.value.right.1)
+seen (Broad broad) = (suc broad.value.left.0, broad.value.left.1 ++ broad.value.right.1)
 
 -- two trees of one depth with room for their items, where the left is full if the right has any
 pub record AreHalves {T : Type 0} (left right : ℕ × List T) : Type 0 where
@@ -29,3 +30,7 @@ IsNode root_of (Item leaf) = leaf.value.root ≡ root_of leaf.value.item
 IsNode root_of (Pair pair) =
     AreHalves pair.value.left pair.value.right
     × (pair.value.root ≡ hash (merkle_root pair.value.left.0 (map root_of pair.value.left.1) ++ merkle_root pair.value.right.0 (map root_of pair.value.right.1)))
+IsNode root_of (Broad broad) =
+    AreHalves broad.value.left broad.value.right
+    × (broad.value.root ≡ hash (merkle_root broad.value.left.0 (map root_of broad.value.left.1) ++ merkle_root broad.value.right.0 (map root_of broad.value.right.1)))
+    × (map (λ leaf. leaf.value.item) broad.value.leaves.items ≡ broad.value.left.1 ++ broad.value.right.1)

@@ -22,10 +22,13 @@ abbrev pub IsPath : {T : Type 0} → ℕ → List (ℕ × List T) → Type 0
 IsPath place [] = Unit {0}
 IsPath place (node ∷ nodes) = (node.0 ≤ place) × Joins node nodes × IsPath (suc place) nodes
 
--- the first of a node's items, with what is behind it in front of what was there, or no item and what was there
-abbrev pub Enters : {T : Type 0} → Option (Bor T) → List T → List T → List T → Type 0
-Enters (Some item) items before now = items ++ before ≡ item.now ∷ now
-Enters None items before now = (items ≡ []) × (now ≡ before)
+-- the first of a node's items, with what is behind them in front of what was there; none only where the node has none
+abbrev pub Enters : {T : Type 0} → List T → List T → List T → List T → Type 0
+Enters entered items before now = (entered ++ now ≡ items ++ before) × (length entered ≡ 0 → (items ≡ []) × (now ≡ before))
+
+-- what a walk has before it: the items of the leaves in which it stands, and those of its path
+abbrev pub standing : {T : Type 0} → List T → ℕ → List (Bor (ℕ × List T)) → List T
+standing items from path = items ++ waiting from path
 
 -- the numbers that are left of a chunk, and those of the chunks behind it
 abbrev pub behind : List ℕ → List Four → List ℕ

@@ -1,15 +1,21 @@
-use Rattle.std.proofs.Common.{◌≡◌, ◌∙◌, List, Some, None, rules, ap, subst}
+use Rattle.std.proofs.Common.{◌≡◌, ◌∙◌, List, Some, None, rules, sym, ap, subst}
 use Rattle.block_array.specs.PlainArray.{PlainArray}
 use Rattle.beacon_types.specs.declared.checkpoint.Checkpoint.{Checkpoint}
 use Rattle.block_array.specs.Calls.{with_node}
 use Rattle.spec_fork_choice.specs.Store.{KeptBlock}
+use Rattle.beacon_body.specs.declared.signed_block.SignedBeaconBlock.{SignedBeaconBlock}
+use Rattle.fork_store.specs.inside.Accepted.{kept_of}
 use Rattle.fork_store.specs.inside.Arrays.{number_of}
+use Rattle.fork_store.specs.inside.Keepers.{IsStepOn}
+use Rattle.fork_store.specs.inside.Stores.{IsKept}
+use Rattle.fork_store.specs.inside.Trees.{Follows}
+use Rattle.fork_store.proofs.Trees.{follows}
 use Rattle.fork_store.proofs.Adding.{parent_numbered, parent_fits, node_added, spare_array, block_array, array_same}
 use Rattle.fork_store.proofs.accept_block.add_block.Goals as goal
 
 pub unreachable-requires : goal.unreachable-requires
-unreachable-requires c = parent_numbered c.args.store.now.blocks c.args.block.now c.requires.parent
-    (subst (λ (blocks : List KeptBlock). None ≡ number_of blocks c.args.block.now.parent_root) c.blocks-2.ensures c.in_default.ensures)
+unreachable-requires c = parent_numbered c.args.store.now.blocks c.args.block.now.message c.requires.parent
+    (subst (λ (blocks : List KeptBlock). None ≡ number_of blocks c.args.block.now.message.parent_root) c.blocks-2.ensures c.in_default.ensures)
 
 pub returns-in_err-copy-clause-array : goal.returns-in_err-copy-clause-array
 returns-in_err-copy-clause-array c = spare_array c.args.store.now c.args.array.now c.reserve.new.self c.requires.array c.in_ok-reserve.ensures
@@ -17,23 +23,23 @@ returns-in_err-copy-clause-array c = spare_array c.args.store.now c.args.array.n
 pub returns-in_err-keep-clause-array : goal.returns-in_err-keep-clause-array
 returns-in_err-keep-clause-array c =
     array_same c.args.store.now c.keep.new.self c.reserve.new.self
-    (spare_array c.args.store.now c.args.array.now c.reserve.new.self c.requires.array c.in_ok-reserve.ensures) c.in_err-keep.ensures
+    (spare_array c.args.store.now c.args.array.now c.reserve.new.self c.requires.array c.in_ok-reserve.ensures) c.in_err-keep.ensures.kept
 
 pub push-room-requires-clause-parent : goal.push-room-requires-clause-parent
 push-room-requires-clause-parent c =
-    parent_fits c.args.store.now c.args.array.now c.reserve.new.self c.args.block.now c.in-Some.parent c.requires.array c.in_ok-reserve.ensures
-    (subst (λ (blocks : List KeptBlock). Some c.in-Some.parent ≡ number_of blocks c.args.block.now.parent_root) c.blocks-2.ensures c.in-Some.ensures)
+    parent_fits c.args.store.now c.args.array.now c.reserve.new.self c.args.block.now.message c.in-Some.parent c.requires.array c.in_ok-reserve.ensures
+    (subst (λ (blocks : List KeptBlock). Some c.in-Some.parent ≡ number_of blocks c.args.block.now.message.parent_root) c.blocks-2.ensures c.in-Some.ensures)
 
 pub returns-clause-array : goal.returns-clause-array
 returns-clause-array c =
-    block_array c.args.store.now c.keep.new.self c.args.array.now c.reserve.new.self c.push-room.new.self c.args.root c.args.block.now c.args.state c.in-Some.parent
+    block_array c.args.store.now c.keep.new.self c.args.array.now c.reserve.new.self c.push-room.new.self c.args.root c.args.block.now.message c.args.state c.in-Some.parent
     c.requires.array c.in_ok-reserve.ensures c.requires.named
-    (subst (λ (blocks : List KeptBlock). Some c.in-Some.parent ≡ number_of blocks c.args.block.now.parent_root) c.blocks-2.ensures c.in-Some.ensures)
+    (subst (λ (blocks : List KeptBlock). Some c.in-Some.parent ≡ number_of blocks c.args.block.now.message.parent_root) c.blocks-2.ensures c.in-Some.ensures)
     (search rules)
-    (subst (λ (j : Checkpoint). c.push-room.new.self ≡ with_node c.reserve.new.self c.in-Some.parent c.args.block.now.slot c.args.root (record { justified = j; finalized = c.args.state.finalized_checkpoint })) c.current_justified_checkpoint.ensures
-    (subst (λ (f : Checkpoint). c.push-room.new.self ≡ with_node c.reserve.new.self c.in-Some.parent c.args.block.now.slot c.args.root (record { justified = c.current_justified_checkpoint.result; finalized = f })) c.finalized_checkpoint.ensures
+    (subst (λ (j : Checkpoint). c.push-room.new.self ≡ with_node c.reserve.new.self c.in-Some.parent c.args.block.now.message.slot c.args.root (record { justified = j; finalized = c.args.state.finalized_checkpoint })) c.current_justified_checkpoint.ensures
+    (subst (λ (f : Checkpoint). c.push-room.new.self ≡ with_node c.reserve.new.self c.in-Some.parent c.args.block.now.message.slot c.args.root (record { justified = c.current_justified_checkpoint.result; finalized = f })) c.finalized_checkpoint.ensures
     (node_added c.push-room.result c.args.array.now c.reserve.new.self c.push-room.new.self
-    (with_node c.reserve.new.self c.in-Some.parent c.args.block.now.slot c.args.root (record { justified = c.current_justified_checkpoint.result; finalized = c.finalized_checkpoint.result }))
+    (with_node c.reserve.new.self c.in-Some.parent c.args.block.now.message.slot c.args.root (record { justified = c.current_justified_checkpoint.result; finalized = c.finalized_checkpoint.result }))
     c.in_ok-reserve.ensures c.push-room.ensures.pushed c.push-room.ensures.spare)))
 
 pub returns-in_err-copy-clause-unset : goal.returns-in_err-copy-clause-unset
@@ -47,3 +53,19 @@ returns-clause-unset c =
     ap (λ (a : PlainArray). a.balances_set)
     (node_added c.push-room.result c.args.array.now c.reserve.new.self c.push-room.new.self _ c.in_ok-reserve.ensures c.push-room.ensures.pushed c.push-room.ensures.spare)
     ∙ ap (λ (a : PlainArray). a.balances_set) c.in_ok-reserve.ensures
+
+pub keep-requires-clause-kept : goal.keep-requires-clause-kept
+keep-requires-clause-kept c = subst (λ (b : SignedBeaconBlock). IsKept (kept_of c.args.root b.message c.args.state)) (sym c.in_ok-copy.ensures) c.requires.kept
+
+pub keep-requires-clause-step : goal.keep-requires-clause-step
+keep-requires-clause-step c = subst (λ (b : SignedBeaconBlock). IsStepOn c.args.store.now.config c.args.store.now.blocks b c.args.state) (sym c.in_ok-copy.ensures) c.requires.step
+
+pub keep-requires-clause-parent : goal.keep-requires-clause-parent
+keep-requires-clause-parent c =
+    subst (λ (b : SignedBeaconBlock). Some c.in-Some.parent ≡ number_of c.args.store.now.blocks b.message.parent_root) (sym c.in_ok-copy.ensures)
+    (subst (λ (blocks : List KeptBlock). Some c.in-Some.parent ≡ number_of blocks c.args.block.now.message.parent_root) c.blocks-2.ensures c.in-Some.ensures)
+
+pub keep-requires-clause-follows : goal.keep-requires-clause-follows
+keep-requires-clause-follows c =
+    subst (λ (b : SignedBeaconBlock). Follows c.args.store.now.blocks (kept_of c.args.root b.message c.args.state)) (sym c.in_ok-copy.ensures)
+    (follows c.args.store.now.blocks c.args.root c.args.block.now.message c.args.state c.requires.fresh c.requires.parent)

@@ -1,14 +1,35 @@
-use Rattle.std.proofs.Common.{rules}
-use Rattle.fork_store.proofs.Trees.{has_parent}
-use Rattle.fork_store.proofs.Chains.{block_state_is_linked}
+-- The step from the state of the kept parent, behind the checks.
+use Rattle.std.proofs.Common.{List, rules, subst}
+use Rattle.spec_fork_choice.specs.Store.{KeptBlock}
+use Rattle.fork_store.specs.inside.Keepers.{IsStateBehind}
+use Rattle.fork_store.proofs.Stepping.{step_gives, step_done, step_parent, step_linked, stepped_on}
 use Rattle.fork_store.proofs.on_block.block_step.Goals as goal
+
+pub returns-in_err-step-clause-step : goal.returns-in_err-step-clause-step
+returns-in_err-step-clause-step c =
+    step_gives c.args.store.now c.args.block.now c.in_ok-parent.parent
+    (subst (λ (b : List KeptBlock). IsStateBehind b c.args.block.now.message.parent_root c.in_ok-parent.parent) c.blocks-2.ensures c.in_ok-parent.ensures.state)
+    c.in_ok-check_block.field-0 c.in_ok-check_block.ensures c.from_residual-in_err-step.result (search rules)
+
+pub returns-clause-step : goal.returns-clause-step
+returns-clause-step c =
+    step_done c.args.store.now c.args.block.now c.in_ok-parent.parent
+    (subst (λ (b : List KeptBlock). IsStateBehind b c.args.block.now.message.parent_root c.in_ok-parent.parent) c.blocks-2.ensures c.in_ok-parent.ensures.state)
+    c.in_ok-check_block.field-0 c.in_ok-check_block.ensures c.in_ok-step.step (rw (← c.config.ensures) c.in_ok-step.ensures.step)
 
 pub returns-clause-parent : goal.returns-clause-parent
 returns-clause-parent c =
-    has_parent c.args.store.now.blocks c.in-Some.parent.now c.args.block.now c.args.store.now.config c.in_ok-step.step c.in-Some.ensures.found c.state.ensures.kept
-    (rw (← c.state.ensures.same, ← c.config.ensures) c.in_ok-step.ensures.step)
+    step_parent c.args.store.now c.args.block.now c.in_ok-parent.parent c.in_ok-step.step
+    (subst (λ (b : List KeptBlock). IsStateBehind b c.args.block.now.message.parent_root c.in_ok-parent.parent) c.blocks-2.ensures c.in_ok-parent.ensures.state) (rw (← c.config.ensures) c.in_ok-step.ensures.step)
 
 pub returns-clause-linked : goal.returns-clause-linked
 returns-clause-linked c =
-    block_state_is_linked c.args.store.now c.in-Some.parent.now c.args.block.now c.in_ok-step.step (search rules) c.is_sound.ensures.preset c.in-Some.ensures.found c.state.ensures.kept
-    (rw (← c.state.ensures.same, ← c.config.ensures) c.in_ok-step.ensures.step)
+    step_linked c.args.store.now c.args.block.now c.in_ok-parent.parent c.in_ok-step.step
+    (subst (λ (b : List KeptBlock). IsStateBehind b c.args.block.now.message.parent_root c.in_ok-parent.parent) c.blocks-2.ensures c.in_ok-parent.ensures.state) (rw (← c.config.ensures) c.in_ok-step.ensures.step)
+    c.requires.chained c.is_sound.ensures.preset
+
+pub returns-clause-stepped : goal.returns-clause-stepped
+returns-clause-stepped c =
+    stepped_on c.args.store.now c.args.block.now c.in_ok-parent.parent c.in_ok-step.step
+    (subst (λ (b : List KeptBlock). IsStateBehind b c.args.block.now.message.parent_root c.in_ok-parent.parent) c.blocks-2.ensures c.in_ok-parent.ensures.state) (rw (← c.config.ensures) c.in_ok-step.ensures.step)
+    c.is_sound.ensures.store

@@ -24,15 +24,15 @@ returns-then-depth-eq0-clause-put g t c =
     let some = subst (λ (b : Bool). Reaches c.args.from c.deref.result.now b) c.if-not-reaches.false c.reaches.ensures in
     let one : 2 ^ c.args.depth ≡ 1 = ap (λ (d : ℕ). 2 ^ d) c.if-depth-eq0.true in
     let fits = c.requires.fits in
-    let leaf = leaf_changed c.args.from c.args.node.now.1 c.args.changes.now.items c.pop.new.self.items (c.in-Some._at, c.in-Some.item) c.in-Some.ensures.items (some.1 c.pop.new.self.items (c.in-Some._at, c.in-Some.item) (c.deref.ensures.value ∙ c.in-Some.ensures.items)) (omega arith) c.requires.places in
-    ap (λ (p : (ℕ × List _) × ℕ). p.0) c.made-in-Some.ensures ∙ (c.in_ok-item-in-Some.ensures ∙ (ap (λ (xs : List _). (0, xs)) (sym leaf.0) ∙ ap (λ (d : ℕ). (d, changed_in c.args.from c.args.node.now.1 c.args.changes.now.items)) (sym c.if-depth-eq0.true)))
+    let leaf = leaf_changed c.args.from c.args.node.now.1 c.args.changes.now.items c.pop.new.self.items (c.in-Some._at, c.in-Some.leaf) c.in-Some.ensures.items (some.1 c.pop.new.self.items (c.in-Some._at, c.in-Some.leaf) (c.deref.ensures.value ∙ c.in-Some.ensures.items)) (omega arith) c.requires.places in
+    ap (λ (p : (ℕ × List _) × ℕ). p.0) c.made-in-Some.ensures ∙ (c.node.ensures ∙ (ap (λ (xs : List _). (0, xs)) (sym leaf.0) ∙ ap (λ (d : ℕ). (d, changed_in c.args.from c.args.node.now.1 c.args.changes.now.items)) (sym c.if-depth-eq0.true)))
 
 pub returns-then-depth-eq0-clause-rest : goal.returns-then-depth-eq0-clause-rest
 returns-then-depth-eq0-clause-rest g t c =
     let some = subst (λ (b : Bool). Reaches c.args.from c.deref.result.now b) c.if-not-reaches.false c.reaches.ensures in
     let one : 2 ^ c.args.depth ≡ 1 = ap (λ (d : ℕ). 2 ^ d) c.if-depth-eq0.true in
     let fits = c.requires.fits in
-    let leaf = leaf_changed c.args.from c.args.node.now.1 c.args.changes.now.items c.pop.new.self.items (c.in-Some._at, c.in-Some.item) c.in-Some.ensures.items (some.1 c.pop.new.self.items (c.in-Some._at, c.in-Some.item) (c.deref.ensures.value ∙ c.in-Some.ensures.items)) (omega arith) c.requires.places in
+    let leaf = leaf_changed c.args.from c.args.node.now.1 c.args.changes.now.items c.pop.new.self.items (c.in-Some._at, c.in-Some.leaf) c.in-Some.ensures.items (some.1 c.pop.new.self.items (c.in-Some._at, c.in-Some.leaf) (c.deref.ensures.value ∙ c.in-Some.ensures.items)) (omega arith) c.requires.places in
     leaf.1
 
 pub plan_many-requires : goal.plan_many-requires

@@ -1,6 +1,7 @@
 -- All items are new, or the changes are made from the last on, or planned.
 use Rattle.std.proofs.Common.{◌≡◌, ℕ, List, length, ap, subst, ◌∙◌, arith}
 use Rattle.std.specs.Prelude.{IfOk}
+use Rattle.shared_tree.specs.inside.Puts.{changed_in}
 use Rattle.shared_tree.proofs.Every.{every_set}
 use Rattle.shared_tree.proofs.Keeps.{width_low}
 use Rattle.shared_tree.proofs.Many.{changed_all}
@@ -28,6 +29,7 @@ plan_many-requires-clause-within g c =
 
 pub returns-clause-put : goal.returns-clause-put
 returns-clause-put g c =
+    let same = ap (changed_in 0 c.args.node.now.1) c.in_ok-leaves.ensures ∙ changed_all c.args.node.now.1 c.args.changes.items in
     subst (λ (v : ℕ × List _). IfOk c.settle_one.result (λ new. new ≡ v))
-    (c.in_ok-plan.ensures.put ∙ ap (λ (xs : List _). (c.args.depth, xs)) (changed_all c.args.node.now.1 c.args.changes.items))
+    (c.in_ok-plan.ensures.put ∙ ap (λ (xs : List _). (c.args.depth, xs)) same)
     c.settle_one.ensures.made

@@ -1,7 +1,6 @@
-use Rattle.std.proofs.Common.{◌≡◌, ℕ, List, ◌++◌, refl, ap, subst, ◌∙◌}
+use Rattle.std.proofs.Common.{◌≡◌, ℕ, List, ◌++◌, refl, subst}
 use Rattle.std.specs.Result.{OnOk}
 use Rattle.ssz_codec.specs.Containers.{layout_of, parts_of}
-use Rattle.ssz_codec.specs.inside.Halves.{whole_of}
 use Rattle.ssz_codec.proofs.Halves.{halves_joined}
 use Rattle.beacon_body.specs.Containers.{block_body_fields}
 use Rattle.beacon_body.proofs.body.BeaconBlockBodySsz.append_to.Goals as goal
@@ -9,6 +8,6 @@ use Rattle.beacon_body.proofs.body.BeaconBlockBodySsz.append_to.Goals as goal
 -- the two halves are the writing
 pub returns-clause-ok : goal.returns-clause-ok
 returns-clause-ok c =
-    subst (λ (whole : List ℕ). OnOk c.append_to.result (c.append_to.new.out ≡ c.args.out.now ++ whole))
-    (ap whole_of c.in_ok-parts.ensures ∙ halves_joined (layout_of block_body_fields) (parts_of block_body_fields c.args.self.now) 220 refl)
-    c.append_to.ensures.ok
+    subst (λ (whole : List ℕ). OnOk c.write_variable_container.result (c.write_variable_container.new.out ≡ c.args.out.now ++ whole))
+    (halves_joined (layout_of block_body_fields) (parts_of block_body_fields c.args.self.now) 220 refl)
+    c.write_variable_container.ensures.ok

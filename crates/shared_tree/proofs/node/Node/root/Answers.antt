@@ -24,3 +24,12 @@ returns-in-Pair g c =
     ∙ (kept.1
     ∙ (root_of_halves g.T.Leaf.root_of c.in-Pair.pair.value.left c.in-Pair.pair.value.right kept.0
     ∙ ap (λ (v : ℕ × List _). merkle_root v.0 (map g.T.Leaf.root_of v.1)) view))
+
+pub returns-in-Broad : goal.returns-in-Broad
+returns-in-Broad g c =
+    let kept = subst (IsNode g.T.Leaf.root_of) c.in-Broad.is c.self.invariant in
+    let view = ap seen (sym c.in-Broad.is) ∙ c.self.view_is in
+    ap (λ broad. broad.root) c.deref-in-Broad.ensures
+    ∙ (kept.1
+    ∙ (root_of_halves g.T.Leaf.root_of c.in-Broad.broad.value.left c.in-Broad.broad.value.right kept.0
+    ∙ ap (λ (v : ℕ × List _). merkle_root v.0 (map g.T.Leaf.root_of v.1)) view))

@@ -1,6 +1,6 @@
 use Rattle.std.proofs.Common.{refl}
 use Rattle.spec_state.specs.States.{state_fields, state_codec}
-use Rattle.beacon_state.proofs.state.State.root.Goals as goal
+use Rattle.beacon_state.proofs.state.State.taken_root.Goals as goal
 
 -- the root of each field, and what it is taken of
 pub returns : goal.returns

@@ -1,0 +1,103 @@
+-- Whether somebody attested, by how many validators are active and by the published definitions.
+use Rattle.std.proofs.Common.{◌≡◌, ℕ, zero, suc, ◌+◌, ◌≤◌, Bool, true, false, cond, not, nat_eq, List, [], ◌∷◌, length, drop, Result, refl, sym, ap, ◌∙◌, ltb, arith}
+use Rattle.std.specs.List.{list_any}
+use Rattle.std.proofs.lemmas.Bool.{eqb-true, ne_eqb}
+use Rattle.std.proofs.lemmas.List.FromFn.{length-map-range_with_len}
+use Rattle.bc_words.specs.Outcome.{done, refused, bind, GivesExactly}
+use Rattle.bc_words.specs.declared.refusal.Refusal.TheVariants.{AtIndex, AtBits}
+use Rattle.bc_words.specs.declared.stop.Stop.{Stop}
+use Rattle.beacon_types.specs.declared.attestation_data.AttestationData.{AttestationData}
+use Rattle.beacon_body.specs.declared.attestation.Attestation.{Attestation}
+use Rattle.committees.specs.Committees.{compute_committee, committee_count_per_slot}
+use Rattle.spec_state.specs.declared.plain.PlainState.{PlainState}
+use Rattle.spec_state.specs.Misc.{compute_epoch_at_slot}
+use Rattle.spec_state.specs.Accessors.{get_active_validator_indices, get_committee_count_per_slot, get_beacon_committee, get_attesting_indices, members_with_bits}
+use Rattle.spec_blocks.specs.Checks.{check}
+use Rattle.spec_blocks.specs.ProcessAttestation.{check_committee}
+use Rattle.attest_ops.specs.inside.Bits.{is_set}
+use Rattle.attest_ops.specs.inside.Attested.{is_attested, Attests}
+use Rattle.attest_ops.specs.inside.Counted.{committee_len, attested_with, attested_among}
+use Rattle.attest_ops.proofs.Attested.{behind, flag}
+
+-- ---- whether one of the bits is set
+
+dropped : {A : Type 0} (i : ℕ) → drop i (let none : List A = [] in none) ≡ []
+dropped zero = refl
+dropped (suc i) = refl
+
+none_set : (i : ℕ) → list_any (λ bit. bit) (drop i []) ≡ false
+none_set i = ap (list_any (λ bit. bit)) (dropped i)
+
+pub any_begin : (bits : List Bool) → list_any (λ bit. bit) (drop 0 bits) ≡ list_any (λ bit. bit) bits
+any_begin bits = refl
+
+pub any_here : (bits : List Bool) (i : ℕ) → is_set bits i ≡ true → list_any (λ bit. bit) (drop i bits) ≡ true
+any_here [] i h = absurd cc
+any_here (true ∷ bits) zero h = refl
+any_here (false ∷ bits) zero h = absurd cc
+any_here (bit ∷ bits) (suc i) h = any_here bits i h
+
+pub any_next : (bits : List Bool) (i : ℕ) → is_set bits i ≡ false → list_any (λ bit. bit) (drop i bits) ≡ list_any (λ bit. bit) (drop (i + 1) bits)
+any_next [] i h = none_set i ∙ sym (none_set (i + 1))
+any_next (true ∷ bits) zero h = absurd cc
+any_next (false ∷ bits) zero h = refl
+any_next (bit ∷ bits) (suc i) h = any_next bits i h ∙ ap (λ k. list_any (λ b. b) (drop k (bit ∷ bits))) (let e : suc (i + 1) ≡ suc i + 1 = omega arith in e)
+
+pub any_end : (bits : List Bool) (i : ℕ) → length bits ≤ i → list_any (λ bit. bit) (drop i bits) ≡ false
+any_end [] i h = none_set i
+any_end (bit ∷ bits) zero h = absurd (omega arith)
+any_end (bit ∷ bits) (suc i) h = any_end bits i (omega arith)
+
+some : (member : ℕ) (members : List ℕ) → not (nat_eq (length (member ∷ members)) 0) ≡ true
+some member members = ap not (ne_eqb (length (member ∷ members)) 0 (λ (e : length (member ∷ members) ≡ 0). let no : ⊥ = omega arith in no))
+
+-- as many bits as members: somebody attested where one is set
+any_is : (committee : List ℕ) (bits : List Bool) → length bits ≡ length committee → list_any (λ bit. bit) bits ≡ not (nat_eq (length (members_with_bits committee bits)) 0)
+unfolding members_with_bits
+any_is [] [] e = refl
+any_is [] (bit ∷ bits) e = absurd (omega arith)
+any_is (member ∷ committee) [] e = absurd (omega arith)
+any_is (member ∷ committee) (true ∷ bits) e = sym (some member (members_with_bits committee bits))
+any_is (member ∷ committee) (false ∷ bits) e = any_is committee bits (omega arith)
+
+-- ---- the published checks
+
+behind_check : (holds x y : Bool) → (holds ≡ true → x ≡ y) → bind (check holds AtBits) (λ _. done x) ≡ bind (check holds AtBits) (λ _. done y)
+behind_check true x y is = ap done (is refl)
+behind_check false x y is = refl
+
+with_committee : (committee : List ℕ) (bits : List Bool)
+    → attested_with (length committee) bits ≡ bind (check (nat_eq (length bits) (length committee)) AtBits) (λ _. done (not (nat_eq (length (members_with_bits committee bits)) 0)))
+with_committee committee bits = behind_check (nat_eq (length bits) (length committee)) _ _ (λ h. any_is committee bits (eqb-true _ _ h))
+
+either_way : (committee : List ℕ) (bits : List Bool) (has : Bool)
+    → cond has (attested_with (length committee) bits) (refused AtIndex) ≡ bind (bind (check has AtIndex) (λ _. check (nat_eq (length bits) (length committee)) AtBits)) (λ _. done (not (nat_eq (length (members_with_bits committee bits)) 0)))
+either_way committee bits true = with_committee committee bits
+either_way committee bits false = refl
+
+-- the members of a committee, counted
+len_here : (state : PlainState) (slot index : ℕ) → length (get_beacon_committee state slot index) ≡ committee_len state.preset (length (get_active_validator_indices state (compute_epoch_at_slot state.preset slot))) slot index
+unfolding get_beacon_committee compute_committee get_committee_count_per_slot committee_len
+len_here state slot index = length-map-range_with_len _ _ _
+
+len_is : (state : PlainState) (epoch slot index : ℕ) → compute_epoch_at_slot state.preset slot ≡ epoch → length (get_beacon_committee state slot index) ≡ committee_len state.preset (length (get_active_validator_indices state epoch)) slot index
+len_is state epoch slot index e = len_here state slot index ∙ ap (λ n. committee_len state.preset (length (get_active_validator_indices state n)) slot index) e
+
+attested_is : (state : PlainState) (voted : AttestationData) (bits : List Bool) → compute_epoch_at_slot state.preset voted.slot ≡ voted.target.epoch
+    → attested_among state.preset (length (get_active_validator_indices state voted.target.epoch)) voted.slot voted.index bits ≡ bind (check_committee state voted bits) (λ _. done (flag state voted bits))
+unfolding check_committee get_committee_count_per_slot get_attesting_indices
+attested_is state voted bits slot =
+    ap (λ n. cond (ltb voted.index (committee_count_per_slot state.preset (length (get_active_validator_indices state voted.target.epoch)))) (attested_with n bits) (refused AtIndex)) (sym (len_is state voted.target.epoch voted.slot voted.index slot))
+    ∙ either_way (get_beacon_committee state voted.slot voted.index) bits (ltb voted.index (committee_count_per_slot state.preset (length (get_active_validator_indices state voted.target.epoch))))
+
+pub attests : (state : PlainState) (attestation : Attestation) (active : ℕ) (result : Result Bool Stop)
+    → compute_epoch_at_slot state.preset attestation.content.slot ≡ attestation.content.target.epoch
+    → active ≡ length (get_active_validator_indices state attestation.content.target.epoch)
+    → GivesExactly result (attested_among state.preset active attestation.content.slot attestation.content.index attestation.aggregation_bits)
+    → Attests result (check_committee state attestation.content attestation.aggregation_bits) (is_attested state attestation)
+unfolding is_attested
+attests state attestation active result slot is e =
+    let same : attested_among state.preset active attestation.content.slot attestation.content.index attestation.aggregation_bits ≡ bind (check_committee state attestation.content attestation.aggregation_bits) (λ _. done (flag state attestation.content attestation.aggregation_bits)) =
+    ap (λ n. attested_among state.preset n attestation.content.slot attestation.content.index attestation.aggregation_bits) is
+    ∙ attested_is state attestation.content attestation.aggregation_bits slot in
+    behind result (check_committee state attestation.content attestation.aggregation_bits) (flag state attestation.content attestation.aggregation_bits) (rw same at e)

@@ -1,0 +1,115 @@
+//! Records of ticks, votes and blocks, in which most slots have a block: what a store takes for 1,488 events, against the hashes
+//! that they need, and for ten times as many.
+
+ghost use Rattle.std.specs.Prelude.{◌≡◌};
+
+use crate::chain::{Shape, Told, chain};
+use crate::genesis::{Network, genesis_bytes, read_state};
+use crate::hashes::time_pairs;
+use crate::ratio::Ratio;
+use crate::running::run_store;
+use anyhow::Result;
+use bc_preset::Config;
+use beacon_state::State;
+use std::rt::Files;
+use std::time::{CpuClock, Duration};
+
+/// How many slots the short record has: with 15 blocks in 16 slots, two committees a slot, and votes that come again behind their
+/// block, 1,488 events.
+const SLOTS: u64 = 256;
+
+/// How many times as long the long record is.
+const TIMES: u64 = 10;
+
+/// Of how many slots one has no block.
+const EVERY: u64 = 16;
+
+/// The pairs whose hashing takes as long as that of the single blocks of a proposer: two for each of ten rounds, the seed, and the mix
+/// of its randomness.
+const PROPOSER: u64 = 12;
+
+/// The same of the committees of an epoch: a source and a pivot for each of ten rounds, and the seed.
+const COMMITTEES: u64 = 11;
+
+/// Adds the hashes beside those of roots: committees of each epoch once, the proposer of each block once.
+fn add_others(told: &mut Told, slots: u64) {
+    let epochs = slots / 8;
+    let blocks = slots.saturating_sub(slots / EVERY);
+    told.pairs.add(epochs.saturating_mul(COMMITTEES));
+    told.pairs.add(blocks.saturating_mul(PROPOSER));
+}
+
+/// Takes a store through a record, and prints what its parts took, against its hashes. Gives the whole time.
+fn measure_told(
+    rt: &(impl AllocGlobal + Print + CpuClock + Files),
+    config: &Config,
+    genesis: &State,
+    told: &Told,
+) -> Result<Duration>
+    requires preset { genesis.now.preset ≡ config.now.preset }
+{
+    let times = run_store(rt, config, genesis, &told.events)?;
+    times.tell(rt, told.events.len())?;
+    let ratio = Ratio {
+        whole: times.whole(),
+        measure: time_pairs(rt, &told.pairs)?,
+    };
+    let (alone, lanes) = (told.pairs.alone, told.pairs.lanes);
+    println!(rt; "  against {alone} pairs one by one and {lanes} in lanes: {ratio}")?;
+    Ok(times.whole())
+}
+
+/// Makes a record of so many slots, and measures it.
+fn measure_slots(
+    rt: &(impl AllocGlobal + Print + CpuClock + Files),
+    config: &Config,
+    genesis: &State,
+    slots: u64,
+) -> Result<Duration>
+    requires preset { genesis.now.preset ≡ config.now.preset }
+{
+    let shape = Shape {
+        every: EVERY,
+        votes: 1,
+    };
+    let mut told = chain(rt.alloc(), genesis, config, slots, shape)?;
+    add_others(&mut told, slots);
+    measure_told(rt, config, genesis, &told)
+}
+
+/// Measures the short record and the long one, and prints how many times the short one's time the long one took.
+fn measure_from(
+    rt: &(impl AllocGlobal + Print + CpuClock + Files),
+    config: &Config,
+    genesis: &State,
+) -> Result<()>
+    requires preset { genesis.now.preset ≡ config.now.preset }
+{
+    let measure = measure_slots(rt, config, genesis, SLOTS)?;
+    let whole = measure_slots(rt, config, genesis, SLOTS * TIMES)?;
+    let ratio = Ratio { whole, measure };
+    println!(rt; "{TIMES} times as many events: {ratio}")?;
+    Ok(())
+}
+
+/// Reads the genesis state, and measures the records from there.
+fn measure_state(
+    rt: &(impl AllocGlobal + Print + CpuClock + Files),
+    config: &Config,
+    bytes: &[u8],
+) -> Result<()> {
+    match read_state(rt.alloc(), config.preset(), bytes) {
+        Ok(genesis) => measure_from(rt, config, &genesis),
+        Err(fault) => Err(fault.into()),
+    }
+}
+
+/// Reads the configuration and the genesis state of the minimal network, and measures the records from there.
+pub fn measure(rt: &(impl AllocGlobal + Print + CpuClock + Files)) -> Result<()> {
+    let network = Network::minimal();
+    let bytes = genesis_bytes(rt.alloc(), &network)?;
+    match Config::read(network.config) {
+        Ok(config) => measure_state(rt, &config, &bytes),
+        Err(fault) => Err(fault.into()),
+    }
+}

@@ -1,0 +1,125 @@
+//! The values of a container's fields, read or written one behind another. The parts come from cutting the container,
+//! and the values go into it; those that are written come from it.
+
+ghost use Rattle.std.specs.Prelude.{◌≡◌, ◌<◌, ◌^◌, ◌++◌, List, [], ℕ, Option, OnOk, OnErr, length, map, take};
+ghost use Rattle.ssz_codec.specs.Layout.{◌and_then◌, fixed_length, offset_bytes, cut as cut_of};
+ghost use Rattle.ssz_codec.specs.Reads.{ReadsAs};
+ghost use Rattle.ssz_codec.specs.inside.Rows.{nothing_read, read_before};
+
+use crate::fault::SszFault;
+use crate::layout::{Field, cut};
+use crate::ssz::Ssz;
+use crate::writer::Writer;
+use bc_words::NoMemory;
+use std::alloc::Global;
+
+/// Values one behind another: a value and the others, or none.
+pub trait Row: Drop {
+    /// The values that the parts have, one each.
+    ghost reading: { List (List ℕ) → Option Self };
+
+    /// Reads a value of each part.
+    fn read_parts(alloc: Global, parts: &[&[u8]]) -> Result<Self, SszFault>
+        ensures { ReadsAs result (reading (map (λ part. part.now) parts.now)) };
+}
+
+impl Row for () {
+    ghost reading = { nothing_read };
+
+    fn read_parts(_alloc: Global, parts: &[&[u8]]) -> Result<(), SszFault> {
+        match parts {
+            [] => Ok(()),
+            _ => Err(SszFault::NotAWriting),
+        }
+    }
+}
+
+impl<A: Ssz, R: Row> Row for (A, R) {
+    ghost reading = { read_before A.codec R.reading };
+
+    fn read_parts(alloc: Global, parts: &[&[u8]]) -> Result<(A, R), SszFault> {
+        match parts {
+            [part, more @ ..] => {
+                let value = A::parse(alloc, part)?;
+                let rest = R::read_parts(alloc, more)?;
+                Ok((value, rest))
+            }
+            [] => Err(SszFault::NotAWriting),
+        }
+    }
+}
+
+/// Reads the values of the fields of a container. `parts` is what it is cut into.
+pub fn read_row<'a, R: Row>(
+    alloc: Global,
+    bytes: &'a [u8],
+    fields: &[Field],
+    parts: &mut [&'a [u8]],
+) -> Result<R, SszFault>
+    requires same { length parts.old ≡ length fields.now }
+    requires room { fixed_length fields.now < 2 ^ 32 }
+    ensures { ReadsAs result (cut_of fields.now bytes.now and_then R.reading) }
+{
+    cut(bytes, fields, parts)?;
+    R::read_parts(alloc, parts)
+}
+
+/// What is written into the fixed part of a container, or behind it.
+pub trait Piece {
+    /// Its bytes.
+    ghost writing: { Self → List ℕ };
+
+    /// Writes it behind what is written already. Where memory is refused, the writer is as before.
+    fn put(&self, out: &mut Writer) -> Result<(), NoMemory>
+        ensures ok { OnOk result (out.new ≡ out.old ++ writing self.now) }
+        ensures err { OnErr result (out.new ≡ out.old) };
+}
+
+impl<'a, T: Ssz> Piece for &'a T {
+    ghost writing = { λ value. T.codec.serialize value.now };
+
+    fn put(&self, out: &mut Writer) -> Result<(), NoMemory> {
+        (*self).write_to(out)
+    }
+}
+
+/// The offset of a variable part.
+#[derive(Drop)]
+pub struct Offset(pub u32);
+
+impl Piece for Offset {
+    ghost writing = { λ offset. offset_bytes offset.0 };
+
+    fn put(&self, out: &mut Writer) -> Result<(), NoMemory> {
+        out.put_u32(self.0)
+    }
+}
+
+/// Pieces one behind another: a piece and the others, or none.
+pub trait Pieces {
+    /// The bytes of all.
+    ghost writings: { Self → List ℕ };
+
+    /// Writes them behind what is written already. Where memory is refused, some of them may stand there.
+    fn put_all(&self, out: &mut Writer) -> Result<(), NoMemory>
+        ensures ok { OnOk result (out.new ≡ out.old ++ writings self.now) }
+        ensures err { OnErr result (take (length out.old) out.new ≡ out.old) };
+}
+
+impl Pieces for () {
+    ghost writings = { λ _. [] };
+
+    fn put_all(&self, _out: &mut Writer) -> Result<(), NoMemory> {
+        Ok(())
+    }
+}
+
+impl<P: Piece, R: Pieces> Pieces for (P, R) {
+    ghost writings = { λ pieces. P.writing pieces.0 ++ R.writings pieces.1 };
+
+    #[tactic(auto, using(crate::proofs::Fieldwise::front_stays))]
+    fn put_all(&self, out: &mut Writer) -> Result<(), NoMemory> {
+        self.0.put(out)?;
+        self.1.put_all(out)
+    }
+}
