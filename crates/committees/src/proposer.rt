@@ -1,10 +1,11 @@
 //! The proposer of a slot: the first candidate whose effective balance passes a random test.
 
 ghost use Rattle.std.specs.Prelude.{◌≡◌, ℕ, ◌<◌, ◌≤◌, ◌^◌, length, slice_index};
-ghost use Rattle.bc_words.specs.Outcome.{GivesExactly};
+ghost use Rattle.bc_words.specs.Outcome.{GivesExactly, bind};
 ghost use Rattle.bc_words.specs.Searches.{first_from};
 ghost use Rattle.bc_preset.specs.Presets.{IsPreset};
-ghost use Rattle.committees.specs.Proposers.{candidate, random_byte, weighs_enough, candidate_passes, proposer_below};
+ghost use Rattle.committees.specs.Proposers.{candidate, random_byte, weighs_enough, candidate_passes, candidate_found, proposer_below};
+ghost use Rattle.committees.specs.inside.Passing.{Passing};
 
 use crate::lookup::Lookup;
 use bc_preset::Preset;
@@ -50,45 +51,54 @@ fn weighs_enough(preset: &Preset, balance: u64, byte: u8) -> Result<bool, Stop>
     Ok(least <= weighed)
 }
 
-/// Whether the candidate with number `i` passes.
+/// The index of the candidate with number `i`, where it passes.
 #[tactic(auto, unfolding(crate::specs::Proposers::candidate_passes))]
-fn candidate_passes<S: Lookup>(active: &[u64], state: &S, seed: &Root, i: u64) -> Result<bool, Stop>
+fn passing<S: Lookup>(
+    active: &[u64],
+    state: &S,
+    seed: &Root,
+    i: u64,
+) -> Result<Option<u64>, Stop>
     requires some { 0 < length active.now }
     requires fits { length active.now ≤ 2 ^ 40 }
     requires in_registry { (k : ℕ) → k < length active.now → slice_index active.now k < S.registry_of state.now }
-    ensures { GivesExactly result (candidate_passes (S.preset_of state.now) (S.effective_at state.now) active.now seed.now i) }
+    ensures { Passing result (candidate_passes (S.preset_of state.now) (S.effective_at state.now) active.now seed.now i) (candidate (S.preset_of state.now) active.now seed.now i) }
 {
     let preset = state.preset();
     let index = candidate(preset, active, seed, i);
-    weighs_enough(preset, state.effective(index), random_byte(seed, i))
+    if weighs_enough(preset, state.effective(index), random_byte(seed, i))? {
+        Ok(Some(index))
+    } else {
+        Ok(None)
+    }
 }
 
-/// The least number below `bound` of a candidate that passes.
-#[tactic(auto, using(bc_words::proofs::Searches::first_index))]
+/// The candidate with the least number below `bound` that passes. The limit comes where none does.
+#[tactic(auto, using(crate::proofs::Found::found_first), unfolding(crate::specs::Proposers::candidate_found))]
 fn first_passing<S: Lookup>(
     active: &[u64],
     state: &S,
     seed: &Root,
     bound: u64,
-) -> Result<Option<u64>, Stop>
+) -> Result<u64, Stop>
     requires some { 0 < length active.now }
     requires fits { length active.now ≤ 2 ^ 40 }
     requires in_registry { (k : ℕ) → k < length active.now → slice_index active.now k < S.registry_of state.now }
-    ensures { GivesExactly result (first_from (candidate_passes (S.preset_of state.now) (S.effective_at state.now) active.now seed.now) bound 0) }
+    ensures { GivesExactly result (bind (first_from (candidate_passes (S.preset_of state.now) (S.effective_at state.now) active.now seed.now) bound 0) (candidate_found (S.preset_of state.now) active.now seed.now)) }
 {
     for i in 0..bound {
-        if candidate_passes(active, state, seed, i)? {
-            return Ok(Some(i));
+        if let Some(index) = passing(active, state, seed, i)? {
+            return Ok(index);
         }
     }
-    Ok(None)
+    Err(Stop::Limit(Limit::Proposer))
 }
 
 /// The proposer by this seed (beacon-chain.md, `compute_proposer_index`), of the first `bound` candidates.
 ///
 /// `active` has at most 2^40 indices, each in the registry. Refused where nobody is active, and where a balance is
 /// too great to be weighed; the limit comes where no candidate passes.
-#[tactic(auto, unfolding(crate::specs::Proposers::proposer_below, crate::specs::Proposers::candidate_found))]
+#[tactic(auto, unfolding(crate::specs::Proposers::proposer_below))]
 pub fn pick_proposer<S: Lookup>(
     active: &[u64],
     state: &S,
@@ -102,8 +112,5 @@ pub fn pick_proposer<S: Lookup>(
     if active.is_empty() {
         return Err(Stop::Refused(Refusal::NoActive));
     }
-    match first_passing(active, state, seed, bound)? {
-        Some(i) => Ok(candidate(state.preset(), active, seed, i)),
-        None => Err(Stop::Limit(Limit::Proposer)),
-    }
+    first_passing(active, state, seed, bound)
 }
