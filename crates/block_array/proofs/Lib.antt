@@ -7,6 +7,7 @@ pub mod Items
 pub mod Messages
 pub mod Noting
 pub mod Ranks
+pub mod Summing
 pub mod Votes
 pub mod Walks
 pub mod Weights

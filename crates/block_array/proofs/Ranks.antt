@@ -45,21 +45,21 @@ module _ (ranks : List Rank) (p j : ℕ) (rank : Rank) where
   unfolding rank_at
   rank_other n = get_or-set_other ranks p j rank no_rank n
 
-pub fresh_more : (counts : Counts) (ranks : List Rank) (n : ℕ) → n < length ranks → AreFresh counts ranks n → AreFresh counts (set ranks n (record { weight = own_at counts n; has_child = false; child = None; descendant = 0 })) (n + 1)
+pub fresh_more : (counts : Counts) (first : ℕ) (ranks : List Rank) (n : ℕ) → n < length ranks → AreFresh counts first ranks n → AreFresh counts first (set ranks n (record { weight = own_at counts n; has_child = false; child = None; descendant = 0 })) (n + 1)
 unfolding AreFresh
-fresh_more counts ranks n inside fresh = λ j h. by j h (cases_eq j n)
+fresh_more counts first ranks n inside fresh = λ j f h. by j f h (cases_eq j n)
   where
-    by : (j : ℕ) → j < n + 1 → (j ≡ n) ⊎ (j ≡ n → ⊥) → rank_at (set ranks n (record { weight = own_at counts n; has_child = false; child = None; descendant = 0 })) j ≡ record { weight = own_at counts j; has_child = false; child = None; descendant = 0 }
-    by j h (inl same) = rank_same ranks n j (record { weight = own_at counts n; has_child = false; child = None; descendant = 0 }) inside same ∙ ap (λ k. record { weight = own_at counts k; has_child = false; child = None; descendant = 0 }) (sym same)
-    by j h (inr other) = rank_other ranks n j (record { weight = own_at counts n; has_child = false; child = None; descendant = 0 }) other ∙ fresh j (omega arith)
+    by : (j : ℕ) → first ≤ j → j < n + 1 → (j ≡ n) ⊎ (j ≡ n → ⊥) → rank_at (set ranks n (record { weight = own_at counts n; has_child = false; child = None; descendant = 0 })) j ≡ record { weight = own_at counts j; has_child = false; child = None; descendant = 0 }
+    by j f h (inl same) = rank_same ranks n j (record { weight = own_at counts n; has_child = false; child = None; descendant = 0 }) inside same ∙ ap (λ k. record { weight = own_at counts k; has_child = false; child = None; descendant = 0 }) (sym same)
+    by j f h (inr other) = rank_other ranks n j (record { weight = own_at counts n; has_child = false; child = None; descendant = 0 }) other ∙ fresh j f (omega arith)
 
-pub fresh_none : (counts : Counts) (ranks : List Rank) (n : ℕ) → n ≡ 0 → AreFresh counts ranks n
+pub fresh_none : (counts : Counts) (first : ℕ) (ranks : List Rank) (n : ℕ) → n ≤ first → AreFresh counts first ranks n
 unfolding AreFresh
-fresh_none counts ranks n z = λ j h. absurd (omega arith)
+fresh_none counts first ranks n z = λ j f h. absurd (omega arith)
 
-pub fresh_all : (counts : Counts) (ranks : List Rank) (n m : ℕ) → m ≤ n → AreFresh counts ranks n → AreFresh counts ranks m
+pub fresh_all : (counts : Counts) (first : ℕ) (ranks : List Rank) (n m : ℕ) → m ≤ n → AreFresh counts first ranks n → AreFresh counts first ranks m
 unfolding AreFresh
-fresh_all counts ranks n m h fresh = λ j i. fresh j (omega arith)
+fresh_all counts first ranks n m h fresh = λ j f i. fresh j f (omega arith)
 
 pub ruleset beginning = (fresh_more, fresh_none, fresh_all)
 
@@ -227,7 +227,7 @@ module _ (array : PlainArray) (tree : IsTree array.nodes) where
 
 -- ---- a node is done
 
-module _ (array : PlainArray) (counts : Counts) (tree : IsTree array.nodes) (below : All (IsBelow (length array.nodes)) (all_of counts)) (ranks : List Rank) (p : ℕ) (inside : p < length array.nodes) (ranked : IsRanked array counts ranks (suc p)) (node : Node) (at : slice_get array.nodes p ≡ Some node) (head : ℕ) (head_is : IsHeadFrom array p head) where
+module _ (array : PlainArray) (counts : Counts) (tree : IsTree array.nodes) (below : All (IsBelow (length array.nodes)) (all_of counts)) (ranks : List Rank) (p : ℕ) (inside : p < length array.nodes) (past_first : array.justified_node ≤ p) (ranked : IsRanked array counts ranks (suc p)) (node : Node) (at : slice_get array.nodes p ≡ Some node) (head : ℕ) (head_is : IsHeadFrom array p head) where
   abbrev mine : Rank
   mine = rank_at ranks p
 
@@ -253,18 +253,35 @@ module _ (array : PlainArray) (counts : Counts) (tree : IsTree array.nodes) (bel
   length_done : length done ≡ length array.nodes
   length_done = length-set ranks p (record mine { descendant = head }) ∙ ranked.length_is
 
+  -- where no node from the justified one on is its parent
+  ranked_apart : ((j : ℕ) → array.justified_node ≤ j → is_child_at array.nodes j p ≡ false) → ((j : ℕ) → array.justified_node ≤ j → j < length array.nodes → weight_from array.nodes counts p j ≡ weight_from array.nodes counts (suc p) j) → IsRanked array counts done p
+  unfolding is_child
+  ranked_apart no_child unmoved = record {
+    length_is = length_done;
+    weight = λ j f h. done_at (λ r. r.weight) refl j (cases_eq j p) ∙ ranked.weight j f h ∙ sym (unmoved j f h);
+    has_child = λ j f h. done_at (λ r. r.has_child) refl j (cases_eq j p) ∙ ranked.has_child j f h ∙ sym (any_opens array p node at j ∙ ap (λ b. b || list_any (is_child j) (drop (suc p) array.nodes)) (is_child_opens array p node at j ∙ no_child j f));
+    child = λ j f h. done_at (λ r. r.child) refl j (cases_eq j p) ∙ ranked.child j f h ∙ sym (child_stays array p node at j (no_child j f));
+    descendant = λ j past h. head_at j past h (cases_eq j p);
+  }
+
   pub ranked_alone : node.parent ≡ None → IsRanked array counts done p
-  unfolding is_child is_child_at
+  unfolding is_child_at
   ranked_alone none =
       let parent : parent_at array.nodes p ≡ None = parent_opens array p node at ∙ none in
-      let no_child : (j : ℕ) → is_child_at array.nodes j p ≡ false = λ j. ap (λ o. option_map_or (λ q. eqb q j) o false) parent in
-      record {
-        length_is = length_done;
-        weight = λ j h. done_at (λ r. r.weight) refl j (cases_eq j p) ∙ ranked.weight j h ∙ sym (weight_unmoved array.nodes counts tree below p parent j);
-        has_child = λ j h. done_at (λ r. r.has_child) refl j (cases_eq j p) ∙ ranked.has_child j h ∙ sym (any_opens array p node at j ∙ ap (λ b. b || list_any (is_child j) (drop (suc p) array.nodes)) (is_child_opens array p node at j ∙ no_child j));
-        child = λ j h. done_at (λ r. r.child) refl j (cases_eq j p) ∙ ranked.child j h ∙ sym (child_stays array p node at j (no_child j));
-        descendant = λ j past h. head_at j past h (cases_eq j p);
-      }
+      ranked_apart (λ j f. ap (λ o. option_map_or (λ q. eqb q j) o false) parent) (λ j f h. weight_unmoved array.nodes counts tree below p parent j)
+
+  pub ranked_past : (q : ℕ) → node.parent ≡ Some q → q < array.justified_node → IsRanked array counts done p
+  unfolding is_child_at
+  ranked_past q first before =
+      let parent : parent_at array.nodes p ≡ Some q = parent_opens array p node at ∙ first in
+      let less : q < p = parent_below array.nodes tree p q parent in
+      let other : (j : ℕ) → array.justified_node ≤ j → eqb q j ≡ false = λ j f. ne_eqb q j (λ s. omega arith) in
+      ranked_apart
+      (λ j f. ap (λ o. option_map_or (λ x. eqb x j) o false) parent ∙ other j f)
+      (λ j f h.
+      let all : weight_from array.nodes counts p j ≡ weight_from array.nodes counts (suc p) j + cond (eqb q j) (weight_from array.nodes counts (suc p) p) 0 = weight_given array.nodes counts tree below p q parent less j h in
+      let c : cond (eqb q j) (weight_from array.nodes counts (suc p) p) 0 ≡ 0 = ap (λ b. cond b (weight_from array.nodes counts (suc p) p) 0) (other j f) in
+      omega arith)
 
   module _ (q : ℕ) (first : node.parent ≡ Some q) (viable : Bool) (viable_of : viable ≡ cond mine.has_child (is_some mine.child) (agrees array node)) where
     abbrev theirs : Rank
@@ -292,64 +309,64 @@ module _ (array : PlainArray) (counts : Counts) (tree : IsTree array.nodes) (bel
     child_test j = ap (λ o. option_map_or (λ x. eqb x j) o false) parent
 
     viable_here : viable ≡ is_viable array p node (drop (suc p) array.nodes) (viable_from array (suc p))
-    viable_here = viable_of ∙ viable_is array p node at mine.has_child mine.child (ranked.has_child p inside) (ranked.child p inside)
+    viable_here = viable_of ∙ viable_is array p node at mine.has_child mine.child (ranked.has_child p past_first inside) (ranked.child p past_first inside)
 
-    weight_at : (j : ℕ) → j < length array.nodes → (j ≡ q) ⊎ (j ≡ q → ⊥) → (rank_at (set done q gained) j).weight ≡ weight_from array.nodes counts p j
-    weight_at j h (inl same) =
+    weight_at : (j : ℕ) → array.justified_node ≤ j → j < length array.nodes → (j ≡ q) ⊎ (j ≡ q → ⊥) → (rank_at (set done q gained) j).weight ≡ weight_from array.nodes counts p j
+    weight_at j f h (inl same) =
         let given_is : (rank_at (set done q gained) j).weight ≡ theirs.weight + mine.weight = ap (λ (r : Rank). r.weight) (rank_same done q j gained in_done same) in
-        let before : theirs.weight ≡ weight_from array.nodes counts (suc p) j = done_at (λ r. r.weight) refl q (cases_eq q p) ∙ ap (λ k. (rank_at ranks k).weight) (sym same) ∙ ranked.weight j h in
-        let own : mine.weight ≡ weight_from array.nodes counts (suc p) p = ranked.weight p inside in
+        let before : theirs.weight ≡ weight_from array.nodes counts (suc p) j = done_at (λ r. r.weight) refl q (cases_eq q p) ∙ ap (λ k. (rank_at ranks k).weight) (sym same) ∙ ranked.weight j f h in
+        let own : mine.weight ≡ weight_from array.nodes counts (suc p) p = ranked.weight p past_first inside in
         let all : weight_from array.nodes counts p j ≡ weight_from array.nodes counts (suc p) j + cond (eqb q j) (weight_from array.nodes counts (suc p) p) 0 = weight_given array.nodes counts tree below p q parent less j h in
         let c : cond (eqb q j) (weight_from array.nodes counts (suc p) p) 0 ≡ weight_from array.nodes counts (suc p) p = ap (λ b. cond b (weight_from array.nodes counts (suc p) p) 0) (eq-eqb q j (sym same)) in
         omega arith
-    weight_at j h (inr n) =
-        let before : (rank_at (set done q gained) j).weight ≡ weight_from array.nodes counts (suc p) j = ap (λ (r : Rank). r.weight) (rank_other done q j gained n) ∙ done_at (λ r. r.weight) refl j (cases_eq j p) ∙ ranked.weight j h in
+    weight_at j f h (inr n) =
+        let before : (rank_at (set done q gained) j).weight ≡ weight_from array.nodes counts (suc p) j = ap (λ (r : Rank). r.weight) (rank_other done q j gained n) ∙ done_at (λ r. r.weight) refl j (cases_eq j p) ∙ ranked.weight j f h in
         let all : weight_from array.nodes counts p j ≡ weight_from array.nodes counts (suc p) j + cond (eqb q j) (weight_from array.nodes counts (suc p) p) 0 = weight_given array.nodes counts tree below p q parent less j h in
         let c : cond (eqb q j) (weight_from array.nodes counts (suc p) p) 0 ≡ 0 = ap (λ b. cond b (weight_from array.nodes counts (suc p) p) 0) (ne_eqb q j (λ s. n (sym s))) in
         omega arith
 
-    has_at : (j : ℕ) → j < length array.nodes → (j ≡ q) ⊎ (j ≡ q → ⊥) → (rank_at (set done q gained) j).has_child ≡ list_any (is_child j) (drop p array.nodes)
-    has_at j h (inl same) =
+    has_at : (j : ℕ) → array.justified_node ≤ j → j < length array.nodes → (j ≡ q) ⊎ (j ≡ q → ⊥) → (rank_at (set done q gained) j).has_child ≡ list_any (is_child j) (drop p array.nodes)
+    has_at j f h (inl same) =
         ap (λ (r : Rank). r.has_child) (rank_same done q j gained in_done same)
         ∙ sym (any_opens array p node at j ∙ ap (λ b. b || list_any (is_child j) (drop (suc p) array.nodes)) (is_child_opens array p node at j ∙ child_test j ∙ eq-eqb q j (sym same)))
-    has_at j h (inr n) =
-        ap (λ (r : Rank). r.has_child) (rank_other done q j gained n) ∙ done_at (λ r. r.has_child) refl j (cases_eq j p) ∙ ranked.has_child j h
+    has_at j f h (inr n) =
+        ap (λ (r : Rank). r.has_child) (rank_other done q j gained n) ∙ done_at (λ r. r.has_child) refl j (cases_eq j p) ∙ ranked.has_child j f h
         ∙ sym (any_opens array p node at j ∙ ap (λ b. b || list_any (is_child j) (drop (suc p) array.nodes)) (is_child_opens array p node at j ∙ child_test j ∙ ne_eqb q j (λ s. n (sym s))))
 
-    child_at : (j : ℕ) → j < length array.nodes → (j ≡ q) ⊎ (j ≡ q → ⊥) → (rank_at (set done q gained) j).child ≡ best_child array p j
-    child_at j h (inl same) =
-        let before : theirs.child ≡ best_child array (suc p) j = done_at (λ r. r.child) refl q (cases_eq q p) ∙ ap (λ k. (rank_at ranks k).child) (sym same) ∙ ranked.child j h in
+    child_at : (j : ℕ) → array.justified_node ≤ j → j < length array.nodes → (j ≡ q) ⊎ (j ≡ q → ⊥) → (rank_at (set done q gained) j).child ≡ best_child array p j
+    child_at j f h (inl same) =
+        let before : theirs.child ≡ best_child array (suc p) j = done_at (λ r. r.child) refl q (cases_eq q p) ∙ ap (λ k. (rank_at ranks k).child) (sym same) ∙ ranked.child j f h in
         ap (λ (r : Rank). r.child) (rank_same done q j gained in_done same)
         ∙ ap (λ o. cond viable (Some (better_child array p o)) o) before
         ∙ ap (λ b. cond b (Some (better_child array p (best_child array (suc p) j))) (best_child array (suc p) j)) viable_here
         ∙ sym (child_offered array p node at j (child_test j ∙ eq-eqb q j (sym same)))
-    child_at j h (inr n) =
-        ap (λ (r : Rank). r.child) (rank_other done q j gained n) ∙ done_at (λ r. r.child) refl j (cases_eq j p) ∙ ranked.child j h
+    child_at j f h (inr n) =
+        ap (λ (r : Rank). r.child) (rank_other done q j gained n) ∙ done_at (λ r. r.child) refl j (cases_eq j p) ∙ ranked.child j f h
         ∙ sym (child_stays array p node at j (child_test j ∙ ne_eqb q j (λ s. n (sym s))))
 
     pub ranked_given : IsRanked array counts (set done q gained) p
     ranked_given = record {
       length_is = length-set done q gained ∙ length_done;
-      weight = λ j h. weight_at j h (cases_eq j q);
-      has_child = λ j h. has_at j h (cases_eq j q);
-      child = λ j h. child_at j h (cases_eq j q);
+      weight = λ j f h. weight_at j f h (cases_eq j q);
+      has_child = λ j f h. has_at j f h (cases_eq j q);
+      child = λ j f h. child_at j f h (cases_eq j q);
       descendant = λ j past h. subst (λ (r : Rank). IsHeadFrom array j r.descendant) (sym (rank_other done q j gained (λ s. let l : q < p = less in omega arith))) (head_at j past h (cases_eq j p));
     }
 
-  module _ (counted : IsCounted array counts) (q : ℕ) (first : node.parent ≡ Some q) (low : (test : ℕ → Bool) → counted_at test (all_of counts) < 2 ^ 113) where
+  module _ (counted : IsCounted array counts) (q : ℕ) (first : node.parent ≡ Some q) (from_first : array.justified_node ≤ q) (low : (test : ℕ → Bool) → counted_at test (all_of counts) < 2 ^ 113) where
     parent_before : q < p
     parent_before = parent_below array.nodes tree p q (parent_opens array p node at ∙ first)
 
-    weight_low : (j : ℕ) → j < length array.nodes → (rank_at ranks j).weight < 2 ^ 113
+    weight_low : (j : ℕ) → array.justified_node ≤ j → j < length array.nodes → (rank_at ranks j).weight < 2 ^ 113
     unfolding weight_from
-    weight_low j h = subst (λ w. w < 2 ^ 113) (sym (ranked.weight j h)) (low (λ n. reaches (length array.nodes) array.nodes (suc p) n j))
+    weight_low j f h = subst (λ w. w < 2 ^ 113) (sym (ranked.weight j f h)) (low (λ n. reaches (length array.nodes) array.nodes (suc p) n j))
 
     weighed_done : (j : ℕ) → suc p ≤ suc j → j < length array.nodes → IsWeighed array done j
     unfolding IsWeighed
-    weighed_done j past h = done_at (λ r. r.weight) refl j (cases_eq j p) ∙ ranked.weight j h ∙ weight_whole array.nodes counts tree below (suc p) j past ∙ weight_is array j counts counted
+    weighed_done j past h = done_at (λ r. r.weight) refl j (cases_eq j p) ∙ ranked.weight j (omega arith) h ∙ weight_whole array.nodes counts tree below (suc p) j past ∙ weight_is array j counts counted
 
     child_done : (rank_at done q).child ≡ best_child array (suc p) q
-    child_done = done_at (λ r. r.child) refl q (cases_eq q p) ∙ ranked.child q (let l : q < p = parent_before in omega arith)
+    child_done = done_at (λ r. r.child) refl q (cases_eq q p) ∙ ranked.child q from_first (let l : q < p = parent_before in omega arith)
 
     if_some : (P : ℕ → Type 0) (o : Option ℕ) → ((c : ℕ) → o ≡ Some c → P c) → IfSome o P
     if_some P None f = tt
@@ -369,8 +386,8 @@ module _ (array : PlainArray) (counts : Counts) (tree : IsTree array.nodes) (bel
           fits =
               let a : (rank_at done q).weight ≡ (rank_at ranks q).weight = done_at (λ r. r.weight) refl q (cases_eq q p) in
               let b : (rank_at done p).weight ≡ (rank_at ranks p).weight = done_at (λ r. r.weight) refl p (cases_eq p p) in
-              let x : (rank_at ranks q).weight < 2 ^ 113 = weight_low q (omega arith) in
-              let y : (rank_at ranks p).weight < 2 ^ 113 = weight_low p inside in
+              let x : (rank_at ranks q).weight < 2 ^ 113 = weight_low q from_first (omega arith) in
+              let y : (rank_at ranks p).weight < 2 ^ 113 = weight_low p past_first inside in
               omega arith;
           weighed = weighed_done p (omega arith) inside;
           child_in = if_some (λ child. child < length done) (rank_at done q).child (λ c e. let b = between c e in let d : c < length array.nodes = b.below in omega arith);
@@ -386,60 +403,63 @@ module _ (array : PlainArray) (counts : Counts) (tree : IsTree array.nodes) (bel
 
 -- ---- the same of what the code read
 
-module _ (array : PlainArray) (counts : Counts) (tree : IsTree array.nodes) (below : All (IsBelow (length array.nodes)) (all_of counts)) (ranks : List Rank) (p : ℕ) (inside : p < length array.nodes) (ranked : IsRanked array counts ranks (suc p)) (node : Node) (at : slice_get array.nodes p ≡ Some node) (head : ℕ) (head_is : IsHeadFrom array p head) (mine : Rank) (mine_is : mine ≡ rank_at ranks p) where
+module _ (array : PlainArray) (counts : Counts) (tree : IsTree array.nodes) (below : All (IsBelow (length array.nodes)) (all_of counts)) (ranks : List Rank) (p : ℕ) (inside : p < length array.nodes) (past_first : array.justified_node ≤ p) (ranked : IsRanked array counts ranks (suc p)) (node : Node) (at : slice_get array.nodes p ≡ Some node) (head : ℕ) (head_is : IsHeadFrom array p head) (mine : Rank) (mine_is : mine ≡ rank_at ranks p) where
   pub step_alone : node.parent ≡ None → IsRanked array counts (set ranks p (record mine { descendant = head })) p
-  step_alone none = subst (λ (m : Rank). IsRanked array counts (set ranks p (record m { descendant = head })) p) (sym mine_is) (ranked_alone array counts tree below ranks p inside ranked node at head head_is none)
+  step_alone none = subst (λ (m : Rank). IsRanked array counts (set ranks p (record m { descendant = head })) p) (sym mine_is) (ranked_alone array counts tree below ranks p inside past_first ranked node at head head_is none)
 
-  module _ (counted : IsCounted array counts) (q : ℕ) (first : node.parent ≡ Some q) (low : (test : ℕ → Bool) → counted_at test (all_of counts) < 2 ^ 113) where
+  pub step_past : (q : ℕ) → node.parent ≡ Some q → q < array.justified_node → IsRanked array counts (set ranks p (record mine { descendant = head })) p
+  step_past q first before = subst (λ (m : Rank). IsRanked array counts (set ranks p (record m { descendant = head })) p) (sym mine_is) (ranked_past array counts tree below ranks p inside past_first ranked node at head head_is q first before)
+
+  module _ (counted : IsCounted array counts) (q : ℕ) (first : node.parent ≡ Some q) (from_first : array.justified_node ≤ q) (low : (test : ℕ → Bool) → counted_at test (all_of counts) < 2 ^ 113) where
     pub step_can : CanGive array (set ranks p (record mine { descendant = head })) p q
-    step_can = subst (λ (m : Rank). CanGive array (set ranks p (record m { descendant = head })) p q) (sym mine_is) (can_give array counts tree below ranks p inside ranked node at head head_is counted q first low)
+    step_can = subst (λ (m : Rank). CanGive array (set ranks p (record m { descendant = head })) p q) (sym mine_is) (can_give array counts tree below ranks p inside past_first ranked node at head head_is counted q first from_first low)
 
     pub step_gave : (viable : Bool) → viable ≡ cond mine.has_child (is_some mine.child) (agrees array node) → (new : List Rank) → new ≡ set (set ranks p (record mine { descendant = head })) q (given array (set ranks p (record mine { descendant = head })) p q viable) → IsRanked array counts new p
     step_gave viable viable_of new new_is =
         subst (λ (rs : List Rank). IsRanked array counts rs p) (sym new_is)
         (subst (λ (m : Rank). IsRanked array counts (set (set ranks p (record m { descendant = head })) q (given array (set ranks p (record m { descendant = head })) p q viable)) p) (sym mine_is)
-        (ranked_gave array counts tree below ranks p inside ranked node at head head_is counted q first low viable
+        (ranked_gave array counts tree below ranks p inside past_first ranked node at head head_is counted q first from_first low viable
         (viable_of ∙ ap (λ (m : Rank). cond m.has_child (is_some m.child) (agrees array node)) mine_is)))
 
 -- ---- the head of a node that is to be done
 
-module _ (array : PlainArray) (counts : Counts) (tree : IsTree array.nodes) (ranks : List Rank) (p : ℕ) (inside : p < length array.nodes) (ranked : IsRanked array counts ranks (suc p)) where
+module _ (array : PlainArray) (counts : Counts) (tree : IsTree array.nodes) (ranks : List Rank) (p : ℕ) (inside : p < length array.nodes) (past_first : array.justified_node ≤ p) (ranked : IsRanked array counts ranks (suc p)) where
   pub child_between : (c : ℕ) → (rank_at ranks p).child ≡ Some c → IsBetween array (suc p) (length array.nodes) c
-  child_between c e = best_between array (suc p) p c (omega arith) (sym (ranked.child p inside) ∙ e)
+  child_between c e = best_between array (suc p) p c (omega arith) (sym (ranked.child p past_first inside) ∙ e)
 
   pub heads_itself : (rank_at ranks p).child ≡ None → IsHeadFrom array p p
-  heads_itself e = head_none array tree p inside (sym (ranked.child p inside) ∙ e)
+  heads_itself e = head_none array tree p inside (sym (ranked.child p past_first inside) ∙ e)
 
   pub heads_on : (c : ℕ) → (rank_at ranks p).child ≡ Some c → IsHeadFrom array p (rank_at ranks c).descendant
   heads_on c e =
       let b = child_between c e in
       let above : suc p ≤ c = b.above in
-      head_some array tree p c (rank_at ranks c).descendant inside (sym (ranked.child p inside) ∙ e) (omega arith) (ranked.descendant c above b.below)
+      head_some array tree p c (rank_at ranks c).descendant inside (sym (ranked.child p past_first inside) ∙ e) (omega arith) (ranked.descendant c above b.below)
 
 pub ruleset heading = (heads_itself, heads_on)
 
 -- ---- all nodes
 
 module _ (array : PlainArray) (counts : Counts) (tree : IsTree array.nodes) (below : All (IsBelow (length array.nodes)) (all_of counts)) (ranks : List Rank) where
-  pub ranked_none : length ranks ≡ length array.nodes → ((j : ℕ) → j < length array.nodes → rank_at ranks j ≡ record { weight = own_at counts j; has_child = false; child = None; descendant = 0 }) → IsRanked array counts ranks (length array.nodes)
+  pub ranked_none : length ranks ≡ length array.nodes → ((j : ℕ) → array.justified_node ≤ j → j < length array.nodes → rank_at ranks j ≡ record { weight = own_at counts j; has_child = false; child = None; descendant = 0 }) → IsRanked array counts ranks (length array.nodes)
   unfolding best_child best_among children_of viable_from filter_block_tree
   ranked_none l fresh =
       let over : drop (length array.nodes) array.nodes ≡ [] = drop_all (length array.nodes) array.nodes (omega arith) in
       record {
         length_is = l;
-        weight = λ j h. ap (λ (r : Rank). r.weight) (fresh j h) ∙ sym (weight_begins array.nodes counts tree below j);
-        has_child = λ j h. ap (λ (r : Rank). r.has_child) (fresh j h) ∙ sym (ap (list_any (is_child j)) over);
-        child = λ j h. ap (λ (r : Rank). r.child) (fresh j h) ∙ sym (ap (λ ns. best_among array (filter (is_child_at array.nodes j) (filter_block_tree array (length array.nodes) ns))) over);
+        weight = λ j f h. ap (λ (r : Rank). r.weight) (fresh j f h) ∙ sym (weight_begins array.nodes counts tree below j);
+        has_child = λ j f h. ap (λ (r : Rank). r.has_child) (fresh j f h) ∙ sym (ap (list_any (is_child j)) over);
+        child = λ j f h. ap (λ (r : Rank). r.child) (fresh j f h) ∙ sym (ap (λ ns. best_among array (filter (is_child_at array.nodes j) (filter_block_tree array (length array.nodes) ns))) over);
         descendant = λ j past h. absurd (omega arith);
       }
 
-  pub weight_made : (low j : ℕ) → IsCounted array counts → IsRanked array counts ranks low → low ≤ suc j → j < length array.nodes → (rank_at ranks j).weight ≡ get_latest_attesting_balance array j
-  weight_made low j counted ranked past h = ranked.weight j h ∙ weight_whole array.nodes counts tree below low j past ∙ weight_is array j counts counted
+  pub weight_made : (low j : ℕ) → IsCounted array counts → IsRanked array counts ranks low → low ≤ suc j → array.justified_node ≤ j → j < length array.nodes → (rank_at ranks j).weight ≡ get_latest_attesting_balance array j
+  weight_made low j counted ranked past f h = ranked.weight j f h ∙ weight_whole array.nodes counts tree below low j past ∙ weight_is array j counts counted
 
-  pub ranked_all : IsCounted array counts → IsRanked array counts ranks 0 → IsMade array ranks
-  ranked_all counted ranked = record {
-    weights = λ j h. weight_made 0 j counted ranked (omega arith) h;
-    heads = λ j h. ranked.descendant j (omega arith) h;
+  pub ranked_all : (low : ℕ) → low ≡ array.justified_node → IsCounted array counts → IsRanked array counts ranks low → IsMade array ranks
+  ranked_all low is counted ranked = record {
+    weights = λ j f h. weight_made low j counted ranked (omega arith) f h;
+    heads = λ j f h. ranked.descendant j (omega arith) h;
   }
 
 pub ruleset settling = (ranked_all)

@@ -1,5 +1,5 @@
 -- The array stays whole.
-use Rattle.std.proofs.Common.{◌≡◌, ℕ, zero, suc, ◌+◌, ◌<◌, ◌≤◌, ◌⊎◌, inl, inr, Bool, true, false, cond, List, [], ◌∷◌, ◌++◌, length, Option, Some, None, Result, Ok, Err, OnErr, is_ok, refl, sym, ap, ◌∙◌, subst, arith, length-append}
+use Rattle.std.proofs.Common.{◌≡◌, ℕ, zero, suc, ◌+◌, ◌<◌, ◌≤◌, ◌⊎◌, inl, inr, Bool, true, false, cond, List, [], ◌∷◌, ◌++◌, length, get_or, Option, Some, None, Result, Ok, Err, OnErr, is_ok, refl, sym, ap, ◌∙◌, subst, arith, length-append}
 use Rattle.std.specs.Option.{option_map_or}
 use Rattle.std.proofs.lemmas.Bool.{cases_lt}
 use Rattle.std.proofs.lemmas.List.{get_or_past}
@@ -17,7 +17,7 @@ use Rattle.block_array.specs.GetHead.{goes_before, best_of, children_of, next_he
 use Rattle.block_array.specs.FilterBlockTree.{agrees, is_viable, with_viable, filter_block_tree, get_filtered_block_tree}
 use Rattle.block_array.specs.GetLatestAttestingBalance.{votes_for, validators_of, attestation_score, proposer_score, is_boosted, get_latest_attesting_balance}
 use Rattle.block_array.specs.inside.Counts.{Counts, nothing, counted_of}
-use Rattle.block_array.specs.inside.Held.{due}
+use Rattle.block_array.specs.inside.Held.{due, boost_due}
 use Rattle.block_array.specs.inside.Ranks.{rank_at, IsCounted, IsMade, IsHeadFrom}
 use Rattle.block_array.proofs.Noting.{due_none}
 use Rattle.block_array.specs.inside.Noted.{count_changed, IsNoted, IsUnchanged, IsArray}
@@ -77,9 +77,13 @@ module _ (array : PlainArray) (changed : List ℕ) (set any : Bool) (nodes valid
   pub made_same : (ranks : List Rank) → IsMade array ranks → IsMade other ranks
   unfolding IsHeadFrom
   made_same ranks m = record {
-    weights = λ j h. m.weights j h ∙ sym (weight_same j);
-    heads = λ j h steps enough. head_same steps (get_filtered_block_tree other) j ∙ ap (λ tree. head_within steps array tree j) filtered_same ∙ m.heads j h steps enough;
+    weights = λ j f h. m.weights j f h ∙ sym (weight_same j);
+    heads = λ j f h steps enough. head_same steps (get_filtered_block_tree other) j ∙ ap (λ tree. head_within steps array tree j) filtered_same ∙ m.heads j f h steps enough;
   }
+
+  pub due_same : (counts : Counts) → IsCounted array counts → IsCounted other counts
+  unfolding due boost_due balance_of message_of proposer_score
+  due_same counts c = record { nodes = c.nodes; length_is = c.length_is; validators = c.validators; boost = c.boost }
 
 -- ---- each call
 
@@ -132,9 +136,17 @@ module _ (array : PlainArray) (counts : Counts) (ranks : List Rank) (rank_room :
       })
       noted
 
+counted_rooms : (array : PlainArray) (counts after : Counts) → IsCounted array counts → after.validators ≡ counts.validators → after.nodes ≡ counts.nodes → after.boost ≡ counts.boost → IsCounted array after
+counted_rooms array counts after c vs ns boost = record {
+  nodes = ns ∙ c.nodes;
+  length_is = ap length vs ∙ c.length_is;
+  validators = subst (λ (ws : List Counted). (v : ℕ) → v < length ws → get_or ws v nothing ≡ due array v) (sym vs) c.validators;
+  boost = boost ∙ c.boost;
+}
+
 -- rooms alone change
-pub kept_rooms : (array : PlainArray) (counts after : Counts) (ranks ranks₁ : List Rank) (rank_room rank_room₁ : ℕ) → IsArray array counts ranks rank_room → ranks₁ ≡ ranks → after.validators ≡ counts.validators → after.nodes ≡ counts.nodes → counts.node_room ≤ after.node_room → counts.validator_room ≤ after.validator_room → rank_room ≤ rank_room₁ → IsArray array after ranks₁ rank_room₁
-kept_rooms array counts after ranks ranks₁ rank_room rank_room₁ a same vs ns nodes validators room =
+pub kept_rooms : (array : PlainArray) (counts after : Counts) (ranks ranks₁ : List Rank) (rank_room rank_room₁ : ℕ) → IsArray array counts ranks rank_room → ranks₁ ≡ ranks → after.validators ≡ counts.validators → after.nodes ≡ counts.nodes → after.boost ≡ counts.boost → counts.node_room ≤ after.node_room → counts.validator_room ≤ after.validator_room → rank_room ≤ rank_room₁ → IsArray array after ranks₁ rank_room₁
+kept_rooms array counts after ranks ranks₁ rank_room rank_room₁ a same vs ns boost nodes validators room =
     let t = a.tally_nodes in let v = a.tally_validators in let r = a.rank_nodes in
     subst (λ (rs : List Rank). IsArray array after rs rank_room₁) (sym same)
     (record {
@@ -147,7 +159,7 @@ kept_rooms array counts after ranks ranks₁ rank_room rank_room₁ a same vs ns
         current = λ e k f. ap (λ ws. counted_of ws k) vs ∙ a.noted.current e k (sym (ap (λ ws. (counted_of ws k).changed) vs) ∙ f);
       };
       length_is = a.length_is;
-      unchanged = a.unchanged;
+      unchanged = λ e. (let u = a.unchanged e in record { counted = counted_rooms array counts after u.counted vs ns boost; made = u.made; changed = u.changed; balances = u.balances });
       tally_nodes = omega arith;
       rank_nodes = omega arith;
       tally_validators = omega arith;
@@ -165,8 +177,8 @@ kept_spare array counts ranks rank_room nodes validators a t r v = record {
   tally_validators = v;
 }
   where
-    same : IsUnchanged array ranks → IsUnchanged (record array { spare_nodes = nodes; spare_validators = validators }) ranks
-    same u = record { made = made_same array array.changed_validators array.balances_set array.anything_changed nodes validators ranks u.made; changed = u.changed; balances = u.balances }
+    same : IsUnchanged array counts ranks → IsUnchanged (record array { spare_nodes = nodes; spare_validators = validators }) counts ranks
+    same u = record { counted = due_same array array.changed_validators array.balances_set array.anything_changed nodes validators counts u.counted; made = made_same array array.changed_validators array.balances_set array.anything_changed nodes validators ranks u.made; changed = u.changed; balances = u.balances }
 
 -- ---- a node more
 
@@ -269,7 +281,7 @@ kept_made array counts after ranks ranks₁ rank_room rank_room₁ told a is cou
     (record {
       noted = made_noted array counts after counted;
       length_is = len;
-      unchanged = λ e. record { made = made_same array [] false false array.spare_nodes array.spare_validators ranks₁ m; changed = refl; balances = refl };
+      unchanged = λ e. record { counted = due_same array [] false false array.spare_nodes array.spare_validators after counted; made = made_same array [] false false array.spare_nodes array.spare_validators ranks₁ m; changed = refl; balances = refl };
       tally_nodes = omega arith;
       rank_nodes = omega arith;
       tally_validators = omega arith;
@@ -278,7 +290,7 @@ kept_made array counts after ranks ranks₁ rank_room rank_room₁ told a is cou
 module _ (array : PlainArray) (ranks : List Rank) (m : IsMade array ranks) where
   pub head_made : array.justified_node < length array.nodes → (rank_at ranks array.justified_node).descendant ≡ get_head array
   unfolding get_head IsHeadFrom
-  head_made inside = sym (m.heads array.justified_node inside (length array.nodes) (omega arith))
+  head_made inside = sym (m.heads array.justified_node (omega arith) inside (length array.nodes) (omega arith))
 
 -- ---- a push into room
 

@@ -23,6 +23,7 @@ use crate::recount::recount;
 use crate::room::{grow_nodes, grow_validators, room_for_node, room_for_vote};
 use crate::settle::settle;
 use crate::tally::Tally;
+use crate::weight::weight_of;
 use bc_words::{NoMemory, Steps};
 use beacon_types::Checkpoint;
 use hash_tree::Root;
@@ -180,6 +181,7 @@ impl BlockArray {
 
     /// Makes weights and the head, where anything changed. A step is the delta of one validator, or one visit of a node: at
     /// most a delta for each changed validator, or for each that voted where balances were set, and two visits of each node.
+    /// The nodes before the justified one, from which no head is looked for, aren't visited.
     pub fn apply<L: Ledger>(&mut self, steps: &mut Steps<L>)
         ensures applied { self.new ≡ made self.old }
         ensures steps { steps.new ≤ steps.old + steps_of self.old }
@@ -192,12 +194,16 @@ impl BlockArray {
         self.inputs.set_made();
     }
 
-    /// The weight of a node, in Gwei (fork-choice.md, `get_latest_attesting_balance`), where `apply` made it.
+    /// The weight of a node, in Gwei (fork-choice.md, `get_latest_attesting_balance`), after `apply`, which made it, unless the
+    /// node comes before the justified one: then the votes are summed now.
     pub fn weight(&self, node: u32) -> u128
         requires node { node < length self.now.nodes }
         requires applied { self.now.anything_changed ≡ false }
         ensures { result ≡ get_latest_attesting_balance self.now node }
     {
+        if node < self.inputs.justified_node() {
+            return weight_of(&self.inputs, &self.tally, node);
+        }
         rank_at(&self.ranks, node as usize).weight
     }
 

@@ -2,7 +2,7 @@
 //!
 //! Nodes, votes, balances, checkpoints and the boost come from the store above; weights and the head go back to it. Balances
 //! are counted at the nodes that they are voted for, and only what changed is counted anew; then one pass from the last node
-//! to the first makes all weights and the head.
+//! to the justified one makes weights and the head.
 #![tactic(auto)]
 
 mod block_array;
@@ -16,6 +16,7 @@ mod recount;
 mod room;
 mod settle;
 mod tally;
+mod weight;
 
 pub use block_array::BlockArray;
 pub use facts::Facts;

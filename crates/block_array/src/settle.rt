@@ -1,7 +1,8 @@
-//! One pass from the last node to the first makes all weights and the head.
+//! One pass from the last node to the justified one makes the weights of these nodes and the head.
 //!
 //! What is counted at the nodes comes from the tally. Each node gives its weight to its parent and offers itself as the
-//! parent's best child, if it is viable; the head from it on is that from its own best child on.
+//! parent's best child, if it is viable; the head from it on is that from its own best child on. The head is looked for from
+//! the justified node on, so nothing is made of the nodes before it, of which there are more and more.
 
 ghost use Rattle.std.specs.Prelude.{◌≡◌, ℕ, suc, ◌+◌, ◌*◌, ◌<◌, ◌≤◌, ◌^◌, false, true, Some, None, is_some, IfSome, length, vec_capacity, slice_get, slice_set, if◌then◌else◌};
 ghost use Rattle.block_array.specs.PlainArray.{root_at};
@@ -39,17 +40,18 @@ fn begin_one<L: Ledger>(tally: &Tally, ranks: &mut Vec<Rank>, number: usize, ste
     };
 }
 
-/// Makes of each node what it is before its children are looked at. One visit of each.
+/// Makes of each node from a first one on what it is before its children are looked at. One visit of each.
 #[tactic(auto, using(crate::proofs::Ranks::beginning))]
-fn begin<L: Ledger>(tally: &Tally, ranks: &mut Vec<Rank>, steps: &mut Steps<L>)
+fn begin<L: Ledger>(tally: &Tally, ranks: &mut Vec<Rank>, first: usize, steps: &mut Steps<L>)
     requires nodes { length ranks.old.items ≡ tally.now.nodes }
     requires few { length ranks.old.items < 2 ^ 32 }
+    requires first { first ≤ length ranks.old.items }
     ensures length_is { length ranks.new.items ≡ tally.now.nodes }
-    ensures fresh { AreFresh tally.now ranks.new.items (length ranks.new.items) }
+    ensures fresh { AreFresh tally.now first ranks.new.items (length ranks.new.items) }
     ensures room { vec_capacity ranks.new ≡ vec_capacity ranks.old }
-    ensures steps { steps.new ≡ steps.old + length ranks.old.items }
+    ensures steps { steps.new + first ≡ steps.old + length ranks.old.items }
 {
-    for number in 0..ranks.len() {
+    for number in first..ranks.len() {
         begin_one(tally, ranks, number, steps);
     }
 }
@@ -144,6 +146,7 @@ fn is_viable(inputs: &Inputs, node: &Node, rank: Rank) -> bool
 #[tactic(auto, using(crate::proofs::Ranks::heading))]
 fn head_from(inputs: &Inputs, tally: &Tally, ranks: &[Rank], number: usize) -> u32
     requires inside { number < length inputs.now.array.nodes }
+    requires made { inputs.now.array.justified_node ≤ number }
     requires ranked { IsRanked inputs.now.array tally.now ranks.now (suc number) }
     ensures { IsHeadFrom inputs.now.array number result }
 {
@@ -176,7 +179,7 @@ fn give(inputs: &Inputs, ranks: &mut Vec<Rank>, number: u32, parent: u32, viable
     };
 }
 
-/// Makes a node, where those behind it are done. One visit.
+/// Makes a node from the justified one on, where those behind it are done. One visit.
 fn settle_one<L: Ledger>(
     inputs: &Inputs,
     tally: &Tally,
@@ -185,6 +188,7 @@ fn settle_one<L: Ledger>(
     steps: &mut Steps<L>,
 )
     requires inside { number < length inputs.now.array.nodes }
+    requires made { inputs.now.array.justified_node ≤ number }
     requires counted { IsCounted inputs.now.array tally.now }
     requires ranked { IsRanked inputs.now.array tally.now ranks.old.items (suc number) }
     ensures ranked { IsRanked inputs.now.array tally.now ranks.new.items number }
@@ -204,12 +208,17 @@ fn settle_one<L: Ledger>(
         descendant,
     };
     match node.parent {
-        Some(parent) => give(inputs, ranks, number as u32, parent, viable),
+        Some(parent) => {
+            if inputs.justified_node() <= parent {
+                give(inputs, ranks, number as u32, parent, viable);
+            }
+        }
         None => {}
     }
 }
 
-/// Makes all weights and the head, where all that is due is counted. Two visits of each node.
+/// Makes the weights of the nodes from the justified one on, and the head, where all that is due is counted. Two visits of
+/// each of these nodes.
 #[tactic(auto, using(crate::proofs::Ranks::settling))]
 pub(crate) fn settle<L: Ledger>(
     inputs: &Inputs,
@@ -222,12 +231,13 @@ pub(crate) fn settle<L: Ledger>(
     ensures length_is { length ranks.new.items ≡ length inputs.now.array.nodes }
     ensures made { IsMade inputs.now.array ranks.new.items }
     ensures room { vec_capacity ranks.new ≡ vec_capacity ranks.old }
-    ensures steps { steps.new ≡ steps.old + 2 * length inputs.now.array.nodes }
+    ensures steps { steps.new ≤ steps.old + 2 * length inputs.now.array.nodes }
 {
     let count = inputs.nodes().len();
+    let first = inputs.justified_node() as usize;
     tally.bounds();
-    begin(tally, ranks, steps);
-    for done in 0..count {
+    begin(tally, ranks, first, steps);
+    for done in 0..count - first {
         settle_one(inputs, tally, ranks, count - 1 - done, steps);
     }
 }

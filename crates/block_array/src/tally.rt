@@ -67,6 +67,29 @@ impl Tally {
         self.own[node]
     }
 
+    /// What is counted of a validator.
+    #[tactic(auto, unfolding(crate::specs::inside::Counts::counted_of), using(crate::proofs::Counting::reading))]
+    pub(crate) fn counted(&self, validator: usize) -> Counted
+        requires { validator < length self.now.validators }
+        ensures { result ≡ counted_of self.now.validators validator }
+    {
+        self.counted[validator]
+    }
+
+    /// The node that the boost is counted at.
+    pub(crate) fn boosted_node(&self) -> u32
+        ensures { result ≡ self.now.boost.node }
+    {
+        self.boosted_node
+    }
+
+    /// The boost, in Gwei, 0 where there is none.
+    pub(crate) fn boost(&self) -> u128
+        ensures { result ≡ self.now.boost.balance }
+    {
+        self.boost
+    }
+
     /// How many validators there are.
     pub(crate) fn validators(&self) -> usize
         ensures same { result ≡ length self.now.validators }

@@ -7,7 +7,7 @@ use Rattle.block_array.specs.PlainArray.{PlainArray, message_of}
 use Rattle.block_array.specs.UpdateLatestMessages.{is_listed}
 use Rattle.block_array.specs.inside.Counts.{Counts, nothing, counted_of}
 use Rattle.block_array.specs.inside.Held.{due}
-use Rattle.block_array.specs.inside.Ranks.{IsMade}
+use Rattle.block_array.specs.inside.Ranks.{IsCounted, IsMade}
 
 -- how many are marked as changed
 unfoldable pub count_changed : List Counted → ℕ
@@ -24,7 +24,8 @@ pub record IsNoted (array : PlainArray) (counts : Counts) : Type 0 where
   pub current : array.balances_set ≡ false → (v : ℕ) → (counted_of counts.validators v).changed ≡ false → counted_of counts.validators v ≡ due array v
 
 -- what is left as it was where nothing changed
-pub record IsUnchanged (array : PlainArray) (ranks : List Rank) : Type 0 where
+pub record IsUnchanged (array : PlainArray) (counts : Counts) (ranks : List Rank) : Type 0 where
+  pub counted : IsCounted array counts
   pub made : IsMade array ranks
   pub changed : array.changed_validators ≡ []
   pub balances : array.balances_set ≡ false
@@ -33,7 +34,7 @@ pub record IsUnchanged (array : PlainArray) (ranks : List Rank) : Type 0 where
 pub record IsArray (array : PlainArray) (counts : Counts) (ranks : List Rank) (rank_room : ℕ) : Type 0 where
   pub noted : IsNoted array counts
   pub length_is : length ranks ≡ length array.nodes
-  pub unchanged : array.anything_changed ≡ false → IsUnchanged array ranks
+  pub unchanged : array.anything_changed ≡ false → IsUnchanged array counts ranks
   pub tally_nodes : length array.nodes + array.spare_nodes ≤ counts.node_room
   pub rank_nodes : length array.nodes + array.spare_nodes ≤ rank_room
   pub tally_validators : array.spare_validators ≤ counts.validator_room

@@ -48,25 +48,26 @@ better_child array number (Some best) = better array number best
 unfoldable pub IsHeadFrom : PlainArray → ℕ → ℕ → Type 0
 IsHeadFrom array number head = (steps : ℕ) → length array.nodes - number ≤ steps → head_within steps array (get_filtered_block_tree array) number ≡ head
 
+-- of the nodes from the justified one on, what they are where those from a lowest one on have given their parents theirs
 pub record IsRanked (array : PlainArray) (counts : Counts) (ranks : List Rank) (low : ℕ) : Type 0 where
   pub length_is : length ranks ≡ length array.nodes
-  pub weight : (j : ℕ) → j < length array.nodes → (rank_at ranks j).weight ≡ weight_from array.nodes counts low j
-  pub has_child : (j : ℕ) → j < length array.nodes → (rank_at ranks j).has_child ≡ list_any (is_child j) (drop low array.nodes)
-  pub child : (j : ℕ) → j < length array.nodes → (rank_at ranks j).child ≡ best_child array low j
+  pub weight : (j : ℕ) → array.justified_node ≤ j → j < length array.nodes → (rank_at ranks j).weight ≡ weight_from array.nodes counts low j
+  pub has_child : (j : ℕ) → array.justified_node ≤ j → j < length array.nodes → (rank_at ranks j).has_child ≡ list_any (is_child j) (drop low array.nodes)
+  pub child : (j : ℕ) → array.justified_node ≤ j → j < length array.nodes → (rank_at ranks j).child ≡ best_child array low j
   pub descendant : (j : ℕ) → low ≤ j → j < length array.nodes → IsHeadFrom array j (rank_at ranks j).descendant
 
--- weights and head are made
+-- weights and heads of the nodes from the justified one on are made
 pub record IsMade (array : PlainArray) (ranks : List Rank) : Type 0 where
-  pub weights : (j : ℕ) → j < length array.nodes → (rank_at ranks j).weight ≡ get_latest_attesting_balance array j
-  pub heads : (j : ℕ) → j < length array.nodes → IsHeadFrom array j (rank_at ranks j).descendant
+  pub weights : (j : ℕ) → array.justified_node ≤ j → j < length array.nodes → (rank_at ranks j).weight ≡ get_latest_attesting_balance array j
+  pub heads : (j : ℕ) → array.justified_node ≤ j → j < length array.nodes → IsHeadFrom array j (rank_at ranks j).descendant
 
 -- the weight of a node is made
 unfoldable pub IsWeighed : PlainArray → List Rank → ℕ → Type 0
 IsWeighed array ranks number = (rank_at ranks number).weight ≡ get_latest_attesting_balance array number
 
--- so many nodes are as they are before their children are looked at
-unfoldable pub AreFresh : Counts → List Rank → ℕ → Type 0
-AreFresh counts ranks count = (j : ℕ) → j < count → rank_at ranks j ≡ record { weight = own_at counts j; has_child = false; child = None; descendant = 0 }
+-- the nodes from a first one on, up to a number, are as they are before their children are looked at
+unfoldable pub AreFresh : Counts → ℕ → List Rank → ℕ → Type 0
+AreFresh counts first ranks end = (j : ℕ) → first ≤ j → j < end → rank_at ranks j ≡ record { weight = own_at counts j; has_child = false; child = None; descendant = 0 }
 
 -- a node can give its weight to its parent, and offer itself as its best child
 pub record CanGive (array : PlainArray) (ranks : List Rank) (number parent : ℕ) : Type 0 where

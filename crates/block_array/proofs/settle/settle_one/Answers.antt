@@ -1,22 +1,30 @@
-use Rattle.std.proofs.Common.{◌≡◌, List, Some, slice_get, subst, ap, ◌∙◌}
+use Rattle.std.proofs.Common.{◌≡◌, ◌<◌, ◌≤◌, List, Some, slice_get, subst, ap, ◌∙◌, arith}
 use Rattle.std.specs.List.{All}
 use Rattle.block_array.specs.declared.node.Node.{Node}
 use Rattle.block_array.specs.inside.Counts.{all_of, IsBelow}
 use Rattle.block_array.specs.inside.Ranks.{rank_at}
-use Rattle.block_array.proofs.Ranks.{step_alone, step_can, step_gave}
+use Rattle.block_array.proofs.Ranks.{step_alone, step_past, step_can, step_gave}
 use Rattle.block_array.proofs.settle.settle_one.Goals as goal
 
 pub give-requires : goal.give-requires
 give-requires g c =
-    step_can c.args.inputs.now.array c.args.tally.now c.nodes.ensures.plain.tree (subst (λ n. All (IsBelow n) (all_of c.args.tally.now)) c.requires.counted.nodes c.bounds.ensures.below) c.args.ranks.now.items c.args.number c.requires.inside c.requires.ranked c.node_at-node.result (subst (λ (ns : List Node). slice_get ns c.args.number ≡ Some c.node_at-node.result) c.nodes.ensures.same c.node_at-node.ensures) c.head_from-descendant.result c.head_from-descendant.ensures c.rank_at-mine.result (c.rank_at-mine.ensures ∙ ap (λ rs. rank_at rs c.args.number) c.deref.ensures.value)
-    c.requires.counted c.in-Some.parent c.in-Some.is c.bounds.ensures.low
+    let from_first : c.args.inputs.now.array.justified_node ≤ c.in-Some.parent = omega arith in
+    step_can c.args.inputs.now.array c.args.tally.now c.nodes.ensures.plain.tree (subst (λ n. All (IsBelow n) (all_of c.args.tally.now)) c.requires.counted.nodes c.bounds.ensures.below) c.args.ranks.now.items c.args.number c.requires.inside c.requires.made c.requires.ranked c.node_at-node.result (subst (λ (ns : List Node). slice_get ns c.args.number ≡ Some c.node_at-node.result) c.nodes.ensures.same c.node_at-node.ensures) c.head_from-descendant.result c.head_from-descendant.ensures c.rank_at-mine.result (c.rank_at-mine.ensures ∙ ap (λ rs. rank_at rs c.args.number) c.deref.ensures.value)
+    c.requires.counted c.in-Some.parent c.in-Some.is from_first c.bounds.ensures.low
 
-pub returns-in-Some-clause-ranked : goal.returns-in-Some-clause-ranked
-returns-in-Some-clause-ranked g c =
-    step_gave c.args.inputs.now.array c.args.tally.now c.nodes.ensures.plain.tree (subst (λ n. All (IsBelow n) (all_of c.args.tally.now)) c.requires.counted.nodes c.bounds.ensures.below) c.args.ranks.now.items c.args.number c.requires.inside c.requires.ranked c.node_at-node.result (subst (λ (ns : List Node). slice_get ns c.args.number ≡ Some c.node_at-node.result) c.nodes.ensures.same c.node_at-node.ensures) c.head_from-descendant.result c.head_from-descendant.ensures c.rank_at-mine.result (c.rank_at-mine.ensures ∙ ap (λ rs. rank_at rs c.args.number) c.deref.ensures.value)
-    c.requires.counted c.in-Some.parent c.in-Some.is c.bounds.ensures.low c.is_viable-viable.result c.is_viable-viable.ensures c.give.new.ranks.items c.give.ensures.gave
+pub returns-then-justified_node-parent-clause-ranked : goal.returns-then-justified_node-parent-clause-ranked
+returns-then-justified_node-parent-clause-ranked g c =
+    let from_first : c.args.inputs.now.array.justified_node ≤ c.in-Some.parent = omega arith in
+    step_gave c.args.inputs.now.array c.args.tally.now c.nodes.ensures.plain.tree (subst (λ n. All (IsBelow n) (all_of c.args.tally.now)) c.requires.counted.nodes c.bounds.ensures.below) c.args.ranks.now.items c.args.number c.requires.inside c.requires.made c.requires.ranked c.node_at-node.result (subst (λ (ns : List Node). slice_get ns c.args.number ≡ Some c.node_at-node.result) c.nodes.ensures.same c.node_at-node.ensures) c.head_from-descendant.result c.head_from-descendant.ensures c.rank_at-mine.result (c.rank_at-mine.ensures ∙ ap (λ rs. rank_at rs c.args.number) c.deref.ensures.value)
+    c.requires.counted c.in-Some.parent c.in-Some.is from_first c.bounds.ensures.low c.is_viable-viable.result c.is_viable-viable.ensures c.give.new.ranks.items c.give.ensures.gave
 
 pub returns-in-None-clause-ranked : goal.returns-in-None-clause-ranked
 returns-in-None-clause-ranked g c =
-    step_alone c.args.inputs.now.array c.args.tally.now c.nodes.ensures.plain.tree (subst (λ n. All (IsBelow n) (all_of c.args.tally.now)) c.requires.counted.nodes c.bounds.ensures.below) c.args.ranks.now.items c.args.number c.requires.inside c.requires.ranked c.node_at-node.result (subst (λ (ns : List Node). slice_get ns c.args.number ≡ Some c.node_at-node.result) c.nodes.ensures.same c.node_at-node.ensures) c.head_from-descendant.result c.head_from-descendant.ensures c.rank_at-mine.result (c.rank_at-mine.ensures ∙ ap (λ rs. rank_at rs c.args.number) c.deref.ensures.value)
+    step_alone c.args.inputs.now.array c.args.tally.now c.nodes.ensures.plain.tree (subst (λ n. All (IsBelow n) (all_of c.args.tally.now)) c.requires.counted.nodes c.bounds.ensures.below) c.args.ranks.now.items c.args.number c.requires.inside c.requires.made c.requires.ranked c.node_at-node.result (subst (λ (ns : List Node). slice_get ns c.args.number ≡ Some c.node_at-node.result) c.nodes.ensures.same c.node_at-node.ensures) c.head_from-descendant.result c.head_from-descendant.ensures c.rank_at-mine.result (c.rank_at-mine.ensures ∙ ap (λ rs. rank_at rs c.args.number) c.deref.ensures.value)
     c.in-None.is
+
+pub returns-else-justified_node-parent-clause-ranked : goal.returns-else-justified_node-parent-clause-ranked
+returns-else-justified_node-parent-clause-ranked g c =
+    let before : c.in-Some.parent < c.args.inputs.now.array.justified_node = omega arith in
+    step_past c.args.inputs.now.array c.args.tally.now c.nodes.ensures.plain.tree (subst (λ n. All (IsBelow n) (all_of c.args.tally.now)) c.requires.counted.nodes c.bounds.ensures.below) c.args.ranks.now.items c.args.number c.requires.inside c.requires.made c.requires.ranked c.node_at-node.result (subst (λ (ns : List Node). slice_get ns c.args.number ≡ Some c.node_at-node.result) c.nodes.ensures.same c.node_at-node.ensures) c.head_from-descendant.result c.head_from-descendant.ensures c.rank_at-mine.result (c.rank_at-mine.ensures ∙ ap (λ rs. rank_at rs c.args.number) c.deref.ensures.value)
+    c.in-Some.parent c.in-Some.is before

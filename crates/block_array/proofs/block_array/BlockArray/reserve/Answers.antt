@@ -24,5 +24,5 @@ invariant_of-self-2 c =
     subst (λ (t : PlainArray). IsArray t c.grow_validators.new.tally c.grow_nodes.new.ranks.items (vec_capacity c.grow_nodes.new.ranks))
     (sym (ap (λ (h : Held). h.array) c.set_spare.ensures ∙ ap (λ (t : PlainArray). record t { spare_nodes = c.max-nodes.result; spare_validators = c.max-voters.result }) told))
     (kept_spare c.self.inside.inputs.array c.grow_validators.new.tally c.grow_nodes.new.ranks.items (vec_capacity c.grow_nodes.new.ranks) c.max-nodes.result c.max-voters.result
-    (kept_rooms c.self.inside.inputs.array c.self.inside.tally c.grow_validators.new.tally c.self.inside.ranks.items c.grow_nodes.new.ranks.items (vec_capacity c.self.inside.ranks) (vec_capacity c.grow_nodes.new.ranks) c.self.invariant c.in_ok-grow_nodes.ensures.ranks (ap (λ (x : Counts). x.validators) tally) (ap (λ (x : Counts). x.nodes) tally) (omega arith) (omega arith) c.in_ok-grow_nodes.ensures.ranks_more)
+    (kept_rooms c.self.inside.inputs.array c.self.inside.tally c.grow_validators.new.tally c.self.inside.ranks.items c.grow_nodes.new.ranks.items (vec_capacity c.self.inside.ranks) (vec_capacity c.grow_nodes.new.ranks) c.self.invariant c.in_ok-grow_nodes.ensures.ranks (ap (λ (x : Counts). x.validators) tally) (ap (λ (x : Counts). x.nodes) tally) (ap (λ (x : Counts). x.boost) tally) (omega arith) (omega arith) c.in_ok-grow_nodes.ensures.ranks_more)
     (omega arith) (omega arith) (omega arith))
