@@ -13,6 +13,7 @@ mod lookups;
 mod numbers;
 mod parts;
 mod reading;
+mod rooted;
 mod roots;
 mod state;
 mod values;

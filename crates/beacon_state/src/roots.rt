@@ -26,12 +26,12 @@ impl State {
             self.genesis_time().root(),
             self.genesis_validators_root().root(),
             self.slot().root(),
-            self.fork().root(),
+            self.fork_root(),
             self.latest_block_header().root(),
             self.block_roots().vector_root(),
             self.state_roots().vector_root(),
             self.historical_roots().list_root(),
-            self.eth1_data().root(),
+            self.eth1_data_root(),
             self.eth1_data_votes().list_root(),
             self.eth1_deposit_index().root(),
             self.validators().list_root(),
@@ -41,9 +41,9 @@ impl State {
             self.previous_epoch_attestations().variable_list_root(),
             self.current_epoch_attestations().variable_list_root(),
             self.justification_bits().root(),
-            self.previous_justified_checkpoint().root(),
-            self.current_justified_checkpoint().root(),
-            self.finalized_checkpoint().root(),
+            self.previous_justified_checkpoint_root(),
+            self.current_justified_checkpoint_root(),
+            self.finalized_checkpoint_root(),
         ])
     }
 

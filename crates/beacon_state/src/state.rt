@@ -15,6 +15,7 @@ mod whole;
 use crate::both::both;
 use crate::building::{lists_built, pending_built, registry_built, vectors_built};
 use crate::numbers::Numbers;
+use crate::rooted::Rooted;
 use crate::values::Values;
 use bc_preset::Preset;
 use bc_words::NoMemory;
@@ -29,12 +30,12 @@ pub struct State {
     genesis_time: u64,
     genesis_validators_root: Root,
     slot: u64,
-    fork: Fork,
+    fork: Rooted<Fork>,
     latest_block_header: BeaconBlockHeader,
     block_roots: Values<Root>,
     state_roots: Values<Root>,
     historical_roots: Values<Root>,
-    eth1_data: Eth1Data,
+    eth1_data: Rooted<Eth1Data>,
     eth1_data_votes: Values<Eth1Data>,
     eth1_deposit_index: u64,
     validators: Values<Validator>,
@@ -44,9 +45,9 @@ pub struct State {
     previous_epoch_attestations: Values<PendingAttestation>,
     current_epoch_attestations: Values<PendingAttestation>,
     justification_bits: [bool; 4],
-    previous_justified_checkpoint: Checkpoint,
-    current_justified_checkpoint: Checkpoint,
-    finalized_checkpoint: Checkpoint,
+    previous_justified_checkpoint: Rooted<Checkpoint>,
+    current_justified_checkpoint: Rooted<Checkpoint>,
+    finalized_checkpoint: Rooted<Checkpoint>,
     // The root, where it was kept and nothing changed since.
     kept_root: Option<Root>,
 }
@@ -59,12 +60,12 @@ impl Drop for State {
             genesis_time: _,
             genesis_validators_root: _,
             slot: _,
-            fork: _,
+            fork,
             latest_block_header: _,
             block_roots,
             state_roots,
             historical_roots,
-            eth1_data: _,
+            eth1_data,
             eth1_data_votes,
             eth1_deposit_index: _,
             validators,
@@ -74,14 +75,16 @@ impl Drop for State {
             previous_epoch_attestations,
             current_epoch_attestations,
             justification_bits: _,
-            previous_justified_checkpoint: _,
-            current_justified_checkpoint: _,
-            finalized_checkpoint: _,
+            previous_justified_checkpoint,
+            current_justified_checkpoint,
+            finalized_checkpoint,
             kept_root: _,
         } = self;
+        drop(fork);
         drop(block_roots);
         drop(state_roots);
         drop(historical_roots);
+        drop(eth1_data);
         drop(eth1_data_votes);
         drop(validators);
         drop(balances);
@@ -89,6 +92,9 @@ impl Drop for State {
         drop(slashings);
         drop(previous_epoch_attestations);
         drop(current_epoch_attestations);
+        drop(previous_justified_checkpoint);
+        drop(current_justified_checkpoint);
+        drop(finalized_checkpoint);
     }
 }
 
@@ -156,12 +162,12 @@ impl State {
             genesis_time,
             genesis_validators_root,
             slot,
-            fork,
+            fork: Rooted::new(fork),
             latest_block_header,
             block_roots,
             state_roots,
             historical_roots,
-            eth1_data,
+            eth1_data: Rooted::new(eth1_data),
             eth1_data_votes,
             eth1_deposit_index,
             validators,
@@ -171,9 +177,9 @@ impl State {
             previous_epoch_attestations,
             current_epoch_attestations,
             justification_bits,
-            previous_justified_checkpoint,
-            current_justified_checkpoint,
-            finalized_checkpoint,
+            previous_justified_checkpoint: Rooted::new(previous_justified_checkpoint),
+            current_justified_checkpoint: Rooted::new(current_justified_checkpoint),
+            finalized_checkpoint: Rooted::new(finalized_checkpoint),
             kept_root: None,
         })
     }
@@ -194,12 +200,12 @@ impl State {
             genesis_time: self.genesis_time,
             genesis_validators_root,
             slot: self.slot,
-            fork: self.fork,
+            fork: self.fork.again(),
             latest_block_header: self.latest_block_header,
             block_roots,
             state_roots,
             historical_roots,
-            eth1_data: self.eth1_data,
+            eth1_data: self.eth1_data.again(),
             eth1_data_votes,
             eth1_deposit_index: self.eth1_deposit_index,
             validators,
@@ -209,9 +215,9 @@ impl State {
             previous_epoch_attestations,
             current_epoch_attestations,
             justification_bits,
-            previous_justified_checkpoint: self.previous_justified_checkpoint,
-            current_justified_checkpoint: self.current_justified_checkpoint,
-            finalized_checkpoint: self.finalized_checkpoint,
+            previous_justified_checkpoint: self.previous_justified_checkpoint.again(),
+            current_justified_checkpoint: self.current_justified_checkpoint.again(),
+            finalized_checkpoint: self.finalized_checkpoint.again(),
             kept_root: self.kept_root,
         })
     }

@@ -44,7 +44,7 @@ impl State {
     pub fn fork(&self) -> Fork
         ensures { result ≡ self.now.fork }
     {
-        self.fork
+        *self.fork.value()
     }
 
     /// The header of the latest block.
@@ -58,7 +58,7 @@ impl State {
     pub fn eth1_data(&self) -> Eth1Data
         ensures { result ≡ self.now.eth1_data }
     {
-        self.eth1_data
+        *self.eth1_data.value()
     }
 
     /// How many deposits were processed.
@@ -79,21 +79,21 @@ impl State {
     pub fn previous_justified_checkpoint(&self) -> Checkpoint
         ensures { result ≡ self.now.previous_justified_checkpoint }
     {
-        self.previous_justified_checkpoint
+        *self.previous_justified_checkpoint.value()
     }
 
     /// The justified checkpoint of the current epoch.
     pub fn current_justified_checkpoint(&self) -> Checkpoint
         ensures { result ≡ self.now.current_justified_checkpoint }
     {
-        self.current_justified_checkpoint
+        *self.current_justified_checkpoint.value()
     }
 
     /// The finalised checkpoint.
     pub fn finalized_checkpoint(&self) -> Checkpoint
         ensures { result ≡ self.now.finalized_checkpoint }
     {
-        self.finalized_checkpoint
+        *self.finalized_checkpoint.value()
     }
 
     /// How many roots of the latest blocks there are: as many as the preset says.

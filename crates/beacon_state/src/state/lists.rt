@@ -1,7 +1,9 @@
-//! The lists of a state, for its writing, its root and the check of a genesis, and those that are lent to all.
+//! The lists of a state and the roots that it keeps, for its writing, its root and the check of a genesis, and the lists that are
+//! lent to all.
 
 ghost use Rattle.std.specs.Prelude.{◌≡◌, ◌≤◌, length};
 ghost use Rattle.spec_state.specs.States.{votes_limit, attestations_limit};
+ghost use Rattle.beacon_types.specs.Containers.{fork_codec, eth1_data_codec, checkpoint_codec};
 ghost use Rattle.spec_state.specs.Limits.{IsState, IsInRange};
 
 use super::State;
@@ -135,12 +137,12 @@ impl State {
         let _index = self.eth1_deposit_index;
         root_in_range(&self.genesis_validators_root);
         bits_in_range(&self.justification_bits);
-        fork_in_range(&self.fork);
+        fork_in_range(self.fork.value());
         header_in_range(&self.latest_block_header);
-        eth1_data_in_range(&self.eth1_data);
-        checkpoint_in_range(&self.previous_justified_checkpoint);
-        checkpoint_in_range(&self.current_justified_checkpoint);
-        checkpoint_in_range(&self.finalized_checkpoint);
+        eth1_data_in_range(self.eth1_data.value());
+        checkpoint_in_range(self.previous_justified_checkpoint.value());
+        checkpoint_in_range(self.current_justified_checkpoint.value());
+        checkpoint_in_range(self.finalized_checkpoint.value());
         let _block_roots = self.block_roots().len();
         let _state_roots = self.state_roots().len();
         let _historical_roots = self.historical_roots().len();
@@ -151,5 +153,40 @@ impl State {
         let _slashings = self.slashings().len();
         let _previous = self.previous_epoch_attestations().len();
         let _current = self.current_epoch_attestations().len();
+    }
+
+    /// The root of the fork, which is kept.
+    pub(crate) fn fork_root(&self) -> Root
+        ensures { result ≡ fork_codec.hash_tree_root self.now.fork }
+    {
+        self.fork.root()
+    }
+
+    /// The root of what is known of the deposit contract, which is kept.
+    pub(crate) fn eth1_data_root(&self) -> Root
+        ensures { result ≡ eth1_data_codec.hash_tree_root self.now.eth1_data }
+    {
+        self.eth1_data.root()
+    }
+
+    /// The root of the justified checkpoint of the previous epoch, which is kept.
+    pub(crate) fn previous_justified_checkpoint_root(&self) -> Root
+        ensures { result ≡ checkpoint_codec.hash_tree_root self.now.previous_justified_checkpoint }
+    {
+        self.previous_justified_checkpoint.root()
+    }
+
+    /// The root of the justified checkpoint of the current epoch, which is kept.
+    pub(crate) fn current_justified_checkpoint_root(&self) -> Root
+        ensures { result ≡ checkpoint_codec.hash_tree_root self.now.current_justified_checkpoint }
+    {
+        self.current_justified_checkpoint.root()
+    }
+
+    /// The root of the finalised checkpoint, which is kept.
+    pub(crate) fn finalized_checkpoint_root(&self) -> Root
+        ensures { result ≡ checkpoint_codec.hash_tree_root self.now.finalized_checkpoint }
+    {
+        self.finalized_checkpoint.root()
     }
 }

@@ -10,6 +10,7 @@ ghost use Rattle.beacon_state.specs.inside.Changes.{one_more_previous_attestatio
 ghost use Rattle.beacon_state.specs.inside.Changes.{with_previous_attestation_at, with_current_attestation_at, with_rotated_attestations};
 
 use super::State;
+use crate::rooted::Rooted;
 use bc_words::{NoMemory, PushStop};
 use beacon_types::{BeaconBlockHeader, Checkpoint, Eth1Data, Fork, PendingAttestation, Validator};
 use hash_tree::Root;
@@ -45,7 +46,7 @@ impl State {
         ensures { self.new ≡ record self.old { fork = fork } }
     {
         self.kept_root = None;
-        self.fork = fork;
+        self.fork = Rooted::new(fork);
     }
 
     /// Writes the header of the latest block.
@@ -61,7 +62,7 @@ impl State {
         ensures { self.new ≡ record self.old { eth1_data = eth1_data } }
     {
         self.kept_root = None;
-        self.eth1_data = eth1_data;
+        self.eth1_data = Rooted::new(eth1_data);
     }
 
     /// Writes how many deposits were processed.
@@ -85,7 +86,7 @@ impl State {
         ensures { self.new ≡ record self.old { previous_justified_checkpoint = checkpoint } }
     {
         self.kept_root = None;
-        self.previous_justified_checkpoint = checkpoint;
+        self.previous_justified_checkpoint = Rooted::new(checkpoint);
     }
 
     /// Writes the justified checkpoint of the current epoch.
@@ -93,7 +94,7 @@ impl State {
         ensures { self.new ≡ record self.old { current_justified_checkpoint = checkpoint } }
     {
         self.kept_root = None;
-        self.current_justified_checkpoint = checkpoint;
+        self.current_justified_checkpoint = Rooted::new(checkpoint);
     }
 
     /// Writes the finalised checkpoint.
@@ -101,7 +102,7 @@ impl State {
         ensures { self.new ≡ record self.old { finalized_checkpoint = checkpoint } }
     {
         self.kept_root = None;
-        self.finalized_checkpoint = checkpoint;
+        self.finalized_checkpoint = Rooted::new(checkpoint);
     }
 }
 
