@@ -26,7 +26,7 @@ use crate::store_fields::StoreFields;
 use bc_words::{Refusal, Stop, StoreStop};
 use beacon_body::{BeaconBlock, SignedBeaconBlock};
 use block_array::BlockArray;
-use hash_tree::{Leaf, Root};
+use hash_tree::Root;
 use state_keeper::Keeper;
 use std::alloc::Global;
 use transition::Step;
@@ -122,7 +122,7 @@ impl Store {
     /// Refused, in this order: as `ParentUnknown`, `FutureBlock`, `BeforeFinalized`, `NotOnFinalized`, and as the state
     /// transition is. Limited as that is too. A clash comes last, where the block's root or state root is zero or another block
     /// of its root is kept. Where the justified checkpoint stays, the array is given no balances.
-    #[tactic(auto, using(crate::proofs::Walks::whole_nodes), unfolding(spec_fork_choice::specs::OnBlock::on_block, crate::specs::inside::Stores::IsRootOf))]
+    #[tactic(auto, using(crate::proofs::Walks::whole_nodes), unfolding(spec_fork_choice::specs::OnBlock::on_block, crate::specs::inside::Stores::IsRootOf, spec_transition::specs::StateTransition::IsLatest))]
     pub fn on_block(
         &mut self,
         alloc: Global,
@@ -133,6 +133,8 @@ impl Store {
         ensures unset { self.new.plain.justified_checkpoint ≡ self.old.plain.justified_checkpoint → self.new.array.balances_set ≡ self.old.array.balances_set }
     {
         let step = block_step(alloc, &self.fields, &mut self.keeper, &self.array, block)?;
+        // the header behind the block is the block's, so the body isn't hashed once more
+        let root = step.state.header_root();
         accept_unless(
             alloc,
             &mut self.fields,
@@ -140,7 +142,7 @@ impl Store {
             &mut self.array,
             &mut self.ready,
             block,
-            block.message.root(),
+            root,
             step,
         )
     }
