@@ -19,20 +19,8 @@ use bc_words::{Refusal, Stop};
 use beacon_body::Attestation;
 use beacon_state::State;
 use beacon_types::{AggregationBits, AttestationData};
+use committees::committee_count_per_slot;
 use ssz_codec::BitList;
-
-/// How many committees each slot of an epoch has (beacon-chain.md, `get_committee_count_per_slot`).
-#[tactic(auto, unfolding(committees::specs::Committees::committee_count_per_slot))]
-fn committee_count_per_slot(preset: &Preset, active: u64) -> u64
-    requires { IsPreset preset.now }
-    ensures exact { result ≡ committee_count_per_slot preset.now active }
-    ensures least { 1 ≤ result }
-    ensures most { result ≤ 64 }
-{
-    preset.bounds();
-    let wanted = active / preset.slots_per_epoch / preset.target_committee_size;
-    wanted.min(preset.max_committees_per_slot).max(1)
-}
 
 /// Where the committee with an index, of `count`, begins among the active validators.
 #[tactic(auto, unfolding(committees::specs::Committees::committee_start))]

@@ -32,9 +32,10 @@ impl Model for EpochCommittees {
     ghost invariant = { λ c. (length c.members.items ≤ 2 ^ 40) × (1 ≤ c.per_slot) × (c.per_slot ≤ 64) × (1 ≤ c.slots) × (c.slots ≤ 32) };
 }
 
-/// How many committees each slot of an epoch has (beacon-chain.md, `get_committee_count_per_slot`).
+/// How many committees each slot of an epoch has in which so many validators are active (beacon-chain.md,
+/// `get_committee_count_per_slot`).
 #[tactic(auto, unfolding(crate::specs::Committees::committee_count_per_slot))]
-fn committee_count_per_slot(preset: &Preset, active: u64) -> u64
+pub fn committee_count_per_slot(preset: &Preset, active: u64) -> u64
     requires { IsPreset preset.now }
     ensures exact { result ≡ committee_count_per_slot preset.now active }
     ensures least { 1 ≤ result }

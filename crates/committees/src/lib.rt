@@ -10,7 +10,7 @@ mod lookup;
 mod proposer;
 mod seed;
 
-pub use epoch::{EpochCommittees, members_stand_once};
+pub use epoch::{EpochCommittees, committee_count_per_slot, members_stand_once};
 pub use lookup::Lookup;
 pub use proposer::pick_proposer;
 pub use seed::{DOMAIN_BEACON_ATTESTER, DOMAIN_BEACON_PROPOSER, seed_of};
