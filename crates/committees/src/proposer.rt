@@ -53,12 +53,7 @@ fn weighs_enough(preset: &Preset, balance: u64, byte: u8) -> Result<bool, Stop>
 
 /// The index of the candidate with number `i`, where it passes.
 #[tactic(auto, unfolding(crate::specs::Proposers::candidate_passes))]
-fn passing<S: Lookup>(
-    active: &[u64],
-    state: &S,
-    seed: &Root,
-    i: u64,
-) -> Result<Option<u64>, Stop>
+fn passing<S: Lookup>(active: &[u64], state: &S, seed: &Root, i: u64) -> Result<Option<u64>, Stop>
     requires some { 0 < length active.now }
     requires fits { length active.now ≤ 2 ^ 40 }
     requires in_registry { (k : ℕ) → k < length active.now → slice_index active.now k < S.registry_of state.now }
@@ -75,12 +70,7 @@ fn passing<S: Lookup>(
 
 /// The candidate with the least number below `bound` that passes. The limit comes where none does.
 #[tactic(auto, using(crate::proofs::Found::found_first), unfolding(crate::specs::Proposers::candidate_found))]
-fn first_passing<S: Lookup>(
-    active: &[u64],
-    state: &S,
-    seed: &Root,
-    bound: u64,
-) -> Result<u64, Stop>
+fn first_passing<S: Lookup>(active: &[u64], state: &S, seed: &Root, bound: u64) -> Result<u64, Stop>
     requires some { 0 < length active.now }
     requires fits { length active.now ≤ 2 ^ 40 }
     requires in_registry { (k : ℕ) → k < length active.now → slice_index active.now k < S.registry_of state.now }

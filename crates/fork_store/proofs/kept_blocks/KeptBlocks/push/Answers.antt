@@ -37,8 +37,7 @@ invariant_of-self-2 c =
     ap (λ (k : Kept ConfigValues SignedBeaconBlock). kept_blocks k.blocks) c.of.ensures
     ∙ kept_added c.reserve-2.new.self.blocks c.add-number.new.self.blocks c.args.self.now c.args.block c.args.state c.args.root c.args.parent
     (ap kept_blocks c.in_ok-reserve-2.ensures.blocks ∙ c.requires.keeper) c.requires.kept.root
-    (done_becomes c.add-number.result _ _ _ c.add-number.ensures.blocks (c.add-number.ensures.succeeds c.in_ok-reserve-2.ensures.room)) in
-    (
+    (done_becomes c.add-number.result _ _ _ c.add-number.ensures.blocks (c.add-number.ensures.succeeds c.in_ok-reserve-2.ensures.room)) in (
       root_added c.args.self.now (kept_blocks c.of.result.value.blocks) c.reserve.new.self.keys c.insert-room.new.self.keys kept (c.in_ok-reserve.ensures.keys ∙ c.self.invariant.0 ∙ ap roots_of c.self.view_is)
           c.requires.fresh
           (of_ok c.insert-room.result _ c.insert-room.ensures.keys (let room = c.in_ok-reserve.ensures.ok in c.insert-room.ensures.succeeds (omega (arith, room))))
