@@ -14,7 +14,7 @@ use crate::kept_state::kept_state;
 use crate::slots::start_slot;
 use crate::store_fields::StoreFields;
 use balance_totals::committees_of_epoch;
-use bc_words::{Refusal, Stop};
+use bc_words::{NoMemory, Refusal, Stop};
 use beacon_state::State;
 use beacon_types::Checkpoint;
 use state_keeper::Keeper;
@@ -102,4 +102,27 @@ pub(crate) fn checkpoint_state_anew(
     let state = state_anew(alloc, store, keeper, target)?;
     let committees = committees_of_epoch(alloc, &state, target.epoch)?;
     Ok(CheckpointState::new(target, state, committees))
+}
+
+/// Keeps the state of such a checkpoint, unless it is kept already, or refused or limited. What contracts see of the store and the
+/// keeper stays.
+pub(crate) fn keep_checkpoint_state(
+    alloc: Global,
+    store: &mut StoreFields,
+    keeper: &mut Keeper<ChainStepper>,
+    checkpoint: Checkpoint,
+) -> Result<(), NoMemory>
+    requires low { start_slot_of store.old checkpoint < 2 ^ 64 }
+    requires keeper { IsKeeperOf store.old keeper.old }
+    ensures same { store.new ≡ store.old }
+    ensures keeper { keeper.new ≡ keeper.old }
+{
+    if store.checkpoint_state(checkpoint).is_some() {
+        return Ok(());
+    }
+    match checkpoint_state_anew(alloc, store, keeper, checkpoint) {
+        Ok(made) => store.keep_checkpoint_state(made),
+        Err(Stop::NoMemory) => Err(NoMemory),
+        Err(_) => Ok(()),
+    }
 }
