@@ -149,19 +149,23 @@ fn weighed_rows<L: Ledger>(
     Ok([unweighed, applied(array, 10, steps)])
 }
 
-/// Votes of the same and of a later epoch, and then other balances: heads and weights.
+/// Votes of the same and of a later epoch, then other balances, and then a justified checkpoint behind the node that is weighed:
+/// heads and weights.
 fn later_rows<L: Ledger>(
     array: &mut BlockArray,
     balances: Vec<u64>,
     steps: &mut Steps<L>,
-) -> Result<[Made; 3], NoMemory>
+) -> Result<[Made; 4], NoMemory>
     requires nodes { length array.old.nodes ≡ 21 }
     requires few { length balances.items ≤ 2 ^ 40 }
 {
     let equal = applied_vote(array, (5, 2, 1), 10, steps)?;
     let later = applied_vote(array, (5, 2, 2), 10, steps)?;
     array.set_balances(balances, 64, 448);
-    Ok([equal, later, applied(array, 3, steps)])
+    let lighter = applied(array, 3, steps);
+    let facts = at_genesis();
+    array.set_checkpoints(12, facts.justified, facts.finalized);
+    Ok([equal, later, lighter, applied(array, 3, steps)])
 }
 
 /// A tie of two children, a vote, and a vote taken back: heads and weights.
@@ -198,7 +202,7 @@ fn balances(alloc: Global, each: u64) -> Result<Vec<u64>, NoMemory>
 }
 
 /// What `weighed_rows` and `later_rows` give.
-fn chain_rows<L: Ledger>(alloc: Global, blank: Blank) -> Result<([Made; 2], [Made; 3]), NoMemory>
+fn chain_rows<L: Ledger>(alloc: Global, blank: Blank) -> Result<([Made; 2], [Made; 4]), NoMemory>
     requires name { blank.name ≡ L.name }
     requires parts { blank.parts ≡ L.parts }
     requires some { 0 < blank.parts }
@@ -232,7 +236,7 @@ fn rows_of_a_fork<L: Ledger>(
 fn votes_in_a_chain(rt: HostRuntime) -> Result<(), Fail> {
     let (weighed, later) = chain_rows::<Brand>(rt.alloc(), Blank::new(1))?;
     assert_eq!(rt; weighed, [(20, 0), (20, 64)]);
-    assert_eq!(rt; later, [(20, 64), (20, 32), (20, 14)]);
+    assert_eq!(rt; later, [(20, 64), (20, 32), (20, 14), (20, 14)]);
     Ok(())
 }
 
