@@ -4,6 +4,7 @@
 ghost use Rattle.std.specs.Prelude.{◌≡◌, ◌<◌, ◌-◌, ◌^◌, ◌++◌, ◌∷◌, [], true, false, length, IfOk};
 ghost use Rattle.beacon_types.specs.Equality.{same_root};
 ghost use Rattle.spec_state.specs.Genesis.{zero_root};
+ghost use Rattle.spec_state.specs.Soundness.{IsSound};
 ghost use Rattle.spec_fork_choice.specs.Store.{is_kept};
 ghost use Rattle.fork_store.specs.inside.Arrays.{AreNodesOf, IsArrayOf};
 ghost use Rattle.fork_store.specs.inside.Wholes.{IsWhole, IsReady};
@@ -140,6 +141,40 @@ fn may_move(store: &StoreFields, facts: Facts) -> bool
 {
     store.justified().epoch < facts.justified.epoch
         || store.finalized().epoch < facts.finalized.epoch
+}
+
+/// The checkpoints of a state.
+fn facts_of(state: &State) -> Facts
+    ensures justified { result.justified ≡ state.now.current_justified_checkpoint }
+    ensures finalized { result.finalized ≡ state.now.finalized_checkpoint }
+{
+    Facts {
+        justified: state.current_justified_checkpoint(),
+        finalized: state.finalized_checkpoint(),
+    }
+}
+
+/// Keeps the state of a justified checkpoint that may become the store's. What contracts see of the store and the keeper stays.
+#[tactic(auto, using(crate::proofs::Numbers::justified_is_low))]
+pub(crate) fn keep_justified(
+    alloc: Global,
+    store: &mut StoreFields,
+    keeper: &mut Keeper<ChainStepper>,
+    state: &State,
+) -> Result<(), NoMemory>
+    requires sound { IsSound state.now }
+    requires preset { state.now.preset ≡ store.old.config.preset }
+    requires keeper { IsKeeperOf store.old keeper.old }
+    ensures same { store.new ≡ store.old }
+    ensures keeper { keeper.new ≡ keeper.old }
+{
+    let _slot = state.slot();
+    let facts = facts_of(state);
+    if may_move(store, facts) {
+        keep_checkpoint_state(alloc, store, keeper, facts.justified)
+    } else {
+        Ok(())
+    }
 }
 
 /// The balances that a block's justified checkpoint may need, where it may move the store's and isn't the best justified one. The
@@ -280,7 +315,7 @@ fn settle_whole(
 
 /// Takes a valid block into the store. Where memory is refused, the store is as before: all room is made first.
 #[tactic(auto, using(crate::proofs::AcceptedBlocks::accepting, crate::proofs::Numbers::justified_is_low, crate::proofs::Keepers::keeping))]
-fn accept(
+pub(crate) fn accept(
     alloc: Global,
     store: &mut StoreFields,
     keeper: &mut Keeper<ChainStepper>,
@@ -318,66 +353,4 @@ fn accept(
         state_root: block.message.state_root,
         entered,
     })
-}
-
-/// The checkpoints of the state behind a step.
-fn facts_of(step: &Step) -> Facts
-    ensures justified { result.justified ≡ step.now.state.current_justified_checkpoint }
-    ensures finalized { result.finalized ≡ step.now.state.finalized_checkpoint }
-{
-    Facts {
-        justified: step.state.current_justified_checkpoint(),
-        finalized: step.state.finalized_checkpoint(),
-    }
-}
-
-/// Keeps the state of a justified checkpoint that may become the store's. What contracts see of the store and the keeper stays.
-fn keep_justified(
-    alloc: Global,
-    store: &mut StoreFields,
-    keeper: &mut Keeper<ChainStepper>,
-    facts: Facts,
-) -> Result<(), NoMemory>
-    requires low { start_slot_of store.old facts.justified < 2 ^ 64 }
-    requires keeper { IsKeeperOf store.old keeper.old }
-    ensures same { store.new ≡ store.old }
-    ensures keeper { keeper.new ≡ keeper.old }
-{
-    if may_move(store, facts) {
-        keep_checkpoint_state(alloc, store, keeper, facts.justified)
-    } else {
-        Ok(())
-    }
-}
-
-/// Takes a valid block into the store, which keeps the state of its justified checkpoint. Where memory is refused, the store is as
-/// before: all room is made first.
-#[tactic(auto, using(crate::proofs::Numbers::justified_is_low, crate::proofs::Keepers::keeping))]
-pub(crate) fn accept_keeping(
-    alloc: Global,
-    store: &mut StoreFields,
-    keeper: &mut Keeper<ChainStepper>,
-    array: &mut BlockArray,
-    ready: &mut Option<ReadyBalances>,
-    block: &SignedBeaconBlock,
-    root: Root,
-    step: Step,
-) -> Result<BlockIn, NoMemory>
-    requires whole { IsWhole store.old array.old ready.old }
-    requires few { length store.old.blocks < 2 ^ 32 - 1 }
-    requires keeper { IsKeeperOf store.old keeper.old }
-    requires kept { IsKept (kept_of root block.now.message step.state) }
-    requires preset { step.state.preset ≡ store.old.config.preset }
-    requires parent { HasParent store.old.blocks block.now.message }
-    requires named { same_root root zero_root ≡ false }
-    requires linked { IsLinked store.old.config store.old.blocks step.state }
-    requires stepped { IsStepOn store.old.config store.old.blocks block.now step.state }
-    ensures exact { BecomesWith result store.old store.new (with_accepted store.old (kept_of root block.now.message step.state)) (block_in_of root block.now.message step) }
-    ensures whole { IsWhole store.new array.new ready.new }
-    ensures keeper { IsKeeperOf store.new keeper.new }
-    ensures unset { store.new.justified_checkpoint ≡ store.old.justified_checkpoint → array.new.balances_set ≡ array.old.balances_set }
-{
-    let facts = facts_of(&step);
-    keep_justified(alloc, store, keeper, facts)?;
-    accept(alloc, store, keeper, array, ready, block, root, step)
 }

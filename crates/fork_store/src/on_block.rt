@@ -13,7 +13,7 @@ ghost use Rattle.fork_store.specs.inside.Wholes.{IsWhole};
 ghost use Rattle.fork_store.specs.inside.Chains.{IsChained, IsLinked};
 ghost use Rattle.fork_store.specs.inside.Keepers.{IsKeeperOf, IsStepOn};
 
-use crate::accept_block::accept_keeping;
+use crate::accept_block::{accept, keep_justified};
 use crate::block_in::BlockIn;
 use crate::chain_stepper::ChainStepper;
 use crate::clash_of::clash_of;
@@ -111,7 +111,10 @@ fn accept_unless(
     let _slot = block.message.slot;
     match clash_of(store.blocks(), keeper, root, &block.message) {
         Some(kind) => Err(StoreStop::Clash(kind)),
-        None => Ok(accept_keeping(alloc, store, keeper, array, ready, block, root, step)?),
+        None => {
+            keep_justified(alloc, store, keeper, &step.state)?;
+            Ok(accept(alloc, store, keeper, array, ready, block, root, step)?)
+        }
     }
 }
 
