@@ -2,7 +2,7 @@
 //!
 //! The payload's bytes come from a record; the store changes, and what an accepted block leaves goes to the event's line.
 
-ghost use Rattle.std.specs.Prelude.{◌≡◌, ◌<◌, ◌-◌, ◌^◌, length};
+ghost use Rattle.std.specs.Prelude.{◌≡◌, ◌<◌, ◌-◌, ◌^◌, Some, length};
 ghost use Rattle.beacon_body.specs.Containers.{signed_block_codec, attestation_codec};
 ghost use Rattle.spec_fork_choice.specs.OnTick.{on_tick};
 ghost use Rattle.spec_fork_choice.specs.OnAttestation.{on_attestation};
@@ -49,14 +49,27 @@ fn handle_tick(store: &mut Store, payload: &[u8]) -> Result<Accepted, StoreStop>
     }
 }
 
-/// Takes a signed block, whose payload is its writing.
+/// Takes a signed block.
 #[tactic(auto, unfolding(spec_fork_choice::specs::OnEvent::handle_block), using(crate::proofs::Events::blocks))]
+fn take_block(
+    alloc: Global,
+    store: &mut Store,
+    block: &SignedBeaconBlock,
+) -> Result<Accepted, StoreStop>
+    requires few { length store.old.plain.blocks < 2 ^ 32 - 1 }
+    ensures { AcceptsBy accepted_of result store.old.plain store.new.plain (handle_block store.old.plain (Some block.now)) }
+{
+    Ok(Accepted::Block(store.on_block(alloc, block)?))
+}
+
+/// Takes a signed block, whose payload is its writing.
+#[tactic(auto, unfolding(spec_fork_choice::specs::OnEvent::handle_block))]
 fn handle_block(alloc: Global, store: &mut Store, payload: &[u8]) -> Result<Accepted, StoreStop>
     requires few { length store.old.plain.blocks < 2 ^ 32 - 1 }
     ensures { AcceptsBy accepted_of result store.old.plain store.new.plain (handle_block store.old.plain (signed_block_codec.deserialize payload.now)) }
 {
     match SignedBeaconBlock::read(alloc, payload) {
-        Ok(block) => Ok(Accepted::Block(store.on_block(alloc, &block)?)),
+        Ok(block) => take_block(alloc, store, &block),
         Err(SszFault::NotAWriting) => Err(StoreStop::Refused(Refusal::Malformed)),
         Err(SszFault::NoMemory) => Err(StoreStop::NoMemory),
     }
