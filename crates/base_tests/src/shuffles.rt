@@ -7,23 +7,35 @@ use std::alloc::Global;
 use std::process::Abort;
 use std::test::Fail;
 
-#[test]
-fn places_are_the_published_ones(rt: HostRuntime) {
-    let seed = [7; 32];
+/// The seed of all these shuffles.
+const SEED: [u8; 32] = [7; 32];
+
+/// Places of a list of seven, at ten rounds.
+fn places_of_seven(rt: &impl Abort) {
     for (index, place) in [(0, 6), (1, 2), (2, 5), (3, 0), (4, 4), (5, 1), (6, 3)] {
         assert!(rt; index < 7);
-        assert_eq!(rt; shuffled_index(index, 7, &seed, 10), place);
+        assert_eq!(rt; shuffled_index(index, 7, &SEED, 10), place);
     }
+}
+
+/// Places of a list of a thousand, at ninety rounds.
+fn places_of_a_thousand(rt: &impl Abort) {
     for (index, place) in [(0, 564), (1, 799), (2, 462), (500, 189), (999, 155)] {
         assert!(rt; index < 1000);
-        assert_eq!(rt; shuffled_index(index, 1000, &seed, 90), place);
+        assert_eq!(rt; shuffled_index(index, 1000, &SEED, 90), place);
     }
-    assert_eq!(rt; shuffled_index(0, 1, &seed, 10), 0);
+}
+
+#[test]
+fn places_are_the_published_ones(rt: HostRuntime) {
+    places_of_seven(&rt);
+    places_of_a_thousand(&rt);
+    assert_eq!(rt; shuffled_index(0, 1, &SEED, 10), 0);
     assert_eq!(rt;
-        shuffled_index(0, 1_099_511_627_776, &seed, 90),
+        shuffled_index(0, 1_099_511_627_776, &SEED, 90),
         1_085_630_126_522
     );
-    assert_eq!(rt; shuffled_index(999, 1000, &seed, 256), 296);
+    assert_eq!(rt; shuffled_index(999, 1000, &SEED, 256), 296);
 }
 
 /// Shuffles 600 items from `first` on, each ten above the one before it.
@@ -35,7 +47,7 @@ fn shuffle_tens(rt: &impl Abort, alloc: Global, first: u64) -> Result<(), Fail>
         list.push(first + 10 * i)?;
     }
     assert_eq!(rt; list.len(), 600);
-    let list = shuffle_all(alloc, list, &[7; 32], 10)?;
+    let list = shuffle_all(alloc, list, &SEED, 10)?;
     for (place, item) in [
         (0, 4270),
         (1, 4660),

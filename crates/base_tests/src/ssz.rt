@@ -8,6 +8,7 @@ use ssz_codec::{
     BitList, Cut, LimitedList, ListLimit, Ssz, Writer, cut, read_list, read_variable_list,
 };
 use std::alloc::Global;
+use std::process::Abort;
 use std::test::Fail;
 
 /// How many bytes are taken, or 99.
@@ -40,15 +41,26 @@ fn pieces_of_bytes(rt: HostRuntime) {
     assert_eq!(rt; parts, (true, false, false));
 }
 
-#[test]
-fn written_and_read(rt: HostRuntime) -> Result<(), Fail> {
-    let mut out = Writer::new(rt.alloc());
+/// The writing of the numbers 1 and 2.
+fn one_and_two(alloc: Global) -> Result<Vec<u8>, NoMemory> {
+    let mut out = Writer::new(alloc);
     out.put_u64(1)?;
     out.put_u64(2)?;
-    let bytes = out.finish();
-    let numbers = read_list::<u64>(rt.alloc(), &bytes, 8, 2)?;
+    Ok(out.finish())
+}
+
+/// What is read of two numbers, and of two where one is the limit.
+fn numbers_are_read(rt: &(impl AllocGlobal + Abort), bytes: &[u8]) -> Result<(), Fail> {
+    let numbers = read_list::<u64>(rt.alloc(), bytes, 8, 2)?;
     assert_eq!(rt; numbers.as_slice(), [1, 2].as_slice());
-    assert!(rt; read_list::<u64>(rt.alloc(), &bytes, 8, 1).is_err());
+    assert!(rt; read_list::<u64>(rt.alloc(), bytes, 8, 1).is_err());
+    Ok(())
+}
+
+#[test]
+fn written_and_read(rt: HostRuntime) -> Result<(), Fail> {
+    let bytes = one_and_two(rt.alloc())?;
+    numbers_are_read(&rt, &bytes)?;
     let listed = [8, 0, 0, 0, 8, 0, 0, 0, 1];
     let bools = read_variable_list::<bool>(rt.alloc(), &listed, 2);
     assert!(rt; bools.is_err());

@@ -72,11 +72,10 @@ fn shared_and_set<L: Ledger>(
 #[test]
 fn a_list_of_two_has_room_for_two(rt: HostRuntime) -> Result<(), Fail> {
     let (roots, full) = three_pushes::<Brand>(rt.alloc(), Blank::new(1))?;
+    let none = mix_in_length(&zero_hash(1), 0);
+    let one = mix_in_length(&merkle_leaves(&[7u64], 1), 1);
     let two = mix_in_length(&merkle_leaves(&[7u64, 8], 1), 2);
-    assert_eq!(rt; roots[0], mix_in_length(&zero_hash(1), 0));
-    assert_eq!(rt; roots[1], mix_in_length(&merkle_leaves(&[7u64], 1), 1));
-    assert_eq!(rt; roots[2], two);
-    assert_eq!(rt; roots[3], two);
+    assert_eq!(rt; roots, [none, one, two, two]);
     assert!(rt; full);
     Ok(())
 }
@@ -111,14 +110,10 @@ fn five(alloc: Global) -> Result<(Root, u64, Option<u64>, Option<u64>), NoMemory
 
 #[test]
 fn lists_of_any_length(rt: HostRuntime) -> Result<(), Fail> {
-    let (root, len) = nothing(rt.alloc())?;
-    assert_eq!(rt; root, mix_in_length(&zero_hash(40), 0));
-    assert_eq!(rt; len, 0);
-    let (top, limit, last, behind) = five(rt.alloc())?;
-    assert_eq!(rt; top, merkle_leaves(&[1u64, 2, 3, 4, 5], 4));
-    assert_eq!(rt; limit, 11);
-    assert_eq!(rt; last, Some(5));
-    assert_eq!(rt; behind, None);
+    let none = mix_in_length(&zero_hash(40), 0);
+    let top = merkle_leaves(&[1u64, 2, 3, 4, 5], 4);
+    assert_eq!(rt; nothing(rt.alloc()), Ok((none, 0)));
+    assert_eq!(rt; five(rt.alloc()), Ok((top, 11, Some(5), None)));
     Ok(())
 }
 
@@ -256,13 +251,11 @@ fn numbers_changed<L: Ledger>(
 
 #[test]
 fn numbers_are_packed(rt: HostRuntime) -> Result<(), Fail> {
-    let ([many, set, pushed], there) = numbers_changed::<Brand>(rt.alloc(), Blank::new(1))?;
-    assert_eq!(rt; many, mix_in_length(&merkle_u64(&[6, 2, 7], 1), 3));
-    assert_eq!(rt; set, mix_in_length(&merkle_u64(&[6, u64::MAX, 7], 1), 3));
-    assert_eq!(rt;
-        pushed,
-        mix_in_length(&merkle_u64(&[6, u64::MAX, 7, 4, 5], 1), 5)
-    );
+    let (roots, there) = numbers_changed::<Brand>(rt.alloc(), Blank::new(1))?;
+    let many = mix_in_length(&merkle_u64(&[6, 2, 7], 1), 3);
+    let set = mix_in_length(&merkle_u64(&[6, u64::MAX, 7], 1), 3);
+    let pushed = mix_in_length(&merkle_u64(&[6, u64::MAX, 7, 4, 5], 1), 5);
+    assert_eq!(rt; roots, [many, set, pushed]);
     assert_eq!(rt; there, Some(u64::MAX));
     Ok(())
 }

@@ -5,6 +5,7 @@ use fork_store::clash;
 use hash_tree::{Leaf, Root};
 use ssz_codec::{ListValue, Ssz, SszFault, one_writing, reads_back};
 use std::alloc::Global;
+use std::process::Abort;
 use std::test::Fail;
 
 // The roots below were computed beside this code, from simple-serialize.md alone.
@@ -27,6 +28,15 @@ fn is_written<T: Ssz>(alloc: Global, value: &T, bytes: &[u8]) -> bool {
     }
 }
 
+/// The roots of the default block, and that it is written so.
+fn default_block_holds(rt: &(impl AllocGlobal + Abort), block: &SignedBeaconBlock, bytes: &[u8]) {
+    assert_eq!(rt; block.message.body.root(), DEFAULT_BODY);
+    assert_eq!(rt; block.root(), DEFAULT_SIGNED_BLOCK);
+    assert!(rt; is_written(rt.alloc(), block, bytes));
+    reads_back::<SignedBeaconBlock>();
+    one_writing::<BeaconBlock>();
+}
+
 #[test]
 fn default_roots(rt: HostRuntime) -> Result<(), Fail> {
     assert_eq!(rt; empty_body_root(), DEFAULT_BODY);
@@ -36,13 +46,10 @@ fn default_roots(rt: HostRuntime) -> Result<(), Fail> {
     for at in [384, 388, 392, 396, 400] {
         bytes[at] = 220;
     }
-    let block = SignedBeaconBlock::read(rt.alloc(), &bytes)?;
-    assert_eq!(rt; block.message.body.root(), DEFAULT_BODY);
-    assert_eq!(rt; block.root(), DEFAULT_SIGNED_BLOCK);
-    assert!(rt; is_written(rt.alloc(), &block, &bytes));
-    reads_back::<SignedBeaconBlock>();
-    one_writing::<BeaconBlock>();
-    Ok(())
+    match SignedBeaconBlock::read(rt.alloc(), &bytes) {
+        Ok(block) => Ok(default_block_holds(&rt, &block, &bytes)),
+        Err(fault) => Err(fault.into()),
+    }
 }
 
 /// Whether a value equals its copy.
@@ -104,11 +111,20 @@ fn clashes_alone(alloc: Global, root: Root, state_root: Root) -> Result<bool, Ss
     Ok(clash(root, state_root, None, &block))
 }
 
+/// Whether an empty block with this graffiti clashes with a kept one.
+fn clashes_with(alloc: Global, kept: &BeaconBlock, graffiti: u8) -> Result<bool, SszFault> {
+    match BeaconBlock::read(alloc, &empty_block(graffiti)) {
+        Ok(block) => Ok(clash([1; 32], [2; 32], Some(kept), &block)),
+        Err(fault) => Err(fault),
+    }
+}
+
 /// Whether a block clashes with the empty one that is kept.
 fn clashes_with_a_kept(alloc: Global, graffiti: u8) -> Result<bool, SszFault> {
-    let kept = BeaconBlock::read(alloc, &empty_block(0))?;
-    let block = BeaconBlock::read(alloc, &empty_block(graffiti))?;
-    Ok(clash([1; 32], [2; 32], Some(&kept), &block))
+    match BeaconBlock::read(alloc, &empty_block(0)) {
+        Ok(kept) => clashes_with(alloc, &kept, graffiti),
+        Err(fault) => Err(fault),
+    }
 }
 
 #[test]
@@ -126,10 +142,16 @@ fn equals_empty(alloc: Global, block: &BeaconBlock, graffiti: u8) -> Result<bool
     Ok(block.equals(&other))
 }
 
+/// An empty block equals the one with its graffiti, and no other.
+fn equals_one_graffiti(rt: &(impl AllocGlobal + Abort), block: &BeaconBlock) {
+    assert_eq!(rt; equals_empty(rt.alloc(), block, 0), Ok(true));
+    assert_eq!(rt; equals_empty(rt.alloc(), block, 1), Ok(false));
+}
+
 #[test]
 fn blocks_are_compared(rt: HostRuntime) -> Result<(), Fail> {
-    let block = BeaconBlock::read(rt.alloc(), &empty_block(0))?;
-    assert_eq!(rt; equals_empty(rt.alloc(), &block, 0), Ok(true));
-    assert_eq!(rt; equals_empty(rt.alloc(), &block, 1), Ok(false));
-    Ok(())
+    match BeaconBlock::read(rt.alloc(), &empty_block(0)) {
+        Ok(block) => Ok(equals_one_graffiti(&rt, &block)),
+        Err(fault) => Err(fault.into()),
+    }
 }

@@ -15,25 +15,40 @@ const VOTE: Eth1Data = Eth1Data {
     block_hash: [3; 32],
 };
 
-/// Fields that are no lists.
-fn fields_change(rt: &impl Abort, state: &mut State) {
-    let fork = state.fork();
+/// Fields that are no lists are set.
+fn set_fields(state: &mut State) {
     let header = state.latest_block_header();
     state.set_genesis_time(1);
     state.set_genesis_validators_root([4; 32]);
     state.set_slot(9);
-    state.set_fork(fork);
     state.set_latest_block_header(header);
     state.set_eth1_data(VOTE);
     state.set_eth1_deposit_index(5);
     state.set_justification_bits([true, false, true, false]);
+}
+
+/// Numbers that were set.
+fn numbers_are_set(rt: &impl Abort, state: &State) {
     assert_eq!(rt; state.genesis_time(), 1);
-    assert_eq!(rt; state.genesis_validators_root(), [4; 32]);
     assert_eq!(rt; state.slot(), 9);
-    assert_eq!(rt; state.fork(), fork);
-    assert_eq!(rt; state.eth1_data(), VOTE);
     assert_eq!(rt; state.eth1_deposit_index(), 5);
+}
+
+/// Roots and bits that were set.
+fn roots_are_set(rt: &impl Abort, state: &State) {
+    assert_eq!(rt; state.genesis_validators_root(), [4; 32]);
+    assert_eq!(rt; state.eth1_data(), VOTE);
     assert_eq!(rt; state.justification_bits(), [true, false, true, false]);
+}
+
+/// Fields that are no lists.
+fn fields_change(rt: &impl Abort, state: &mut State) {
+    let fork = state.fork();
+    set_fields(state);
+    state.set_fork(fork);
+    assert_eq!(rt; state.fork(), fork);
+    numbers_are_set(rt, state);
+    roots_are_set(rt, state);
 }
 
 /// Validators and balances.
@@ -61,18 +76,23 @@ fn registry_changes(rt: &impl Abort, state: &mut State) -> Result<(), Fail> {
     Ok(())
 }
 
-/// Vectors.
-fn vectors_change(rt: &impl Abort, state: &mut State) -> Result<(), Fail> {
+/// Roots of blocks and states.
+fn kept_roots_change(rt: &impl Abort, state: &mut State) -> Result<(), Fail> {
     assert_eq!(rt; state.block_roots_len(), 64);
     assert_eq!(rt; state.state_roots_len(), 64);
-    assert_eq!(rt; state.randao_mixes_len(), 64);
-    assert_eq!(rt; state.slashings_len(), 64);
     state.set_block_roots_at(63, [5; 32])?;
     state.set_state_roots_at(0, [6; 32])?;
-    state.set_randao_mixes_at(1, [7; 32])?;
-    state.set_slashings_at(2, 9)?;
     assert_eq!(rt; state.block_roots_at(63), Some(&[5; 32]));
     assert_eq!(rt; state.state_roots_at(0), Some(&[6; 32]));
+    Ok(())
+}
+
+/// Mixes and slashed balances.
+fn mixes_change(rt: &impl Abort, state: &mut State) -> Result<(), Fail> {
+    assert_eq!(rt; state.randao_mixes_len(), 64);
+    assert_eq!(rt; state.slashings_len(), 64);
+    state.set_randao_mixes_at(1, [7; 32])?;
+    state.set_slashings_at(2, 9)?;
     assert_eq!(rt; state.randao_mixes_at(1), Some(&[7; 32]));
     assert_eq!(rt; state.slashings_at(2), Some(9));
     Ok(())
@@ -125,7 +145,8 @@ fn state_changes(rt: &(impl AllocGlobal + Abort), state: &mut State) -> Result<(
     share_stays(rt, state)?;
     fields_change(rt, state);
     registry_changes(rt, state)?;
-    vectors_change(rt, state)?;
+    kept_roots_change(rt, state)?;
+    mixes_change(rt, state)?;
     votes_fill(rt, state)?;
     lists_change(rt, state)
 }

@@ -179,6 +179,13 @@ fn long_text(alloc: Global) -> Result<Vec<u8>, AllocError> {
     Ok(text)
 }
 
+/// What was handed out of each of two opened files.
+fn handed_out_is(rt: &impl Abort, shelf: &DiskShelf<'_, OneFile>) {
+    assert_eq!(rt; shelf.handed_out(0), Some(150_000));
+    assert_eq!(rt; shelf.handed_out(1), Some(70_001));
+    assert_eq!(rt; shelf.handed_out(2), None);
+}
+
 /// Opens the file twice, and reads it whole and up to a limit.
 fn long_file_is_read(
     rt: &impl Abort,
@@ -194,9 +201,7 @@ fn long_file_is_read(
     let front = shelf.open(" a name ")?;
     assert!(rt; hands_out(alloc, shelf, whole, 1_000_000, text)?);
     assert!(rt; hands_out(alloc, shelf, front, 70_001, &text[..70_001])?);
-    assert_eq!(rt; shelf.handed_out(0), Some(150_000));
-    assert_eq!(rt; shelf.handed_out(1), Some(70_001));
-    assert_eq!(rt; shelf.handed_out(2), None);
+    handed_out_is(rt, shelf);
     Ok(())
 }
 

@@ -50,11 +50,17 @@ fn put_validator(bytes: &mut Vec<u8>, start: usize, exit_epoch: u64)
     put(bytes, start + 113, &[255; 8]);
 }
 
-fn totals_are(rt: &impl Abort, alloc: Global, state: &State) -> Result<(), Fail> {
+/// What the active validators and some of them weigh.
+fn totals_are(rt: &impl Abort, state: &State) -> Result<(), Fail> {
     assert_eq!(rt; total_active(state, 0)?, 2_048_000_000_000);
     assert_eq!(rt; total_active(state, 5)?, 2_016_000_000_000);
     assert_eq!(rt; total_of(state, &[])?, 1_000_000_000);
     assert_eq!(rt; total_of(state, &[3, 63])?, 64_000_000_000);
+    Ok(())
+}
+
+/// Who is active, and in which committees.
+fn active_are(rt: &impl Abort, alloc: Global, state: &State) -> Result<(), Fail> {
     assert_eq!(rt; active(alloc, state, 4)?.len(), 64);
     assert_eq!(rt; active(alloc, state, 5)?.last().copied(), Some(62));
     let committees = committees_of_epoch(alloc, state, 0)?;
@@ -66,11 +72,16 @@ fn totals_are(rt: &impl Abort, alloc: Global, state: &State) -> Result<(), Fail>
     Ok(())
 }
 
+fn network_holds(rt: &impl Abort, alloc: Global, state: &State) -> Result<(), Fail> {
+    totals_are(rt, state)?;
+    active_are(rt, alloc, state)
+}
+
 #[test]
 fn totals_of_a_small_network(rt: HostRuntime) -> Result<(), Fail> {
     let bytes = network(rt.alloc())?;
     match State::read(rt.alloc(), &Preset::minimal(), &bytes) {
-        Ok(state) => totals_are(&rt, rt.alloc(), &state),
+        Ok(state) => network_holds(&rt, rt.alloc(), &state),
         Err(fault) => Err(Fail::from(fault)),
     }
 }
