@@ -6,12 +6,12 @@ use Rattle.fork_store.proofs.store_target_checkpoint_state.state_anew.Goals as g
 
 pub state_at-requires-clause-sound : goal.state_at-requires-clause-sound
 state_at-requires-clause-sound c =
-    behind_sound c.args.store.now.blocks c.args.target.root c.in_ok-state.state
+    behind_sound _ c.args.target.root c.in_ok-state.state
     (subst (λ (b : List KeptBlock). IsStateBehind b c.args.target.root c.in_ok-state.state) c.blocks-2.ensures c.in_ok-state.ensures.state)
 
 pub state_at-requires-clause-preset : goal.state_at-requires-clause-preset
 state_at-requires-clause-preset c =
-    behind_preset c.args.store.now.blocks c.args.target.root c.in_ok-state.state
+    behind_preset _ c.args.target.root c.in_ok-state.state
     (subst (λ (b : List KeptBlock). IsStateBehind b c.args.target.root c.in_ok-state.state) c.blocks-2.ensures c.in_ok-state.ensures.state)
     c.args.store.now.config.preset c.is_sound.ensures.store.presets
 
