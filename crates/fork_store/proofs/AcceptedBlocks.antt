@@ -129,5 +129,3 @@ again_whole store after a new ready whole is array = record {
   few = subst (λ (s : Store). length s.blocks < 2 ^ 32) (sym is) whole.few;
   ready_is = subst (λ (s : Store). IsReady s ready) (sym is) whole.ready_is;
 }
-
-pub ruleset accepting = (mid_low, mid_few, mid_ready, mid_given, mid_known, mid_kept, is_accepted, accepted_whole, whole_array, again_whole)

@@ -314,7 +314,7 @@ fn settle_whole(
 }
 
 /// Takes a valid block into the store. Where memory is refused, the store is as before: all room is made first.
-#[tactic(auto, using(crate::proofs::AcceptedBlocks::accepting, crate::proofs::Numbers::justified_is_low, crate::proofs::Keepers::keeping))]
+#[tactic(auto, using(crate::proofs::AcceptedBlocks::mid_low, crate::proofs::Numbers::justified_is_low))]
 pub(crate) fn accept(
     alloc: Global,
     store: &mut StoreFields,

@@ -5,8 +5,8 @@ use Rattle.spec_fork_choice.specs.Store.{KeptBlock}
 use Rattle.fork_store.specs.inside.Accepted.{settled}
 use Rattle.fork_store.specs.inside.Chains.{IsLinked}
 use Rattle.fork_store.specs.inside.Keepers.{IsStepOn}
-use Rattle.fork_store.proofs.Keepers.{keeper_settled}
-use Rattle.fork_store.proofs.AcceptedBlocks.{settled_is_accepted, accepted_whole, mid_few}
+use Rattle.fork_store.proofs.Keepers.{keeper_same, keeper_settled}
+use Rattle.fork_store.proofs.AcceptedBlocks.{settled_is_accepted, accepted_whole, again_whole, mid_few, mid_given, mid_kept, mid_known, mid_ready}
 use Rattle.fork_store.proofs.accept_block.accept.Goals as goal
 
 pub returns-clause-exact : goal.returns-clause-exact
@@ -36,3 +36,39 @@ returns-clause-keeper c =
 
 pub keep_block-requires-clause-step : goal.keep_block-requires-clause-step
 keep_block-requires-clause-step c = subst (λ (step : Stepped). IsStepOn c.args.store.now.config c.args.store.now.blocks c.args.block.now step.state) (sym c.step.view_is) c.requires.stepped
+
+pub settle_whole-requires-clause-few : goal.settle_whole-requires-clause-few
+settle_whole-requires-clause-few c =
+    let linked = subst (λ (step : Stepped). IsLinked c.args.store.now.config c.args.store.now.blocks step.state) (sym c.step.view_is) c.requires.linked in
+    mid_few c.args.store.now c.keep_block.new.store c.args.array.now c.args.ready.now c.args.root c.args.block.now.message c.step.inside.state c.requires.whole linked c.in_ok-keep_block.ensures.exact c.requires.few
+
+pub settle_whole-requires-clause-ready : goal.settle_whole-requires-clause-ready
+settle_whole-requires-clause-ready c =
+    let linked = subst (λ (step : Stepped). IsLinked c.args.store.now.config c.args.store.now.blocks step.state) (sym c.step.view_is) c.requires.linked in
+    mid_ready c.args.store.now c.keep_block.new.store c.args.array.now c.args.ready.now c.args.root c.args.block.now.message c.step.inside.state c.requires.whole linked c.in_ok-keep_block.ensures.exact
+
+pub settle_whole-requires-clause-kept : goal.settle_whole-requires-clause-kept
+settle_whole-requires-clause-kept c =
+    let linked = subst (λ (step : Stepped). IsLinked c.args.store.now.config c.args.store.now.blocks step.state) (sym c.step.view_is) c.requires.linked in
+    mid_kept c.args.store.now c.keep_block.new.store c.args.array.now c.args.ready.now c.args.root c.args.block.now.message c.step.inside.state c.requires.whole linked c.in_ok-keep_block.ensures.exact
+
+pub settle_whole-requires-clause-justified : goal.settle_whole-requires-clause-justified
+settle_whole-requires-clause-justified c =
+    let linked = subst (λ (step : Stepped). IsLinked c.args.store.now.config c.args.store.now.blocks step.state) (sym c.step.view_is) c.requires.linked in
+    rw (c.current_justified_checkpoint.ensures, c.finalized_checkpoint.ensures) (mid_known c.args.store.now c.keep_block.new.store c.args.array.now c.args.ready.now c.args.root c.args.block.now.message c.step.inside.state c.requires.whole linked c.in_ok-keep_block.ensures.exact)
+
+pub settle_whole-requires-clause-given : goal.settle_whole-requires-clause-given
+settle_whole-requires-clause-given c =
+    let linked = subst (λ (step : Stepped). IsLinked c.args.store.now.config c.args.store.now.blocks step.state) (sym c.step.view_is) c.requires.linked in
+    rw (c.current_justified_checkpoint.ensures, c.finalized_checkpoint.ensures)
+    (mid_given c.args.store.now c.keep_block.new.store c.args.array.now c.args.ready.now c.args.root c.args.block.now.message c.step.inside.state c.requires.whole linked c.in_ok-keep_block.ensures.exact _ _ (rw (← c.current_justified_checkpoint.ensures, ← c.finalized_checkpoint.ensures) c.in_ok-given.ensures.given))
+
+pub returns-in_err-keep_block-clause-whole : goal.returns-in_err-keep_block-clause-whole
+returns-in_err-keep_block-clause-whole c =
+    again_whole c.args.store.now c.keep_block.new.store c.args.array.now c.keep_block.new.array c.args.ready.now c.requires.whole c.in_err-keep_block.ensures.exact c.in_err-keep_block.ensures.array
+
+pub keep_block-requires-clause-array : goal.keep_block-requires-clause-array
+keep_block-requires-clause-array c = c.requires.whole.array_of
+
+pub keep_block-requires-clause-keeper : goal.keep_block-requires-clause-keeper
+keep_block-requires-clause-keeper c = keeper_same c.args.store.now c.args.keeper.now c.prepare.new.keeper c.requires.keeper c.in_ok-given.ensures.same
