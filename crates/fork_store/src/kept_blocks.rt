@@ -2,9 +2,10 @@
 //!
 //! Blocks come from the handlers of the store, and go with their states to the keeper; a root is looked up here.
 
-ghost use Rattle.std.specs.Prelude.{◌≡◌, ◌<◌, ◌-◌, ◌^◌, ◌∷◌, ◌++◌, [], false, length, Some, IfOk};
+ghost use Rattle.std.specs.Prelude.{◌≡◌, ◌<◌, ◌≤◌, ◌-◌, ◌^◌, ◌∷◌, ◌++◌, [], false, length, Some, IfOk, OnOk};
 ghost use Rattle.std.specs.List.{AllByRecursion};
 ghost use Rattle.bc_words.specs.Outcome.{Becomes};
+ghost use Rattle.indexmap.specs.IndexSet.{spare, IsUnchanged};
 ghost use Rattle.spec_fork_choice.specs.Store.{is_kept};
 ghost use Rattle.fork_store.specs.inside.Accepted.{kept_of};
 ghost use Rattle.fork_store.specs.inside.Arrays.{number_of};
@@ -45,6 +46,18 @@ impl Model for KeptBlocks {
     ghost view = { λ blocks. kept_blocks blocks.seen.value.blocks };
 
     ghost invariant = { λ blocks. (blocks.roots.keys ≡ roots_of (kept_blocks blocks.seen.value.blocks)) × AllByRecursion IsKept (kept_blocks blocks.seen.value.blocks) };
+}
+
+/// Makes room for one block more, with its root.
+fn make_room(roots: &mut IndexSet<Root>, keeper: &mut Keeper<ChainStepper>) -> Result<(), NoMemory>
+    ensures keys { IsUnchanged roots.old roots.new }
+    ensures spare { OnOk result (1 ≤ spare roots.new) }
+    ensures stepper { keeper.new.stepper ≡ keeper.old.stepper }
+    ensures blocks { keeper.new.blocks ≡ keeper.old.blocks }
+    ensures room { OnOk result (0 < keeper.new.spare) }
+{
+    roots.reserve(1)?;
+    keeper.reserve()
 }
 
 impl KeptBlocks {
@@ -116,8 +129,7 @@ impl KeptBlocks {
         ensures keeper { kept_blocks keeper.new.blocks ≡ self.new }
         ensures stepper { keeper.new.stepper ≡ keeper.old.stepper }
     {
-        self.roots.reserve(1)?;
-        keeper.reserve()?;
+        make_room(&mut self.roots, keeper)?;
         let _number = keeper.add(parent, block, state);
         let _room = self.roots.insert(root);
         self.seen = Snapshot::of(keeper);
