@@ -3,7 +3,7 @@
 ghost use Rattle.std.specs.Prelude.{◌≡◌};
 ghost use Rattle.spec_state.specs.Accessors.{get_current_epoch, get_previous_epoch, epoch_committees};
 
-use crate::ratio::Ratio;
+use crate::ratio::{Ratio, time_since};
 use crate::states::{Shape, put, put_vote, state_bytes};
 use anyhow::Result;
 use attest_ops::process_attestation::process_attestation;
@@ -31,8 +31,7 @@ fn time_one(
 {
     let begin = rt.process_cpu_time()?;
     process_attestation(state, attestation, 0, previous, current)?;
-    let end = rt.process_cpu_time()?;
-    Ok(end.saturating_sub(begin))
+    time_since(rt, begin)
 }
 
 /// The time of one attestation into an equal state.

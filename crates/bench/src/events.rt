@@ -5,7 +5,7 @@ ghost use Rattle.std.specs.Prelude.{◌≡◌};
 
 use crate::chain::{Shape, Told, chain};
 use crate::genesis::{Network, genesis_bytes, read_state};
-use crate::hashes::time_pairs;
+use crate::hashes::tell_against_pairs;
 use crate::ratio::Ratio;
 use crate::running::run_store;
 use anyhow::Result;
@@ -50,12 +50,7 @@ fn measure_told(
 {
     let times = run_store(rt, config, genesis, &told.events)?;
     times.tell(rt, told.events.len())?;
-    let ratio = Ratio {
-        whole: times.whole(),
-        measure: time_pairs(rt, &told.pairs)?,
-    };
-    let (alone, lanes) = (told.pairs.alone, told.pairs.lanes);
-    println!(rt; "  against {alone} pairs one by one and {lanes} in lanes: {ratio}")?;
+    tell_against_pairs(rt, "  ", &told.pairs, "", times.whole())?;
     Ok(times.whole())
 }
 

@@ -4,7 +4,7 @@
 ghost use Rattle.std.specs.Prelude.{◌≡◌, ◌+◌, ◌*◌, ◌<◌, ◌≤◌, ◌^◌, [], false, length, IfOk, OnOk};
 ghost use Rattle.block_array.specs.PlainArray.{slot_at};
 
-use crate::ratio::Ratio;
+use crate::ratio::{Ratio, time_since};
 use anyhow::Result;
 use bc_words::{NoMemory, Steps};
 use beacon_types::Checkpoint;
@@ -144,8 +144,7 @@ fn time_pass(
 ) -> Result<Duration> {
     let begin = rt.process_cpu_time()?;
     pass(votes, balances, weights);
-    let end = rt.process_cpu_time()?;
-    Ok(end.saturating_sub(begin))
+    time_since(rt, begin)
 }
 
 /// The time of weights and the head.
@@ -160,8 +159,7 @@ fn time_moved<L: Ledger>(
 {
     let begin = rt.process_cpu_time()?;
     array.apply(steps);
-    let end = rt.process_cpu_time()?;
-    Ok(end.saturating_sub(begin))
+    time_since(rt, begin)
 }
 
 /// The time of weights and the head where no vote moved: no delta is counted, and each node is visited twice at most.
@@ -178,8 +176,7 @@ fn time_unmoved<L: Ledger>(
 {
     let begin = rt.process_cpu_time()?;
     array.apply(steps);
-    let end = rt.process_cpu_time()?;
-    Ok(end.saturating_sub(begin))
+    time_since(rt, begin)
 }
 
 /// Moves these votes, and times what follows.
@@ -243,17 +240,29 @@ fn tell(rt: &impl Print, times: Times, joined: u128) -> Result<()> {
 fn measure_on<L: Ledger>(
     rt: &(impl AllocGlobal + Print + CpuClock),
     array: &mut BlockArray,
+    balances: &[u64],
+    steps: &mut Steps<L>,
+) -> Result<()>
+    requires nodes { length array.old.nodes ≡ 1024 }
+{
+    let mut weights = vec![in rt.alloc(); 0u128; NODES as usize]?;
+    let times = time_rounds(rt, array, balances, &mut weights, steps)?;
+    tell(rt, times, weights.first().copied().unwrap_or(0))
+}
+
+/// Sets the balances, and times all rounds.
+fn measure_balances<L: Ledger>(
+    rt: &(impl AllocGlobal + Print + CpuClock),
+    array: &mut BlockArray,
     steps: &mut Steps<L>,
 ) -> Result<()>
     requires nodes { length array.old.nodes ≡ 1024 }
 {
     let balances = vec![in rt.alloc(); BALANCE; VALIDATORS]?;
-    let mut weights = vec![in rt.alloc(); 0u128; NODES as usize]?;
     let total = u128::from(BALANCE) * VALIDATORS as u128;
     array.set_balances(balances.clone()?, VALIDATORS as u64, total);
     array.apply(steps);
-    let times = time_rounds(rt, array, &balances, &mut weights, steps)?;
-    tell(rt, times, weights.first().copied().unwrap_or(0))
+    measure_on(rt, array, &balances, steps)
 }
 
 /// Makes the array, and measures on it.
@@ -264,7 +273,7 @@ fn measure_with<L: Ledger>(rt: &(impl AllocGlobal + Print + CpuClock), blank: Bl
 {
     let mut steps = Steps::<L>::new(blank);
     match chain(rt.alloc()) {
-        Ok(mut array) => measure_on(rt, &mut array, &mut steps),
+        Ok(mut array) => measure_balances(rt, &mut array, &mut steps),
         Err(stop) => Err(stop.into()),
     }
 }

@@ -5,9 +5,8 @@ ghost use Rattle.std.specs.Prelude.{◌≡◌};
 
 use crate::chain::{Event, Shape, Told, chain};
 use crate::genesis::{Network, genesis_bytes, read_state};
-use crate::hashes::time_pairs;
+use crate::hashes::tell_against_pairs;
 use crate::memory::resident;
-use crate::ratio::Ratio;
 use crate::running::{Times, run_store};
 use crate::transitions::pass_all;
 use anyhow::Result;
@@ -17,7 +16,7 @@ use beacon_state::State;
 use ssz_codec::Ssz;
 use std::alloc::Global;
 use std::rt::Files;
-use std::time::CpuClock;
+use std::time::{CpuClock, Duration};
 
 /// How many slots the record has.
 const SLOTS: u64 = 128;
@@ -38,6 +37,21 @@ struct Each {
     store: u64,
 }
 
+/// Takes the state transitions of these blocks. Gives their time, and the bytes of memory that a state takes.
+fn measure_growth(
+    rt: &(impl AllocGlobal + CpuClock + Files),
+    config: &Config,
+    states: &mut Vec<State>,
+    events: &[Event],
+) -> Result<(Duration, u64)> {
+    let before = resident(rt)?;
+    let count = states.len() as u64;
+    let time = pass_all(rt, config, states, events)?;
+    let grown = resident(rt)?.saturating_sub(before);
+    let passed = (states.len() as u64).saturating_sub(count);
+    Ok((time, grown / passed.max(1)))
+}
+
 /// Takes the state transitions of all blocks, and prints their time against the hashes of their roots. Gives the bytes of
 /// memory that a state of the second half of the blocks takes.
 fn measure_states(
@@ -48,20 +62,11 @@ fn measure_states(
 ) -> Result<u64> {
     let half = told.events.len() / 2;
     let first = pass_all(rt, config, states, &told.events[..half])?;
-    let before = resident(rt)?;
-    let count = states.len() as u64;
-    let second = pass_all(rt, config, states, &told.events[half..])?;
-    let grown = resident(rt)?.saturating_sub(before);
-    let passed = (states.len() as u64).saturating_sub(count);
-    let ratio = Ratio {
-        whole: first.saturating_add(second),
-        measure: time_pairs(rt, &told.pairs)?,
-    };
-    let (alone, lanes) = (told.pairs.alone, told.pairs.lanes);
-    println!(rt;
-        "state transitions, against {alone} pairs one by one and {lanes} in lanes, which their roots need: {ratio}"
-    )?;
-    Ok(grown / passed.max(1))
+    let (second, state) = measure_growth(rt, config, states, &told.events[half..])?;
+    let whole = first.saturating_add(second);
+    let need = ", which their roots need";
+    tell_against_pairs(rt, "state transitions, ", &told.pairs, need, whole)?;
+    Ok(state)
 }
 
 /// Reads all blocks and keeps them. Gives the bytes of their writings.
@@ -83,6 +88,19 @@ fn read_blocks(
     Ok(written)
 }
 
+/// Reads all blocks so many times and keeps them.
+fn read_times(
+    alloc: Global,
+    blocks: &mut Vec<SignedBeaconBlock>,
+    events: &[Event],
+    times: u64,
+) -> Result<()> {
+    for _time in 0..times {
+        read_blocks(alloc, blocks, events)?;
+    }
+    Ok(())
+}
+
 /// Reads all blocks many times and keeps them, so that memory let go before is used up. Gives the bytes of memory and of its
 /// writing that a block takes.
 fn measure_blocks(
@@ -93,13 +111,9 @@ fn measure_blocks(
     let written = read_blocks(rt.alloc(), blocks, events)?;
     let once = blocks.len() as u64;
     let times = (FILL / written.max(1)).saturating_add(1);
-    for _time in 0..times {
-        read_blocks(rt.alloc(), blocks, events)?;
-    }
+    read_times(rt.alloc(), blocks, events, times)?;
     let before = resident(rt)?;
-    for _time in 0..times {
-        read_blocks(rt.alloc(), blocks, events)?;
-    }
+    read_times(rt.alloc(), blocks, events, times)?;
     let grown = resident(rt)?.saturating_sub(before);
     let later = once.saturating_mul(times);
     Ok((grown / later.max(1), written / once.max(1)))
@@ -146,6 +160,13 @@ fn measure_with(
     tell(rt, &times, each, told.events.len())
 }
 
+/// The genesis state, as the first of those that are kept.
+fn states_from(alloc: Global, genesis: &State) -> Result<Vec<State>> {
+    let mut states = Vec::new(alloc);
+    states.push(genesis.share()?)?;
+    Ok(states)
+}
+
 /// The same from the genesis state on.
 fn measure_kept(
     rt: &(impl AllocGlobal + Print + CpuClock + Files),
@@ -156,9 +177,10 @@ fn measure_kept(
 ) -> Result<()>
     requires preset { genesis.now.preset ≡ config.now.preset }
 {
-    let mut states = Vec::new(rt.alloc());
-    states.push(genesis.share()?)?;
-    measure_with(rt, config, &mut states, genesis, told, sizes)
+    match states_from(rt.alloc(), genesis) {
+        Ok(mut states) => measure_with(rt, config, &mut states, genesis, told, sizes),
+        Err(error) => Err(error),
+    }
 }
 
 /// The same behind blocks that are kept.

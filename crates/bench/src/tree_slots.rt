@@ -3,7 +3,7 @@
 
 ghost use Rattle.spec_state.specs.Soundness.{IsSound};
 
-use crate::ratio::Ratio;
+use crate::ratio::{Ratio, time_since};
 use crate::states::{CONFIG, Shape, state_bytes};
 use anyhow::{Result, bail};
 use bc_preset::{Config, Preset};
@@ -26,8 +26,7 @@ fn time_to(
 {
     let begin = rt.process_cpu_time()?;
     let _step = process_slots(rt.alloc(), state, slot, config)?;
-    let end = rt.process_cpu_time()?;
-    Ok(end.saturating_sub(begin))
+    time_since(rt, begin)
 }
 
 /// Times the slots behind the first, and all of them, and prints what they took.
