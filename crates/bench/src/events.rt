@@ -4,7 +4,7 @@
 ghost use Rattle.std.specs.Prelude.{◌≡◌};
 
 use crate::chain::{Shape, Told, chain};
-use crate::genesis::{Network, genesis_bytes, read_state};
+use crate::genesis::{Network, read_genesis};
 use crate::hashes::tell_against_pairs;
 use crate::ratio::Ratio;
 use crate::running::run_store;
@@ -87,24 +87,10 @@ fn measure_from(
     Ok(())
 }
 
-/// Reads the genesis state, and measures the records from there.
-fn measure_state(
-    rt: &(impl AllocGlobal + Print + CpuClock + Files),
-    config: &Config,
-    bytes: &[u8],
-) -> Result<()> {
-    match read_state(rt.alloc(), config.preset(), bytes) {
-        Ok(genesis) => measure_from(rt, config, &genesis),
-        Err(fault) => Err(fault.into()),
-    }
-}
-
 /// Reads the configuration and the genesis state of the minimal network, and measures the records from there.
 pub fn measure(rt: &(impl AllocGlobal + Print + CpuClock + Files)) -> Result<()> {
-    let network = Network::minimal();
-    let bytes = genesis_bytes(rt.alloc(), &network)?;
-    match Config::read(network.config) {
-        Ok(config) => measure_state(rt, &config, &bytes),
-        Err(fault) => Err(fault.into()),
+    match read_genesis(rt.alloc(), &Network::minimal()) {
+        Ok(genesis) => measure_from(rt, &genesis.config, &genesis.state),
+        Err(error) => Err(error),
     }
 }

@@ -240,29 +240,17 @@ fn tell(rt: &impl Print, times: Times, joined: u128) -> Result<()> {
 fn measure_on<L: Ledger>(
     rt: &(impl AllocGlobal + Print + CpuClock),
     array: &mut BlockArray,
-    balances: &[u64],
-    steps: &mut Steps<L>,
-) -> Result<()>
-    requires nodes { length array.old.nodes ≡ 1024 }
-{
-    let mut weights = vec![in rt.alloc(); 0u128; NODES as usize]?;
-    let times = time_rounds(rt, array, balances, &mut weights, steps)?;
-    tell(rt, times, weights.first().copied().unwrap_or(0))
-}
-
-/// Sets the balances, and times all rounds.
-fn measure_balances<L: Ledger>(
-    rt: &(impl AllocGlobal + Print + CpuClock),
-    array: &mut BlockArray,
     steps: &mut Steps<L>,
 ) -> Result<()>
     requires nodes { length array.old.nodes ≡ 1024 }
 {
     let balances = vec![in rt.alloc(); BALANCE; VALIDATORS]?;
+    let mut weights = vec![in rt.alloc(); 0u128; NODES as usize]?;
     let total = u128::from(BALANCE) * VALIDATORS as u128;
     array.set_balances(balances.clone()?, VALIDATORS as u64, total);
     array.apply(steps);
-    measure_on(rt, array, &balances, steps)
+    let times = time_rounds(rt, array, &balances, &mut weights, steps)?;
+    tell(rt, times, weights.first().copied().unwrap_or(0))
 }
 
 /// Makes the array, and measures on it.
@@ -273,7 +261,7 @@ fn measure_with<L: Ledger>(rt: &(impl AllocGlobal + Print + CpuClock), blank: Bl
 {
     let mut steps = Steps::<L>::new(blank);
     match chain(rt.alloc()) {
-        Ok(mut array) => measure_balances(rt, &mut array, &mut steps),
+        Ok(mut array) => measure_on(rt, &mut array, &mut steps),
         Err(stop) => Err(stop.into()),
     }
 }

@@ -4,7 +4,7 @@
 ghost use Rattle.std.specs.Prelude.{◌≡◌};
 
 use crate::chain::{Event, Shape, Told, chain};
-use crate::genesis::{Network, genesis_bytes, read_state};
+use crate::genesis::{Network, read_genesis};
 use crate::hashes::tell_against_pairs;
 use crate::memory::resident;
 use crate::running::{Times, run_store};
@@ -211,19 +211,6 @@ fn measure_from(
     measure_told(rt, config, genesis, &told)
 }
 
-/// Reads the genesis state, and measures a record from there.
-fn measure_state(
-    rt: &(impl AllocGlobal + Print + CpuClock + Files),
-    config: &Config,
-    bytes: &[u8],
-    votes: u64,
-) -> Result<()> {
-    match read_state(rt.alloc(), config.preset(), bytes) {
-        Ok(genesis) => measure_from(rt, config, &genesis, votes),
-        Err(fault) => Err(fault.into()),
-    }
-}
-
 /// Reads the configuration and the genesis state of a network, and measures a record from there, in which each vote is told so
 /// many times.
 pub fn measure(
@@ -233,9 +220,8 @@ pub fn measure(
 ) -> Result<()> {
     let validators = network.validators;
     println!(rt; "{SLOTS} slots on {validators} validators, each vote told {votes} times")?;
-    let bytes = genesis_bytes(rt.alloc(), network)?;
-    match Config::read(network.config) {
-        Ok(config) => measure_state(rt, &config, &bytes, votes),
-        Err(fault) => Err(fault.into()),
+    match read_genesis(rt.alloc(), network) {
+        Ok(genesis) => measure_from(rt, &genesis.config, &genesis.state, votes),
+        Err(error) => Err(error),
     }
 }

@@ -139,10 +139,8 @@ pub fn run_store(
 ) -> Result<Times>
     requires preset { genesis.now.preset ≡ config.now.preset }
 {
-    match store_at(rt.alloc(), config, genesis) {
-        Ok(mut store) => run(rt, &mut store, events),
-        Err(error) => Err(error),
-    }
+    let mut store = store_at(rt.alloc(), config, genesis)?;
+    run(rt, &mut store, events)
 }
 
 /// A part of a run, and its share of the whole in hundredths.
