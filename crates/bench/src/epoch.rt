@@ -6,10 +6,9 @@ ghost use Rattle.spec_state.specs.Accessors.{get_current_epoch, get_previous_epo
 ghost use Rattle.spec_state.specs.Soundness.{IsSound, IsSoundWithinEpoch};
 
 use crate::ratio::{Ratio, time_since};
-use crate::states::{Shape, state_bytes};
+use crate::states::{Shape, mainnet_state};
 use anyhow::{Result, bail};
 use balance_totals::{committees_of_epoch, current_epoch, previous_epoch};
-use bc_preset::Preset;
 use bc_words::Stop;
 use beacon_state::State;
 use committees::EpochCommittees;
@@ -211,10 +210,9 @@ fn time_on(rt: &(impl AllocGlobal + Print + CpuClock), per_slot: u32) -> Result<
         previous: 32 * per_slot,
         current: 31 * per_slot,
     };
-    let bytes = state_bytes(rt.alloc(), &shape)?;
-    match State::read(rt.alloc(), &Preset::mainnet(), &bytes) {
+    match mainnet_state(rt.alloc(), &shape) {
         Ok(mut state) => time_parts(rt, &mut state),
-        Err(fault) => Err(fault.into()),
+        Err(error) => Err(error),
     }
 }
 
