@@ -4,7 +4,7 @@
 ghost use Rattle.std.specs.Prelude.{◌≤◌, ◌^◌};
 ghost use Rattle.spec_state.specs.Accessors.{get_current_epoch};
 
-use crate::genesis::put_offset;
+use crate::genesis::{Genesis, put_offset};
 use crate::hashes::{HEADER, Pairs, Step, pairs_of_body};
 use crate::states::put;
 use anyhow::{Result, bail};
@@ -341,24 +341,18 @@ fn next(
 }
 
 /// What a chain of so many slots behind genesis tells.
-pub fn chain(
-    alloc: Global,
-    genesis: &State,
-    config: &Config,
-    slots: u64,
-    shape: Shape,
-) -> Result<Told> {
+pub fn chain(alloc: Global, genesis: &Genesis, slots: u64, shape: Shape) -> Result<Told> {
     let mut told = Told {
         events: Vec::new(alloc),
         pairs: Pairs::none(),
     };
-    let mut state = genesis.share()?;
+    let mut state = genesis.state.share()?;
     for number in 0..slots {
         let slot = Slot {
             has_block: number % shape.every.max(1) != 5,
             votes: shape.votes,
         };
-        state = next(alloc, &state, config, slot, &mut told)?;
+        state = next(alloc, &state, &genesis.config, slot, &mut told)?;
     }
     Ok(told)
 }

@@ -4,7 +4,7 @@
 ghost use Rattle.std.specs.Prelude.{◌≡◌};
 
 use crate::chain::{Event, Shape, Told, chain};
-use crate::genesis::{Network, read_genesis};
+use crate::genesis::{Genesis, Network, read_genesis};
 use crate::hashes::tell_against_pairs;
 use crate::memory::resident;
 use crate::running::{Times, run_store};
@@ -140,17 +140,16 @@ fn tell(rt: &impl Print, times: &Times, each: Each, events: usize) -> Result<()>
 /// take. The states are kept.
 fn measure_with(
     rt: &(impl AllocGlobal + Print + CpuClock + Files),
-    config: &Config,
     states: &mut Vec<State>,
-    genesis: &State,
+    genesis: &Genesis,
     told: &Told,
     sizes: (u64, u64),
 ) -> Result<()>
-    requires preset { genesis.now.preset ≡ config.now.preset }
+    requires preset { genesis.now.state.preset ≡ genesis.now.config.preset }
 {
     let (block, written) = sizes;
-    let state = measure_states(rt, config, states, told)?;
-    let times = run_store(rt, config, genesis, &told.events)?;
+    let state = measure_states(rt, &genesis.config, states, told)?;
+    let times = run_store(rt, genesis, &told.events)?;
     let each = Each {
         state,
         block,
@@ -170,15 +169,14 @@ fn states_from(alloc: Global, genesis: &State) -> Result<Vec<State>> {
 /// The same from the genesis state on.
 fn measure_kept(
     rt: &(impl AllocGlobal + Print + CpuClock + Files),
-    config: &Config,
-    genesis: &State,
+    genesis: &Genesis,
     told: &Told,
     sizes: (u64, u64),
 ) -> Result<()>
-    requires preset { genesis.now.preset ≡ config.now.preset }
+    requires preset { genesis.now.state.preset ≡ genesis.now.config.preset }
 {
-    match states_from(rt.alloc(), genesis) {
-        Ok(mut states) => measure_with(rt, config, &mut states, genesis, told, sizes),
+    match states_from(rt.alloc(), &genesis.state) {
+        Ok(mut states) => measure_with(rt, &mut states, genesis, told, sizes),
         Err(error) => Err(error),
     }
 }
@@ -186,29 +184,27 @@ fn measure_kept(
 /// The same behind blocks that are kept.
 fn measure_told(
     rt: &(impl AllocGlobal + Print + CpuClock + Files),
-    config: &Config,
-    genesis: &State,
+    genesis: &Genesis,
     told: &Told,
 ) -> Result<()>
-    requires preset { genesis.now.preset ≡ config.now.preset }
+    requires preset { genesis.now.state.preset ≡ genesis.now.config.preset }
 {
     let mut blocks = Vec::new(rt.alloc());
     let sizes = measure_blocks(rt, &mut blocks, &told.events)?;
-    measure_kept(rt, config, genesis, told, sizes)
+    measure_kept(rt, genesis, told, sizes)
 }
 
 /// Makes the record, takes it, and prints what it took.
 fn measure_from(
     rt: &(impl AllocGlobal + Print + CpuClock + Files),
-    config: &Config,
-    genesis: &State,
+    genesis: &Genesis,
     votes: u64,
 ) -> Result<()>
-    requires preset { genesis.now.preset ≡ config.now.preset }
+    requires preset { genesis.now.state.preset ≡ genesis.now.config.preset }
 {
     let shape = Shape { every: 1, votes };
-    let told = chain(rt.alloc(), genesis, config, SLOTS, shape)?;
-    measure_told(rt, config, genesis, &told)
+    let told = chain(rt.alloc(), genesis, SLOTS, shape)?;
+    measure_told(rt, genesis, &told)
 }
 
 /// Reads the configuration and the genesis state of a network, and measures a record from there, in which each vote is told so
@@ -221,7 +217,7 @@ pub fn measure(
     let validators = network.validators;
     println!(rt; "{SLOTS} slots on {validators} validators, each vote told {votes} times")?;
     match read_genesis(rt.alloc(), network) {
-        Ok(genesis) => measure_from(rt, &genesis.config, &genesis.state, votes),
+        Ok(genesis) => measure_from(rt, &genesis, votes),
         Err(error) => Err(error),
     }
 }

@@ -5,12 +5,12 @@ ghost use Rattle.std.specs.Prelude.{◌≡◌, ◌<◌, None};
 ghost use Rattle.spec_state.specs.Genesis.{genesis_fault};
 
 use crate::chain::Event;
+use crate::genesis::Genesis;
 use crate::memory::resident;
 use crate::ratio::time_since;
 use anyhow::{Result, bail};
-use bc_preset::Config;
 use bc_words::Steps;
-use beacon_state::{State, genesis_check};
+use beacon_state::genesis_check;
 use fork_store::Store;
 use hash_tree::Root;
 use std::alloc::Global;
@@ -121,25 +121,24 @@ fn run(
 }
 
 /// The store at a genesis state.
-fn store_at(alloc: Global, config: &Config, genesis: &State) -> Result<Store>
-    requires preset { genesis.now.preset ≡ config.now.preset }
+fn store_at(alloc: Global, genesis: &Genesis) -> Result<Store>
+    requires preset { genesis.now.state.preset ≡ genesis.now.config.preset }
 {
-    if genesis_check(genesis).is_err() {
+    if genesis_check(&genesis.state).is_err() {
         bail!("it isn't a genesis state");
     }
-    Ok(Store::new(alloc, config, genesis.share()?)?)
+    Ok(Store::new(alloc, &genesis.config, genesis.state.share()?)?)
 }
 
 /// What a store takes for the record.
 pub fn run_store(
     rt: &(impl AllocGlobal + CpuClock + Files),
-    config: &Config,
-    genesis: &State,
+    genesis: &Genesis,
     events: &[Event],
 ) -> Result<Times>
-    requires preset { genesis.now.preset ≡ config.now.preset }
+    requires preset { genesis.now.state.preset ≡ genesis.now.config.preset }
 {
-    let mut store = store_at(rt.alloc(), config, genesis)?;
+    let mut store = store_at(rt.alloc(), genesis)?;
     run(rt, &mut store, events)
 }
 
