@@ -3,12 +3,11 @@
 ghost use Rattle.std.specs.Prelude.{◌≡◌};
 ghost use Rattle.spec_state.specs.Accessors.{get_current_epoch, get_previous_epoch, epoch_committees};
 
-use crate::ratio::Ratio;
-use crate::states::{Shape, put, put_vote, state_bytes};
+use crate::ratio::{Ratio, time_since};
+use crate::states::{Shape, mainnet_state, put, put_vote};
 use anyhow::Result;
 use attest_ops::process_attestation::process_attestation;
 use balance_totals::{committees_of_epoch, current_epoch, previous_epoch};
-use bc_preset::Preset;
 use beacon_body::Attestation;
 use beacon_state::State;
 use committees::EpochCommittees;
@@ -31,8 +30,7 @@ fn time_one(
 {
     let begin = rt.process_cpu_time()?;
     process_attestation(state, attestation, 0, previous, current)?;
-    let end = rt.process_cpu_time()?;
-    Ok(end.saturating_sub(begin))
+    time_since(rt, begin)
 }
 
 /// The time of one attestation into an equal state.
@@ -97,10 +95,9 @@ fn time_votes(rt: &(impl AllocGlobal + CpuClock), state: &State) -> Result<Durat
 fn time_on(rt: &(impl AllocGlobal + CpuClock), validators: u32) -> Result<Duration> {
     let mut shape = Shape::at_genesis(validators);
     shape.slot = 1;
-    let bytes = state_bytes(rt.alloc(), &shape)?;
-    match State::read(rt.alloc(), &Preset::mainnet(), &bytes) {
+    match mainnet_state(rt.alloc(), &shape) {
         Ok(state) => time_votes(rt, &state),
-        Err(fault) => Err(fault.into()),
+        Err(error) => Err(error),
     }
 }
 

@@ -3,7 +3,7 @@
 
 ghost use Rattle.std.specs.Prelude.{◌<◌};
 
-use crate::ratio::Ratio;
+use crate::ratio::{Ratio, time_since};
 use crate::states::{put, put_vote};
 use anyhow::Result;
 use beacon_body::SignedBeaconBlock;
@@ -106,26 +106,31 @@ fn pass_over(bytes: &[u8]) -> u8 {
 }
 
 /// Reads, roots, hashes, and prints both times.
-pub fn measure(rt: &(impl AllocGlobal + Print + CpuClock)) -> Result<()> {
-    let bytes = block_bytes(rt.alloc())?;
-    let first = first_of_root(rt.alloc(), &bytes).unwrap_or(0);
+fn measure_bytes(rt: &(impl AllocGlobal + Print + CpuClock), bytes: &[u8]) -> Result<()> {
+    let first = first_of_root(rt.alloc(), bytes).unwrap_or(0);
     let begin = rt.process_cpu_time()?;
     let mut roots = 0;
     for _ in 0..TIMES {
-        roots ^= first_of_root(rt.alloc(), &bytes).unwrap_or(1);
+        roots ^= first_of_root(rt.alloc(), bytes).unwrap_or(1);
     }
+    let whole = time_since(rt, begin)?;
     let middle = rt.process_cpu_time()?;
     let mut joined = 0;
     for _ in 0..TIMES {
-        joined ^= pair_hashes() ^ pass_over(&bytes);
+        joined ^= pair_hashes() ^ pass_over(bytes);
     }
-    let end = rt.process_cpu_time()?;
     let ratio = Ratio {
-        whole: middle.saturating_sub(begin),
-        measure: end.saturating_sub(middle),
+        whole,
+        measure: time_since(rt, middle)?,
     };
     println!(rt;
         "block of {ATTESTATIONS} attestations, {TIMES} times, with one pass over the bytes: {ratio} (root {first:02x}.., joined {roots} {joined})"
     )?;
     Ok(())
+}
+
+/// Makes the block, and measures.
+pub fn measure(rt: &(impl AllocGlobal + Print + CpuClock)) -> Result<()> {
+    let bytes = block_bytes(rt.alloc())?;
+    measure_bytes(rt, &bytes)
 }

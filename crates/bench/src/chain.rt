@@ -2,15 +2,17 @@
 //! that carries these votes, which come again as carried ones. Nothing is hidden in it: all validators vote, for the chain.
 
 ghost use Rattle.std.specs.Prelude.{◌≤◌, ◌^◌};
+ghost use Rattle.spec_state.specs.Accessors.{get_current_epoch};
 
-use crate::genesis::put_offset;
+use crate::genesis::{Genesis, put_offset};
 use crate::hashes::{HEADER, Pairs, Step, pairs_of_body};
 use crate::states::put;
 use anyhow::{Result, bail};
 use balance_totals::{block_root, committees_of_epoch, current_epoch};
 use bc_preset::Config;
-use beacon_body::SignedBeaconBlock;
+use beacon_body::{BeaconBlock, SignedBeaconBlock};
 use beacon_state::State;
+use committees::EpochCommittees;
 use hash_tree::{Leaf, Root};
 use sha2::{Digest, Sha256};
 use ssz_codec::Ssz;
@@ -84,14 +86,17 @@ fn vote_bytes(
     Ok(bytes)
 }
 
-/// Appends the writings of the votes of the slot before the state's, in order of their committees.
-fn append_votes(alloc: Global, state: &State, votes: &mut Vec<Vec<u8>>) -> Result<()> {
-    let slot = state.slot().saturating_sub(1);
-    let epoch = slot / state.preset().slots_per_epoch.max(1);
-    if epoch > 1 << 40 || epoch > current_epoch(state) {
-        bail!("no such epoch");
-    }
-    let committees = committees_of_epoch(alloc, state, epoch)?;
+/// Appends the writings of the votes of these committees of a slot, in their order.
+fn append_committees(
+    alloc: Global,
+    state: &State,
+    committees: &EpochCommittees,
+    slot: u64,
+    epoch: u64,
+    votes: &mut Vec<Vec<u8>>,
+) -> Result<()>
+    requires { epoch ≤ get_current_epoch state.now }
+{
     let target = block_root(state, epoch);
     for index in 0..committees.per_slot() {
         let members = match committees.committee(slot, index) {
@@ -109,6 +114,19 @@ fn append_votes(alloc: Global, state: &State, votes: &mut Vec<Vec<u8>>) -> Resul
     Ok(())
 }
 
+/// Appends the writings of the votes of the slot before the state's, in order of their committees.
+fn append_votes(alloc: Global, state: &State, votes: &mut Vec<Vec<u8>>) -> Result<()> {
+    let slot = state.slot().saturating_sub(1);
+    let epoch = slot / state.preset().slots_per_epoch.max(1);
+    if epoch > 1 << 40 || epoch > current_epoch(state) {
+        bail!("no such epoch");
+    }
+    match committees_of_epoch(alloc, state, epoch) {
+        Ok(committees) => append_committees(alloc, state, &committees, slot, epoch, votes),
+        Err(stop) => Err(stop.into()),
+    }
+}
+
 /// These votes, so many times.
 fn votes(alloc: Global, state: &State, times: u64) -> Result<Vec<Vec<u8>>> {
     let mut votes = Vec::new(alloc);
@@ -118,57 +136,95 @@ fn votes(alloc: Global, state: &State, times: u64) -> Result<Vec<Vec<u8>>> {
     Ok(votes)
 }
 
-/// The writing of the signed block of the state's slot on its chain, with these votes and no state root yet.
-fn block_bytes(alloc: Global, state: &State, proposer: u64, votes: &[Vec<u8>]) -> Result<Vec<u8>> {
+/// Puts what a block of the state's slot on its chain has before its body.
+fn put_front(bytes: &mut [u8], state: &State, proposer: u64) {
+    put(bytes, 0, &100u32.to_le_bytes());
+    put(bytes, 100, &state.slot().to_le_bytes());
+    put(bytes, 108, &proposer.to_le_bytes());
+    put(bytes, 116, &state.latest_block_header().root());
+    put(bytes, 180, &84u32.to_le_bytes());
+}
+
+/// Puts the fixed part of its body, but for offsets.
+fn put_body(bytes: &mut [u8], state: &State) {
     let salt = salt(state.slot());
-    let mut bytes = vec![in alloc; 0u8; BEGIN]?;
-    put(&mut bytes, 0, &100u32.to_le_bytes());
-    put(&mut bytes, 100, &state.slot().to_le_bytes());
-    put(&mut bytes, 108, &proposer.to_le_bytes());
-    put(&mut bytes, 116, &state.latest_block_header().root());
-    put(&mut bytes, 180, &84u32.to_le_bytes());
     for at in [184, 216, 248, 352] {
-        put(&mut bytes, at, &salt);
+        put(bytes, at, &salt);
     }
     let eth1_data = state.eth1_data();
-    put(&mut bytes, 280, &eth1_data.deposit_root);
-    put(&mut bytes, 312, &eth1_data.deposit_count.to_le_bytes());
-    put(&mut bytes, 320, &eth1_data.block_hash);
+    put(bytes, 280, &eth1_data.deposit_root);
+    put(bytes, 312, &eth1_data.deposit_count.to_le_bytes());
+    put(bytes, 320, &eth1_data.block_hash);
+}
+
+/// Puts the offsets of the body's lists, of which those behind the votes are empty.
+fn put_lists(bytes: &mut [u8]) {
+    let end = bytes.len().saturating_sub(184);
+    for (at, offset) in [(384, 220), (388, 220), (392, 220), (396, end), (400, end)] {
+        put_offset(bytes, at, offset);
+    }
+}
+
+/// Appends these votes to a block of no votes yet: room for an offset of each, and then their writings.
+fn append_written(bytes: &mut Vec<u8>, votes: &[Vec<u8>]) -> Result<()> {
     for _vote in votes {
         bytes.extend_from_slice(&[0; 4])?;
     }
     let mut at = BEGIN;
     for vote in votes {
         let start = bytes.len().saturating_sub(BEGIN);
-        put_offset(&mut bytes, at, start);
+        put_offset(bytes, at, start);
         at = at.saturating_add(4);
         bytes.extend_from_slice(vote)?;
     }
-    let end = bytes.len().saturating_sub(184);
-    for (at, offset) in [(384, 220), (388, 220), (392, 220), (396, end), (400, end)] {
-        put_offset(&mut bytes, at, offset);
-    }
+    Ok(())
+}
+
+/// The writing of the signed block of the state's slot on its chain, with these votes and no state root yet.
+fn block_bytes(alloc: Global, state: &State, proposer: u64, votes: &[Vec<u8>]) -> Result<Vec<u8>> {
+    let mut bytes = vec![in alloc; 0u8; BEGIN]?;
+    put_front(&mut bytes, state, proposer);
+    put_body(&mut bytes, state);
+    append_written(&mut bytes, votes)?;
+    put_lists(&mut bytes);
     Ok(bytes)
 }
 
-/// The state behind a block of its slot, and the block's root of it.
-fn behind(alloc: Global, state: &mut State, bytes: &[u8], config: &Config) -> Result<Root> {
+/// Takes the state through a block of its slot. Gives the root that it has then.
+fn take_block(
+    alloc: Global,
+    state: &mut State,
+    block: &BeaconBlock,
+    config: &Config,
+) -> Result<Root> {
+    if block.slot != state.slot() {
+        bail!("the block is of another slot");
+    }
+    process_block(alloc, state, block, config)?;
+    Ok(state.root())
+}
+
+/// The same for the writing of a signed block.
+fn take_written(alloc: Global, state: &mut State, bytes: &[u8], config: &Config) -> Result<Root> {
     match SignedBeaconBlock::read(alloc, bytes) {
-        Ok(block) if block.message.slot == state.slot() => {
-            process_block(alloc, state, &block.message, config)?;
-            Ok(state.root())
-        }
-        Ok(_) => bail!("the block is of another slot"),
+        Ok(block) => take_block(alloc, state, &block.message, config),
         Err(fault) => Err(fault.into()),
     }
 }
 
-/// An event with a copy of a payload.
-fn event_of(alloc: Global, kind: u8, payload: &[u8]) -> Result<Event, AllocError> {
-    Ok(Event {
-        kind,
-        payload: Vec::from_slice(alloc, payload)?,
-    })
+/// Appends an event with a copy of a payload.
+fn push_event(alloc: Global, events: &mut Vec<Event>, kind: u8, payload: &[u8]) -> Result<()> {
+    let payload = Vec::from_slice(alloc, payload)?;
+    events.push(Event { kind, payload })?;
+    Ok(())
+}
+
+/// Appends an event of this kind for each of these votes.
+fn push_votes(alloc: Global, events: &mut Vec<Event>, kind: u8, votes: &[Vec<u8>]) -> Result<()> {
+    for vote in votes {
+        push_event(alloc, events, kind, vote)?;
+    }
+    Ok(())
 }
 
 /// What a chain is like.
@@ -206,11 +262,25 @@ fn tell_block(
 ) -> Result<()> {
     let proposer = proposer_index(alloc, state)?;
     let mut bytes = block_bytes(alloc, state, proposer, votes)?;
-    let root = behind(alloc, state, &bytes, config)?;
+    let root = take_written(alloc, state, &bytes, config)?;
     put(&mut bytes, 148, &root);
-    events.push(event_of(alloc, 2, &bytes)?)?;
-    for vote in votes {
-        events.push(event_of(alloc, 4, vote)?)?;
+    push_event(alloc, events, 2, &bytes)?;
+    push_votes(alloc, events, 4, votes)
+}
+
+/// Tells these votes on the wire, and takes the state through the slot's block with them, if it has one.
+fn tell_votes(
+    alloc: Global,
+    state: &mut State,
+    config: &Config,
+    has_block: bool,
+    votes: &[Vec<u8>],
+    told: &mut Told,
+) -> Result<()> {
+    push_votes(alloc, &mut told.events, 3, votes)?;
+    if has_block {
+        tell_block(alloc, state, config, votes, &mut told.events)?;
+        told.pairs.add(pairs_of_body(votes.len() as u64));
     }
     Ok(())
 }
@@ -227,17 +297,9 @@ fn tell_slot(
         .slot()
         .wrapping_mul(config.seconds_per_slot())
         .wrapping_add(state.genesis_time());
-    let events = &mut told.events;
-    events.push(event_of(alloc, 1, &time.to_le_bytes())?)?;
+    push_event(alloc, &mut told.events, 1, &time.to_le_bytes())?;
     let votes = votes(alloc, state, slot.votes)?;
-    for vote in &votes {
-        events.push(event_of(alloc, 3, vote)?)?;
-    }
-    if slot.has_block {
-        tell_block(alloc, state, config, &votes, events)?;
-        told.pairs.add(pairs_of_body(votes.len() as u64));
-    }
-    Ok(())
+    tell_votes(alloc, state, config, slot.has_block, &votes, told)
 }
 
 /// Adds the pairs that the step from a state to that of the next slot needs: those of the new state's root, and of the header's where
@@ -247,6 +309,19 @@ fn count(alloc: Global, old: &State, new: &State, pairs: &mut Pairs) -> Result<(
         pairs.add(HEADER);
     }
     Step { old, new }.add_root(alloc, pairs)
+}
+
+/// Tells the events of a slot that the state has entered from an old one, and counts the pairs of that step.
+fn tell_next(
+    alloc: Global,
+    old: &State,
+    new: &mut State,
+    config: &Config,
+    slot: Slot,
+    told: &mut Told,
+) -> Result<()> {
+    tell_slot(alloc, new, config, slot, told)?;
+    count(alloc, old, new, &mut told.pairs)
 }
 
 /// The state of the next slot, and the events of that slot.
@@ -261,30 +336,23 @@ fn next(
         bail!("the state isn't sound");
     }
     let mut step = process_slots(alloc, state, state.slot().saturating_add(1), config)?;
-    tell_slot(alloc, &mut step.state, config, slot, told)?;
-    count(alloc, state, &step.state, &mut told.pairs)?;
+    tell_next(alloc, state, &mut step.state, config, slot, told)?;
     Ok(step.state)
 }
 
 /// What a chain of so many slots behind genesis tells.
-pub fn chain(
-    alloc: Global,
-    genesis: &State,
-    config: &Config,
-    slots: u64,
-    shape: Shape,
-) -> Result<Told> {
+pub fn chain(alloc: Global, genesis: &Genesis, slots: u64, shape: Shape) -> Result<Told> {
     let mut told = Told {
         events: Vec::new(alloc),
         pairs: Pairs::none(),
     };
-    let mut state = genesis.share()?;
+    let mut state = genesis.state.share()?;
     for number in 0..slots {
         let slot = Slot {
             has_block: number % shape.every.max(1) != 5,
             votes: shape.votes,
         };
-        state = next(alloc, &state, config, slot, &mut told)?;
+        state = next(alloc, &state, &genesis.config, slot, &mut told)?;
     }
     Ok(told)
 }

@@ -5,11 +5,10 @@ ghost use Rattle.std.specs.Prelude.{◌≡◌, ◌≤◌};
 ghost use Rattle.spec_state.specs.Accessors.{get_current_epoch, get_previous_epoch, epoch_committees};
 ghost use Rattle.spec_state.specs.Soundness.{IsSound, IsSoundWithinEpoch};
 
-use crate::ratio::Ratio;
-use crate::states::{Shape, state_bytes};
+use crate::ratio::{Ratio, time_since};
+use crate::states::{Shape, mainnet_state};
 use anyhow::{Result, bail};
 use balance_totals::{committees_of_epoch, current_epoch, previous_epoch};
-use bc_preset::Preset;
 use bc_words::Stop;
 use beacon_state::State;
 use committees::EpochCommittees;
@@ -64,8 +63,7 @@ fn time_reading(rt: &(impl AllocGlobal + Print + CpuClock), state: &State) -> Re
     for _ in 0..PASSES {
         joined ^= read_all(state);
     }
-    let end = rt.process_cpu_time()?;
-    told(rt, "passes of reading", end.saturating_sub(begin), joined)
+    told(rt, "passes of reading", time_since(rt, begin)?, joined)
 }
 
 /// Prints a part's time, and gives it back.
@@ -102,8 +100,7 @@ fn time_justified(
 {
     let begin = rt.process_cpu_time()?;
     process_justification(rt.alloc(), state, previous, current)?;
-    let end = rt.process_cpu_time()?;
-    told(rt, "justification", end.saturating_sub(begin), 0)
+    told(rt, "justification", time_since(rt, begin)?, 0)
 }
 
 /// The time of justification.
@@ -130,8 +127,7 @@ fn time_rewarded(
 {
     let begin = rt.process_cpu_time()?;
     process_rewards(rt.alloc(), state, previous)?;
-    let end = rt.process_cpu_time()?;
-    told(rt, "rewards", end.saturating_sub(begin), 0)
+    told(rt, "rewards", time_since(rt, begin)?, 0)
 }
 
 /// The time of rewards.
@@ -150,8 +146,7 @@ fn time_slashings(
 ) -> Result<Duration> {
     let begin = rt.process_cpu_time()?;
     process_slashings(rt.alloc(), state)?;
-    let end = rt.process_cpu_time()?;
-    told(rt, "slashings", end.saturating_sub(begin), 0)
+    told(rt, "slashings", time_since(rt, begin)?, 0)
 }
 
 /// The time of effective balances.
@@ -161,8 +156,7 @@ fn time_balances(
 ) -> Result<Duration> {
     let begin = rt.process_cpu_time()?;
     process_effective_balances(rt.alloc(), state)?;
-    let end = rt.process_cpu_time()?;
-    told(rt, "effective balances", end.saturating_sub(begin), 0)
+    told(rt, "effective balances", time_since(rt, begin)?, 0)
 }
 
 /// The short closing parts.
@@ -178,8 +172,7 @@ fn reset(state: &mut State) -> Result<(), Stop> {
 fn time_resets(rt: &(impl AllocGlobal + Print + CpuClock), state: &mut State) -> Result<Duration> {
     let begin = rt.process_cpu_time()?;
     reset(state)?;
-    let end = rt.process_cpu_time()?;
-    told(rt, "resets", end.saturating_sub(begin), 0)
+    told(rt, "resets", time_since(rt, begin)?, 0)
 }
 
 /// The time of the closing parts.
@@ -217,10 +210,9 @@ fn time_on(rt: &(impl AllocGlobal + Print + CpuClock), per_slot: u32) -> Result<
         previous: 32 * per_slot,
         current: 31 * per_slot,
     };
-    let bytes = state_bytes(rt.alloc(), &shape)?;
-    match State::read(rt.alloc(), &Preset::mainnet(), &bytes) {
+    match mainnet_state(rt.alloc(), &shape) {
         Ok(mut state) => time_parts(rt, &mut state),
-        Err(fault) => Err(fault.into()),
+        Err(error) => Err(error),
     }
 }
 

@@ -4,13 +4,11 @@
 ghost use Rattle.std.specs.Prelude.{◌≡◌};
 
 use crate::chain::{Shape, Told, chain};
-use crate::genesis::{Network, genesis_bytes, read_state};
-use crate::hashes::time_pairs;
+use crate::genesis::{Genesis, Network, read_genesis};
+use crate::hashes::tell_against_pairs;
 use crate::ratio::Ratio;
 use crate::running::run_store;
 use anyhow::Result;
-use bc_preset::Config;
-use beacon_state::State;
 use std::rt::Files;
 use std::time::{CpuClock, Duration};
 
@@ -42,74 +40,49 @@ fn add_others(told: &mut Told, slots: u64) {
 /// Takes a store through a record, and prints what its parts took, against its hashes. Gives the whole time.
 fn measure_told(
     rt: &(impl AllocGlobal + Print + CpuClock + Files),
-    config: &Config,
-    genesis: &State,
+    genesis: &Genesis,
     told: &Told,
 ) -> Result<Duration>
-    requires preset { genesis.now.preset ≡ config.now.preset }
+    requires preset { genesis.now.state.preset ≡ genesis.now.config.preset }
 {
-    let times = run_store(rt, config, genesis, &told.events)?;
+    let times = run_store(rt, genesis, &told.events)?;
     times.tell(rt, told.events.len())?;
-    let ratio = Ratio {
-        whole: times.whole(),
-        measure: time_pairs(rt, &told.pairs)?,
-    };
-    let (alone, lanes) = (told.pairs.alone, told.pairs.lanes);
-    println!(rt; "  against {alone} pairs one by one and {lanes} in lanes: {ratio}")?;
+    tell_against_pairs(rt, "  ", &told.pairs, "", times.whole())?;
     Ok(times.whole())
 }
 
 /// Makes a record of so many slots, and measures it.
 fn measure_slots(
     rt: &(impl AllocGlobal + Print + CpuClock + Files),
-    config: &Config,
-    genesis: &State,
+    genesis: &Genesis,
     slots: u64,
 ) -> Result<Duration>
-    requires preset { genesis.now.preset ≡ config.now.preset }
+    requires preset { genesis.now.state.preset ≡ genesis.now.config.preset }
 {
     let shape = Shape {
         every: EVERY,
         votes: 1,
     };
-    let mut told = chain(rt.alloc(), genesis, config, slots, shape)?;
+    let mut told = chain(rt.alloc(), genesis, slots, shape)?;
     add_others(&mut told, slots);
-    measure_told(rt, config, genesis, &told)
+    measure_told(rt, genesis, &told)
 }
 
 /// Measures the short record and the long one, and prints how many times the short one's time the long one took.
-fn measure_from(
-    rt: &(impl AllocGlobal + Print + CpuClock + Files),
-    config: &Config,
-    genesis: &State,
-) -> Result<()>
-    requires preset { genesis.now.preset ≡ config.now.preset }
+fn measure_from(rt: &(impl AllocGlobal + Print + CpuClock + Files), genesis: &Genesis) -> Result<()>
+    requires preset { genesis.now.state.preset ≡ genesis.now.config.preset }
 {
-    let measure = measure_slots(rt, config, genesis, SLOTS)?;
-    let whole = measure_slots(rt, config, genesis, SLOTS * TIMES)?;
+    let measure = measure_slots(rt, genesis, SLOTS)?;
+    let whole = measure_slots(rt, genesis, SLOTS * TIMES)?;
     let ratio = Ratio { whole, measure };
     println!(rt; "{TIMES} times as many events: {ratio}")?;
     Ok(())
 }
 
-/// Reads the genesis state, and measures the records from there.
-fn measure_state(
-    rt: &(impl AllocGlobal + Print + CpuClock + Files),
-    config: &Config,
-    bytes: &[u8],
-) -> Result<()> {
-    match read_state(rt.alloc(), config.preset(), bytes) {
-        Ok(genesis) => measure_from(rt, config, &genesis),
-        Err(fault) => Err(fault.into()),
-    }
-}
-
 /// Reads the configuration and the genesis state of the minimal network, and measures the records from there.
 pub fn measure(rt: &(impl AllocGlobal + Print + CpuClock + Files)) -> Result<()> {
-    let network = Network::minimal();
-    let bytes = genesis_bytes(rt.alloc(), &network)?;
-    match Config::read(network.config) {
-        Ok(config) => measure_state(rt, &config, &bytes),
-        Err(fault) => Err(fault.into()),
+    match read_genesis(rt.alloc(), &Network::minimal()) {
+        Ok(genesis) => measure_from(rt, &genesis),
+        Err(error) => Err(error),
     }
 }

@@ -5,7 +5,8 @@ ghost use Rattle.std.specs.Prelude.{◌≡◌, IfOk};
 ghost use Rattle.bc_preset.specs.Presets.{IsPreset};
 
 use crate::states::{MOST, put};
-use bc_preset::Preset;
+use anyhow::Result;
+use bc_preset::{Config, Preset};
 use beacon_body::empty_body_root;
 use beacon_state::State;
 use ssz_codec::SszFault;
@@ -31,7 +32,7 @@ pub struct Network {
     /// Where the part of the state behind its mixes and slashed balances begins.
     pending: u32,
     /// The configuration.
-    pub config: &'static [u8],
+    config: &'static [u8],
 }
 
 impl Network {
@@ -70,7 +71,7 @@ fn put_validator(bytes: &mut [u8], at: usize, balance_at: usize, index: u32) {
 }
 
 /// The bytes of the network's genesis state.
-pub fn genesis_bytes(alloc: Global, network: &Network) -> Result<Vec<u8>, AllocError> {
+fn genesis_bytes(alloc: Global, network: &Network) -> Result<Vec<u8>, AllocError> {
     let count = network.validators.min(MOST) as usize;
     let historical = network.historical as usize;
     let pending = network.pending as usize;
@@ -97,11 +98,41 @@ pub fn genesis_bytes(alloc: Global, network: &Network) -> Result<Vec<u8>, AllocE
     Ok(bytes)
 }
 
+/// A genesis state, and the configuration that goes with it.
+#[derive(Drop)]
+pub struct Genesis {
+    /// The configuration.
+    pub config: Config,
+    /// The state.
+    pub state: State,
+}
+
 /// Reads a state of the preset.
 #[tactic(auto, using(spec_state::proofs::Limits::within_preset))]
-pub fn read_state(alloc: Global, preset: &Preset, bytes: &[u8]) -> Result<State, SszFault>
+fn read_state(alloc: Global, preset: &Preset, bytes: &[u8]) -> Result<State, SszFault>
     requires { IsPreset preset.now }
     ensures { IfOk result (λ state. state.preset ≡ preset.now) }
 {
     State::read(alloc, preset, bytes)
+}
+
+/// Reads the state that goes with the configuration.
+fn genesis_with(alloc: Global, config: Config, bytes: &[u8]) -> Result<Genesis>
+    ensures { IfOk result (λ genesis. genesis.state.preset ≡ genesis.config.preset) }
+{
+    match read_state(alloc, config.preset(), bytes) {
+        Ok(state) => Ok(Genesis { config, state }),
+        Err(fault) => Err(fault.into()),
+    }
+}
+
+/// Makes and reads the genesis state of the network, with its configuration.
+pub fn read_genesis(alloc: Global, network: &Network) -> Result<Genesis>
+    ensures { IfOk result (λ genesis. genesis.state.preset ≡ genesis.config.preset) }
+{
+    let bytes = genesis_bytes(alloc, network)?;
+    match Config::read(network.config) {
+        Ok(config) => genesis_with(alloc, config, &bytes),
+        Err(fault) => Err(fault.into()),
+    }
 }

@@ -3,6 +3,7 @@
 
 ghost use Rattle.std.specs.Prelude.{◌<◌};
 
+use crate::ratio::{Ratio, time_since};
 use anyhow::Result;
 use beacon_state::State;
 use hash_tree::{Root, depth_of, hash_pair};
@@ -353,13 +354,29 @@ fn time_lanes(rt: &(impl AllocGlobal + CpuClock), count: u64) -> Result<Duration
             hash_pairs(&layer, &mut out);
         }
     }
-    let end = rt.process_cpu_time()?;
-    Ok(end.saturating_sub(begin))
+    time_since(rt, begin)
 }
 
 /// The time of hashing these pairs.
-pub fn time_pairs(rt: &(impl AllocGlobal + CpuClock), pairs: &Pairs) -> Result<Duration> {
+fn time_pairs(rt: &(impl AllocGlobal + CpuClock), pairs: &Pairs) -> Result<Duration> {
     let (alone, _first) = time_alone(rt, pairs.alone)?;
     let lanes = time_lanes(rt, pairs.lanes)?;
     Ok(alone.saturating_add(lanes))
+}
+
+/// Prints a time against that of these pairs, between what it is the time of and what needs the pairs.
+pub fn tell_against_pairs(
+    rt: &(impl AllocGlobal + Print + CpuClock),
+    what: &str,
+    pairs: &Pairs,
+    need: &str,
+    whole: Duration,
+) -> Result<()> {
+    let ratio = Ratio {
+        whole,
+        measure: time_pairs(rt, pairs)?,
+    };
+    let Pairs { alone, lanes } = pairs;
+    println!(rt; "{what}against {alone} pairs one by one and {lanes} in lanes{need}: {ratio}")?;
+    Ok(())
 }

@@ -4,7 +4,7 @@
 ghost use Rattle.std.specs.Prelude.{◌≡◌, ◌+◌, ◌*◌, ◌<◌, ◌≤◌, ◌^◌, [], false, length, IfOk, OnOk};
 ghost use Rattle.block_array.specs.PlainArray.{slot_at};
 
-use crate::ratio::Ratio;
+use crate::ratio::{Ratio, time_since};
 use anyhow::Result;
 use bc_words::{NoMemory, Steps};
 use beacon_types::Checkpoint;
@@ -144,8 +144,7 @@ fn time_pass(
 ) -> Result<Duration> {
     let begin = rt.process_cpu_time()?;
     pass(votes, balances, weights);
-    let end = rt.process_cpu_time()?;
-    Ok(end.saturating_sub(begin))
+    time_since(rt, begin)
 }
 
 /// The time of weights and the head.
@@ -160,8 +159,7 @@ fn time_moved<L: Ledger>(
 {
     let begin = rt.process_cpu_time()?;
     array.apply(steps);
-    let end = rt.process_cpu_time()?;
-    Ok(end.saturating_sub(begin))
+    time_since(rt, begin)
 }
 
 /// The time of weights and the head where no vote moved: no delta is counted, and each node is visited twice at most.
@@ -178,8 +176,7 @@ fn time_unmoved<L: Ledger>(
 {
     let begin = rt.process_cpu_time()?;
     array.apply(steps);
-    let end = rt.process_cpu_time()?;
-    Ok(end.saturating_sub(begin))
+    time_since(rt, begin)
 }
 
 /// Moves these votes, and times what follows.

@@ -40,37 +40,37 @@ const USAGE: &str =
 /// Measures what a word names.
 fn measure(rt: &(impl AllocGlobal + Print + CpuClock + Files), word: &str) -> Result<()> {
     match word {
-        "pairs" => pairs::measure(rt),
-        "shuffle" => shuffle::measure(rt),
-        "head" => head::measure(rt),
-        _ => measure_states(rt, word),
+        "record" => record::measure(rt, &Network::minimal(), 1),
+        "events" => events::measure(rt),
+        "bodies" => record::measure(rt, &Network::minimal(), 32),
+        "mainnet" => record::measure(rt, &Network::mainnet(), 1),
+        _ => measure_steps(rt, word),
     }
 }
 
-/// Measures what a word names among states and their trees.
-fn measure_states(rt: &(impl AllocGlobal + Print + CpuClock + Files), word: &str) -> Result<()> {
+/// Measures what a word names among slots, an epoch's end, blocks and what they bring.
+fn measure_steps(rt: &(impl AllocGlobal + Print + CpuClock), word: &str) -> Result<()> {
+    match word {
+        "slots" => tree_slots::measure(rt),
+        "epoch" => epoch::measure(rt),
+        "block" => block::measure(rt),
+        "operations" => operations::measure(rt),
+        "attestation" => attestation::measure(rt),
+        "head" => head::measure(rt),
+        _ => measure_parts(rt, word),
+    }
+}
+
+/// Measures what a word names among states and their trees, pairs of nodes and the shuffle.
+fn measure_parts(rt: &(impl AllocGlobal + Print + CpuClock), word: &str) -> Result<()> {
     match word {
         "state" => state::measure(rt, 16_384),
         "registry" => state::measure(rt, 262_144),
         "change" => tree_change::measure(rt),
         "iter" => tree_iter::measure(rt),
         "many" => tree_many::measure(rt),
-        _ => measure_steps(rt, word),
-    }
-}
-
-/// Measures what a word names among blocks and what they bring, slots and an epoch's end.
-fn measure_steps(rt: &(impl AllocGlobal + Print + CpuClock + Files), word: &str) -> Result<()> {
-    match word {
-        "block" => block::measure(rt),
-        "attestation" => attestation::measure(rt),
-        "operations" => operations::measure(rt),
-        "epoch" => epoch::measure(rt),
-        "slots" => tree_slots::measure(rt),
-        "record" => record::measure(rt, &Network::minimal(), 1),
-        "events" => events::measure(rt),
-        "bodies" => record::measure(rt, &Network::minimal(), 32),
-        "mainnet" => record::measure(rt, &Network::mainnet(), 1),
+        "pairs" => pairs::measure(rt),
+        "shuffle" => shuffle::measure(rt),
         _ => Ok(println!(rt; "{USAGE}")?),
     }
 }

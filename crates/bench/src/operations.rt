@@ -3,9 +3,9 @@
 
 use crate::block::block_bytes;
 use crate::ratio::Ratio;
-use crate::states::{CONFIG, Shape, state_bytes};
+use crate::states::{CONFIG, Shape, mainnet_state};
 use anyhow::Result;
-use bc_preset::{Config, Preset};
+use bc_preset::Config;
 use beacon_body::{BeaconBlock, SignedBeaconBlock};
 use beacon_state::State;
 use hash_tree::Leaf;
@@ -43,10 +43,9 @@ fn time_block(
 ) -> Result<()> {
     let mut shape = Shape::at_genesis(16_384);
     shape.slot = 32;
-    let bytes = state_bytes(rt.alloc(), &shape)?;
-    match State::read(rt.alloc(), &Preset::mainnet(), &bytes) {
+    match mainnet_state(rt.alloc(), &shape) {
         Ok(mut state) => time_operations(rt, &mut state, block, config),
-        Err(fault) => Err(fault.into()),
+        Err(error) => Err(error),
     }
 }
 

@@ -1,11 +1,11 @@
 //! The parents of 4,096 pairs of nodes in lanes, against as many calls of `sha2`.
 
-use crate::ratio::Ratio;
+use crate::ratio::{Ratio, time_since};
 use anyhow::Result;
 use pair_lanes::hash_pairs;
 use sha2::{Digest, Sha256};
 use std::alloc::{AllocError, Global};
-use std::time::CpuClock;
+use std::time::{CpuClock, Duration};
 
 /// How many pairs are hashed at a time.
 const PAIRS: u64 = 4096;
@@ -55,26 +55,42 @@ fn room(alloc: Global) -> Result<Vec<[u8; 32]>, AllocError> {
     Ok(out)
 }
 
-/// Hashes both ways, and prints both times.
-pub fn measure(rt: &(impl AllocGlobal + Print + CpuClock)) -> Result<()> {
-    let pairs = pairs(rt.alloc())?;
-    let mut out = room(rt.alloc())?;
+/// The time of hashing the pairs in lanes.
+fn time_lanes(
+    rt: &impl CpuClock,
+    pairs: &[[[u8; 32]; 2]],
+    out: &mut [[u8; 32]],
+) -> Result<Duration> {
     let begin = rt.process_cpu_time()?;
     for _ in 0..TIMES {
         if out.len() == pairs.len() {
-            hash_pairs(&pairs, &mut out);
+            hash_pairs(pairs, out);
         }
     }
-    let middle = rt.process_cpu_time()?;
+    time_since(rt, begin)
+}
+
+/// Hashes both ways, and prints both times.
+fn measure_both(
+    rt: &(impl Print + CpuClock),
+    pairs: &[[[u8; 32]; 2]],
+    out: &mut [[u8; 32]],
+) -> Result<()> {
+    let whole = time_lanes(rt, pairs, out)?;
+    let begin = rt.process_cpu_time()?;
     let mut joined = 0;
     for _ in 0..TIMES {
-        joined ^= hash_all(&pairs);
+        joined ^= hash_all(pairs);
     }
-    let end = rt.process_cpu_time()?;
-    let ratio = Ratio {
-        whole: middle.saturating_sub(begin),
-        measure: end.saturating_sub(middle),
-    };
+    let measure = time_since(rt, begin)?;
+    let ratio = Ratio { whole, measure };
     println!(rt; "{PAIRS} pairs, {TIMES} times, in lanes: {ratio} (joined {joined})")?;
     Ok(())
+}
+
+/// Makes the pairs, and measures.
+pub fn measure(rt: &(impl AllocGlobal + Print + CpuClock)) -> Result<()> {
+    let pairs = pairs(rt.alloc())?;
+    let mut out = room(rt.alloc())?;
+    measure_both(rt, &pairs, &mut out)
 }

@@ -1,7 +1,14 @@
 //! Two processor times of one run, and how many times the second the first is.
 
+use anyhow::Result;
 use std::fmt;
-use std::time::Duration;
+use std::time::{CpuClock, Duration};
+
+/// The processor time since then.
+pub fn time_since(rt: &impl CpuClock, begin: Duration) -> Result<Duration> {
+    let end = rt.process_cpu_time()?;
+    Ok(end.saturating_sub(begin))
+}
 
 /// What was measured, and what it is measured by: the hashes that it can't do without, or another part of the run.
 #[derive(Drop)]

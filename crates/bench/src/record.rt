@@ -4,10 +4,9 @@
 ghost use Rattle.std.specs.Prelude.{◌≡◌};
 
 use crate::chain::{Event, Shape, Told, chain};
-use crate::genesis::{Network, genesis_bytes, read_state};
-use crate::hashes::time_pairs;
+use crate::genesis::{Genesis, Network, read_genesis};
+use crate::hashes::tell_against_pairs;
 use crate::memory::resident;
-use crate::ratio::Ratio;
 use crate::running::{Times, run_store};
 use crate::transitions::pass_all;
 use anyhow::Result;
@@ -17,7 +16,7 @@ use beacon_state::State;
 use ssz_codec::Ssz;
 use std::alloc::Global;
 use std::rt::Files;
-use std::time::CpuClock;
+use std::time::{CpuClock, Duration};
 
 /// How many slots the record has.
 const SLOTS: u64 = 128;
@@ -38,6 +37,21 @@ struct Each {
     store: u64,
 }
 
+/// Takes the state transitions of these blocks. Gives their time, and the bytes of memory that a state takes.
+fn measure_growth(
+    rt: &(impl AllocGlobal + CpuClock + Files),
+    config: &Config,
+    states: &mut Vec<State>,
+    events: &[Event],
+) -> Result<(Duration, u64)> {
+    let before = resident(rt)?;
+    let count = states.len() as u64;
+    let time = pass_all(rt, config, states, events)?;
+    let grown = resident(rt)?.saturating_sub(before);
+    let passed = (states.len() as u64).saturating_sub(count);
+    Ok((time, grown / passed.max(1)))
+}
+
 /// Takes the state transitions of all blocks, and prints their time against the hashes of their roots. Gives the bytes of
 /// memory that a state of the second half of the blocks takes.
 fn measure_states(
@@ -48,20 +62,11 @@ fn measure_states(
 ) -> Result<u64> {
     let half = told.events.len() / 2;
     let first = pass_all(rt, config, states, &told.events[..half])?;
-    let before = resident(rt)?;
-    let count = states.len() as u64;
-    let second = pass_all(rt, config, states, &told.events[half..])?;
-    let grown = resident(rt)?.saturating_sub(before);
-    let passed = (states.len() as u64).saturating_sub(count);
-    let ratio = Ratio {
-        whole: first.saturating_add(second),
-        measure: time_pairs(rt, &told.pairs)?,
-    };
-    let (alone, lanes) = (told.pairs.alone, told.pairs.lanes);
-    println!(rt;
-        "state transitions, against {alone} pairs one by one and {lanes} in lanes, which their roots need: {ratio}"
-    )?;
-    Ok(grown / passed.max(1))
+    let (second, state) = measure_growth(rt, config, states, &told.events[half..])?;
+    let whole = first.saturating_add(second);
+    let need = ", which their roots need";
+    tell_against_pairs(rt, "state transitions, ", &told.pairs, need, whole)?;
+    Ok(state)
 }
 
 /// Reads all blocks and keeps them. Gives the bytes of their writings.
@@ -83,6 +88,19 @@ fn read_blocks(
     Ok(written)
 }
 
+/// Reads all blocks so many times and keeps them.
+fn read_times(
+    alloc: Global,
+    blocks: &mut Vec<SignedBeaconBlock>,
+    events: &[Event],
+    times: u64,
+) -> Result<()> {
+    for _time in 0..times {
+        read_blocks(alloc, blocks, events)?;
+    }
+    Ok(())
+}
+
 /// Reads all blocks many times and keeps them, so that memory let go before is used up. Gives the bytes of memory and of its
 /// writing that a block takes.
 fn measure_blocks(
@@ -93,13 +111,9 @@ fn measure_blocks(
     let written = read_blocks(rt.alloc(), blocks, events)?;
     let once = blocks.len() as u64;
     let times = (FILL / written.max(1)).saturating_add(1);
-    for _time in 0..times {
-        read_blocks(rt.alloc(), blocks, events)?;
-    }
+    read_times(rt.alloc(), blocks, events, times)?;
     let before = resident(rt)?;
-    for _time in 0..times {
-        read_blocks(rt.alloc(), blocks, events)?;
-    }
+    read_times(rt.alloc(), blocks, events, times)?;
     let grown = resident(rt)?.saturating_sub(before);
     let later = once.saturating_mul(times);
     Ok((grown / later.max(1), written / once.max(1)))
@@ -126,17 +140,16 @@ fn tell(rt: &impl Print, times: &Times, each: Each, events: usize) -> Result<()>
 /// take. The states are kept.
 fn measure_with(
     rt: &(impl AllocGlobal + Print + CpuClock + Files),
-    config: &Config,
     states: &mut Vec<State>,
-    genesis: &State,
+    genesis: &Genesis,
     told: &Told,
     sizes: (u64, u64),
 ) -> Result<()>
-    requires preset { genesis.now.preset ≡ config.now.preset }
+    requires preset { genesis.now.state.preset ≡ genesis.now.config.preset }
 {
     let (block, written) = sizes;
-    let state = measure_states(rt, config, states, told)?;
-    let times = run_store(rt, config, genesis, &told.events)?;
+    let state = measure_states(rt, &genesis.config, states, told)?;
+    let times = run_store(rt, genesis, &told.events)?;
     let each = Each {
         state,
         block,
@@ -146,60 +159,52 @@ fn measure_with(
     tell(rt, &times, each, told.events.len())
 }
 
+/// The genesis state, as the first of those that are kept.
+fn states_from(alloc: Global, genesis: &State) -> Result<Vec<State>> {
+    let mut states = Vec::new(alloc);
+    states.push(genesis.share()?)?;
+    Ok(states)
+}
+
 /// The same from the genesis state on.
 fn measure_kept(
     rt: &(impl AllocGlobal + Print + CpuClock + Files),
-    config: &Config,
-    genesis: &State,
+    genesis: &Genesis,
     told: &Told,
     sizes: (u64, u64),
 ) -> Result<()>
-    requires preset { genesis.now.preset ≡ config.now.preset }
+    requires preset { genesis.now.state.preset ≡ genesis.now.config.preset }
 {
-    let mut states = Vec::new(rt.alloc());
-    states.push(genesis.share()?)?;
-    measure_with(rt, config, &mut states, genesis, told, sizes)
+    match states_from(rt.alloc(), &genesis.state) {
+        Ok(mut states) => measure_with(rt, &mut states, genesis, told, sizes),
+        Err(error) => Err(error),
+    }
 }
 
 /// The same behind blocks that are kept.
 fn measure_told(
     rt: &(impl AllocGlobal + Print + CpuClock + Files),
-    config: &Config,
-    genesis: &State,
+    genesis: &Genesis,
     told: &Told,
 ) -> Result<()>
-    requires preset { genesis.now.preset ≡ config.now.preset }
+    requires preset { genesis.now.state.preset ≡ genesis.now.config.preset }
 {
     let mut blocks = Vec::new(rt.alloc());
     let sizes = measure_blocks(rt, &mut blocks, &told.events)?;
-    measure_kept(rt, config, genesis, told, sizes)
+    measure_kept(rt, genesis, told, sizes)
 }
 
 /// Makes the record, takes it, and prints what it took.
 fn measure_from(
     rt: &(impl AllocGlobal + Print + CpuClock + Files),
-    config: &Config,
-    genesis: &State,
+    genesis: &Genesis,
     votes: u64,
 ) -> Result<()>
-    requires preset { genesis.now.preset ≡ config.now.preset }
+    requires preset { genesis.now.state.preset ≡ genesis.now.config.preset }
 {
     let shape = Shape { every: 1, votes };
-    let told = chain(rt.alloc(), genesis, config, SLOTS, shape)?;
-    measure_told(rt, config, genesis, &told)
-}
-
-/// Reads the genesis state, and measures a record from there.
-fn measure_state(
-    rt: &(impl AllocGlobal + Print + CpuClock + Files),
-    config: &Config,
-    bytes: &[u8],
-    votes: u64,
-) -> Result<()> {
-    match read_state(rt.alloc(), config.preset(), bytes) {
-        Ok(genesis) => measure_from(rt, config, &genesis, votes),
-        Err(fault) => Err(fault.into()),
-    }
+    let told = chain(rt.alloc(), genesis, SLOTS, shape)?;
+    measure_told(rt, genesis, &told)
 }
 
 /// Reads the configuration and the genesis state of a network, and measures a record from there, in which each vote is told so
@@ -211,9 +216,8 @@ pub fn measure(
 ) -> Result<()> {
     let validators = network.validators;
     println!(rt; "{SLOTS} slots on {validators} validators, each vote told {votes} times")?;
-    let bytes = genesis_bytes(rt.alloc(), network)?;
-    match Config::read(network.config) {
-        Ok(config) => measure_state(rt, &config, &bytes, votes),
-        Err(fault) => Err(fault.into()),
+    match read_genesis(rt.alloc(), network) {
+        Ok(genesis) => measure_from(rt, &genesis, votes),
+        Err(error) => Err(error),
     }
 }

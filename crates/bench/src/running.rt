@@ -5,11 +5,12 @@ ghost use Rattle.std.specs.Prelude.{◌≡◌, ◌<◌, None};
 ghost use Rattle.spec_state.specs.Genesis.{genesis_fault};
 
 use crate::chain::Event;
+use crate::genesis::Genesis;
 use crate::memory::resident;
+use crate::ratio::time_since;
 use anyhow::{Result, bail};
-use bc_preset::Config;
 use bc_words::Steps;
-use beacon_state::{State, genesis_check};
+use beacon_state::genesis_check;
 use fork_store::Store;
 use hash_tree::Root;
 use std::alloc::Global;
@@ -66,6 +67,14 @@ fn counted<L: Ledger>(store: &mut Store, blank: Blank) -> Root
     store.head(&mut steps)
 }
 
+/// Hands one event to the store. Whether it is accepted.
+fn is_taken(alloc: Global, store: &mut Store, event: &Event) -> Result<bool> {
+    if store.accepted().len() > 1 << 20 {
+        bail!("too many blocks");
+    }
+    Ok(store.on_event(alloc, event.kind, &event.payload).is_ok())
+}
+
 /// Takes one event, and the head behind it.
 fn take(
     rt: &(impl AllocGlobal + CpuClock),
@@ -73,21 +82,13 @@ fn take(
     event: &Event,
     times: &mut Times,
 ) -> Result<()> {
-    if store.accepted().len() > 1 << 20 {
-        bail!("too many blocks");
-    }
     let begin = rt.process_cpu_time()?;
-    let taken = store
-        .on_event(rt.alloc(), event.kind, &event.payload)
-        .is_ok();
+    let taken = is_taken(rt.alloc(), store, event)?;
+    times.add(event.kind, time_since(rt, begin)?);
+    times.accepted = times.accepted.saturating_add(u64::from(taken));
     let middle = rt.process_cpu_time()?;
     let _head = counted::<Brand>(store, Blank::new(1));
-    let end = rt.process_cpu_time()?;
-    times.add(event.kind, middle.saturating_sub(begin));
-    times.heads = times.heads.saturating_add(end.saturating_sub(middle));
-    if taken {
-        times.accepted = times.accepted.saturating_add(1);
-    }
+    times.heads = times.heads.saturating_add(time_since(rt, middle)?);
     Ok(())
 }
 
@@ -120,25 +121,24 @@ fn run(
 }
 
 /// The store at a genesis state.
-fn store_at(alloc: Global, config: &Config, genesis: &State) -> Result<Store>
-    requires preset { genesis.now.preset ≡ config.now.preset }
+fn store_at(alloc: Global, genesis: &Genesis) -> Result<Store>
+    requires preset { genesis.now.state.preset ≡ genesis.now.config.preset }
 {
-    if genesis_check(genesis).is_err() {
+    if genesis_check(&genesis.state).is_err() {
         bail!("it isn't a genesis state");
     }
-    Ok(Store::new(alloc, config, genesis.share()?)?)
+    Ok(Store::new(alloc, &genesis.config, genesis.state.share()?)?)
 }
 
 /// What a store takes for the record.
 pub fn run_store(
     rt: &(impl AllocGlobal + CpuClock + Files),
-    config: &Config,
-    genesis: &State,
+    genesis: &Genesis,
     events: &[Event],
 ) -> Result<Times>
-    requires preset { genesis.now.preset ≡ config.now.preset }
+    requires preset { genesis.now.state.preset ≡ genesis.now.config.preset }
 {
-    let mut store = store_at(rt.alloc(), config, genesis)?;
+    let mut store = store_at(rt.alloc(), genesis)?;
     run(rt, &mut store, events)
 }
 

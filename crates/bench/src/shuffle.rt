@@ -2,12 +2,12 @@
 //! round's pivot, and one for each 256 of the positions whose bits say which pairs swap. Those are half of all positions,
 //! the later one of each pair.
 
-use crate::ratio::Ratio;
+use crate::ratio::{Ratio, time_since};
 use anyhow::Result;
 use sha2::{Digest, Sha256};
 use shuffling::shuffle_all;
 use std::alloc::{AllocError, Global};
-use std::time::CpuClock;
+use std::time::{CpuClock, Duration};
 
 /// How many items are shuffled.
 const ITEMS: u64 = 1 << 20;
@@ -42,31 +42,33 @@ fn round_hashes(round: u8) -> u8 {
     joined
 }
 
-/// Shuffles, hashes, and prints both times.
-pub fn measure(rt: &(impl AllocGlobal + Print + CpuClock)) -> Result<()> {
-    let seed = [7; 32];
-    let list = numbers(rt.alloc(), ITEMS)?;
-    let begin = rt.process_cpu_time()?;
-    if list.len() > 1 << 40 {
-        return Ok(());
-    }
-    let shuffled = match shuffle_all(rt.alloc(), list, &seed, u32::from(ROUNDS)) {
-        Ok(shuffled) => shuffled,
-        Err(_) => return Ok(println!(rt; "shuffle: out of memory")?),
-    };
+/// Hashes behind the shuffling that began then, and prints both times.
+fn measure_shuffled(rt: &(impl Print + CpuClock), shuffled: &[u64], begin: Duration) -> Result<()> {
     let middle = rt.process_cpu_time()?;
     let mut joined = 0;
     for round in 0..ROUNDS {
         joined ^= round_hashes(round);
     }
-    let end = rt.process_cpu_time()?;
     let ratio = Ratio {
         whole: middle.saturating_sub(begin),
-        measure: end.saturating_sub(middle),
+        measure: time_since(rt, middle)?,
     };
     let first = shuffled.get(0).copied().unwrap_or(0);
     println!(rt;
         "shuffle of 2^20 items at {ROUNDS} rounds: {ratio} (first {first}, joined {joined})"
     )?;
     Ok(())
+}
+
+/// Shuffles, hashes, and prints both times.
+pub fn measure(rt: &(impl AllocGlobal + Print + CpuClock)) -> Result<()> {
+    let list = numbers(rt.alloc(), ITEMS)?;
+    let begin = rt.process_cpu_time()?;
+    if list.len() > 1 << 40 {
+        return Ok(());
+    }
+    match shuffle_all(rt.alloc(), list, &[7; 32], u32::from(ROUNDS)) {
+        Ok(shuffled) => measure_shuffled(rt, &shuffled, begin),
+        Err(_) => Ok(println!(rt; "shuffle: out of memory")?),
+    }
 }

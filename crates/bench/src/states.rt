@@ -3,7 +3,10 @@
 
 ghost use Rattle.std.specs.Prelude.{◌≡◌, ◌≤◌, ◌<◌};
 
+use anyhow::Result;
+use bc_preset::Preset;
 use beacon_body::empty_body_root;
+use beacon_state::State;
 use std::alloc::{AllocError, Global};
 
 /// The configuration that goes with these states.
@@ -141,4 +144,13 @@ pub fn state_bytes(alloc: Global, shape: &Shape) -> Result<Vec<u8>, AllocError> 
         put_validator(&mut bytes, validators, index);
     }
     Ok(bytes)
+}
+
+/// The mainnet state of this shape.
+pub fn mainnet_state(alloc: Global, shape: &Shape) -> Result<State> {
+    let bytes = state_bytes(alloc, shape)?;
+    match State::read(alloc, &Preset::mainnet(), &bytes) {
+        Ok(state) => Ok(state),
+        Err(fault) => Err(fault.into()),
+    }
 }

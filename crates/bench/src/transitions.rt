@@ -29,7 +29,35 @@ fn time_block(
     Ok(step.state)
 }
 
-/// The same for a block's writing on the last state, behind which it is put.
+/// The same for a block's writing.
+fn time_written(
+    rt: &(impl AllocGlobal + CpuClock),
+    config: &Config,
+    state: &State,
+    bytes: &[u8],
+    time: &mut Duration,
+) -> Result<State> {
+    match SignedBeaconBlock::read(rt.alloc(), bytes) {
+        Ok(block) => time_block(rt, config, state, &block, time),
+        Err(_) => bail!("the record has another block"),
+    }
+}
+
+/// The same on the last of these states.
+fn time_on_last(
+    rt: &(impl AllocGlobal + CpuClock),
+    config: &Config,
+    states: &[State],
+    bytes: &[u8],
+    time: &mut Duration,
+) -> Result<State> {
+    match states.last() {
+        Some(state) => time_written(rt, config, state, bytes, time),
+        None => bail!("there is no state"),
+    }
+}
+
+/// Puts the state behind a block's writing behind the others.
 fn pass(
     rt: &(impl AllocGlobal + CpuClock),
     config: &Config,
@@ -37,10 +65,7 @@ fn pass(
     bytes: &[u8],
     time: &mut Duration,
 ) -> Result<()> {
-    let state = match (SignedBeaconBlock::read(rt.alloc(), bytes), states.last()) {
-        (Ok(block), Some(state)) => time_block(rt, config, state, &block, time)?,
-        _ => bail!("the record has another block"),
-    };
+    let state = time_on_last(rt, config, states, bytes, time)?;
     states.push(state)?;
     Ok(())
 }

@@ -2,9 +2,8 @@
 //! the same.
 
 use crate::ratio::Ratio;
-use crate::states::{Shape, state_bytes};
+use crate::states::{Shape, mainnet_state};
 use anyhow::Result;
-use bc_preset::Preset;
 use beacon_state::State;
 use beacon_types::Validator;
 use std::alloc::{AllocError, Global};
@@ -152,9 +151,8 @@ fn time_passes(rt: &(impl AllocGlobal + Print + CpuClock), state: &State) -> Res
 
 /// Reads the state, passes over it, and prints the times.
 pub fn measure(rt: &(impl AllocGlobal + Print + CpuClock)) -> Result<()> {
-    let bytes = state_bytes(rt.alloc(), &Shape::at_genesis(VALIDATORS))?;
-    match State::read(rt.alloc(), &Preset::mainnet(), &bytes) {
+    match mainnet_state(rt.alloc(), &Shape::at_genesis(VALIDATORS)) {
         Ok(state) => time_passes(rt, &state),
-        Err(fault) => Err(fault.into()),
+        Err(error) => Err(error),
     }
 }

@@ -3,7 +3,7 @@
 ghost use Rattle.std.specs.Prelude.{◌≡◌, ◌<◌, ◌≤◌, ◌^◌, length, IfOk};
 ghost use Rattle.shared_tree.specs.Lists.{AreChanges};
 
-use crate::ratio::Ratio;
+use crate::ratio::{Ratio, time_since};
 use anyhow::Result;
 use bc_words::{NoMemory, Steps};
 use beacon_types::Validator;
@@ -94,8 +94,7 @@ fn time_set<L: Ledger>(
     let mut steps = Steps::<L>::new(blank);
     let begin = rt.process_cpu_time()?;
     list.set_many(changes, &mut steps)?;
-    let end = rt.process_cpu_time()?;
-    Ok(end.saturating_sub(begin))
+    time_since(rt, begin)
 }
 
 /// The same of numbers.
@@ -113,46 +112,63 @@ fn time_set_numbers<L: Ledger>(
     let mut steps = Steps::<L>::new(blank);
     let begin = rt.process_cpu_time()?;
     list.set_many(changes, &mut steps)?;
-    let end = rt.process_cpu_time()?;
-    Ok(end.saturating_sub(begin))
+    time_since(rt, begin)
+}
+
+/// Prints how long each item of a list was set, and how long the list was made.
+fn tell(rt: &impl Print, items: &str, times: &Ratio, first: u8) -> Result<()> {
+    println!(rt;
+        "every one of {ITEMS} {items} set, against their list made anew: {times} (root {first:02x}..)"
+    )?;
+    Ok(())
+}
+
+/// Sets each of the validators of a list that was begun then, and prints both times.
+fn measure_setting(
+    rt: &(impl AllocGlobal + Print + CpuClock),
+    list: &mut SharedList<Validator>,
+    begin: Duration,
+) -> Result<()>
+    requires all { length list.old.items ≡ 262144 }
+{
+    let measure = time_since(rt, begin)?;
+    let changes = validator_changes(rt.alloc())?;
+    let whole = time_set::<Brand>(rt, list, changes, Blank::new(1))?;
+    tell(rt, "validators", &Ratio { whole, measure }, list.root()[0])
+}
+
+/// The same of numbers.
+fn measure_setting_numbers(
+    rt: &(impl AllocGlobal + Print + CpuClock),
+    list: &mut PackedList,
+    begin: Duration,
+) -> Result<()>
+    requires all { length list.old.items ≡ 262144 }
+{
+    let measure = time_since(rt, begin)?;
+    let changes = number_changes(rt.alloc())?;
+    let whole = time_set_numbers::<Brand>(rt, list, changes, Blank::new(1))?;
+    tell(rt, "numbers", &Ratio { whole, measure }, list.root()[0])
 }
 
 /// Makes a list of validators, sets each, and prints both times.
 fn measure_validators(rt: &(impl AllocGlobal + Print + CpuClock)) -> Result<()> {
     let items = validators(rt.alloc())?;
-    let changes = validator_changes(rt.alloc())?;
     let begin = rt.process_cpu_time()?;
-    let mut list = SharedList::from_vec(items, LIMIT)?;
-    let end = rt.process_cpu_time()?;
-    let whole = time_set::<Brand>(rt, &mut list, changes, Blank::new(1))?;
-    let ratio = Ratio {
-        whole,
-        measure: end.saturating_sub(begin),
-    };
-    let first = list.root()[0];
-    println!(rt;
-        "every one of {ITEMS} validators set, against their list made anew: {ratio} (root {first:02x}..)"
-    )?;
-    Ok(())
+    match SharedList::from_vec(items, LIMIT) {
+        Ok(mut list) => measure_setting(rt, &mut list, begin),
+        Err(stop) => Err(stop.into()),
+    }
 }
 
 /// Makes a list of numbers, sets each, and prints both times.
 fn measure_numbers(rt: &(impl AllocGlobal + Print + CpuClock)) -> Result<()> {
     let items = numbers(rt.alloc())?;
-    let changes = number_changes(rt.alloc())?;
     let begin = rt.process_cpu_time()?;
-    let mut list = PackedList::from_vec(items, LIMIT)?;
-    let end = rt.process_cpu_time()?;
-    let whole = time_set_numbers::<Brand>(rt, &mut list, changes, Blank::new(1))?;
-    let ratio = Ratio {
-        whole,
-        measure: end.saturating_sub(begin),
-    };
-    let first = list.root()[0];
-    println!(rt;
-        "every one of {ITEMS} numbers set, against their list made anew: {ratio} (root {first:02x}..)"
-    )?;
-    Ok(())
+    match PackedList::from_vec(items, LIMIT) {
+        Ok(mut list) => measure_setting_numbers(rt, &mut list, begin),
+        Err(stop) => Err(stop.into()),
+    }
 }
 
 /// Measures both lists.

@@ -3,10 +3,10 @@
 
 ghost use Rattle.spec_state.specs.Soundness.{IsSound};
 
-use crate::ratio::Ratio;
-use crate::states::{CONFIG, Shape, state_bytes};
+use crate::ratio::{Ratio, time_since};
+use crate::states::{CONFIG, Shape, mainnet_state};
 use anyhow::{Result, bail};
-use bc_preset::{Config, Preset};
+use bc_preset::Config;
 use beacon_state::State;
 use std::time::{CpuClock, Duration};
 use transition::is_sound;
@@ -26,8 +26,7 @@ fn time_to(
 {
     let begin = rt.process_cpu_time()?;
     let _step = process_slots(rt.alloc(), state, slot, config)?;
-    let end = rt.process_cpu_time()?;
-    Ok(end.saturating_sub(begin))
+    time_since(rt, begin)
 }
 
 /// Times the slots behind the first, and all of them, and prints what they took.
@@ -97,9 +96,8 @@ pub fn measure(rt: &(impl AllocGlobal + Print + CpuClock)) -> Result<()> {
         previous: 2048,
         current: 1984,
     };
-    let bytes = state_bytes(rt.alloc(), &shape)?;
-    match State::read(rt.alloc(), &Preset::mainnet(), &bytes) {
+    match mainnet_state(rt.alloc(), &shape) {
         Ok(state) => time_configured(rt, &state),
-        Err(fault) => Err(fault.into()),
+        Err(error) => Err(error),
     }
 }
