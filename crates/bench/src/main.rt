@@ -44,8 +44,6 @@ fn measure(rt: &(impl AllocGlobal + Print + CpuClock + Files), word: &str) -> Re
         "events" => events::measure(rt),
         "bodies" => record::measure(rt, &Network::minimal(), 32),
         "mainnet" => record::measure(rt, &Network::mainnet(), 1),
-        "state" => state::measure(rt, 16_384),
-        "registry" => state::measure(rt, 262_144),
         _ => measure_steps(rt, word),
     }
 }
@@ -63,9 +61,11 @@ fn measure_steps(rt: &(impl AllocGlobal + Print + CpuClock), word: &str) -> Resu
     }
 }
 
-/// Measures what a word names among trees of states, pairs of nodes and the shuffle.
+/// Measures what a word names among states and their trees, pairs of nodes and the shuffle.
 fn measure_parts(rt: &(impl AllocGlobal + Print + CpuClock), word: &str) -> Result<()> {
     match word {
+        "state" => state::measure(rt, 16_384),
+        "registry" => state::measure(rt, 262_144),
         "change" => tree_change::measure(rt),
         "iter" => tree_iter::measure(rt),
         "many" => tree_many::measure(rt),

@@ -36,14 +36,3 @@ pub fn resident(rt: &(impl AllocGlobal + Files)) -> Result<u64> {
     let text = fs::read(rt, "/proc/self/statm")?;
     Ok(number_at_front(behind_space(&text)).saturating_mul(PAGE))
 }
-
-/// The most bytes of the program that were in memory at once: `VmHWM` of `/proc/self/status`, in units of 1,024 bytes.
-pub fn most_resident(rt: &(impl AllocGlobal + Files)) -> Result<u64> {
-    let text = fs::read_to_string(rt, "/proc/self/status")?;
-    for line in text.lines() {
-        if let Some(said) = line.strip_prefix("VmHWM:") {
-            return Ok(number_at_front(said.trim().as_bytes()).saturating_mul(1024));
-        }
-    }
-    Ok(0)
-}

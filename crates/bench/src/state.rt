@@ -2,18 +2,13 @@
 
 ghost use Rattle.std.specs.Prelude.{◌≤◌};
 
-use crate::memory::{most_resident, resident};
 use crate::ratio::Ratio;
 use crate::states::{MOST, Shape, state_bytes};
 use anyhow::Result;
 use bc_preset::Preset;
 use beacon_state::{State, genesis_check};
 use sha2::{Digest, Sha256};
-use std::rt::Files;
 use std::time::{CpuClock, Duration};
-
-/// So few validators that the other parts of a state take the memory.
-const FEW: u32 = 1_024;
 
 /// The pairs that are hashed: block and state roots, mixes, slashed balances, eight for each validator, those of their list
 /// and those of the balances. The few others are left out.
@@ -69,33 +64,9 @@ fn time_root(
     Ok(())
 }
 
-/// The bytes of memory that reading a state takes at its most, beside those of its writing. It has to be more than was ever taken
-/// before.
-fn reading_takes(rt: &(impl AllocGlobal + Files), validators: u32) -> Result<u64> {
-    let bytes = state_bytes(rt.alloc(), &Shape::at_genesis(validators.min(MOST)))?;
-    let before = resident(rt)?;
-    match State::read(rt.alloc(), &Preset::mainnet(), &bytes) {
-        Ok(_state) => Ok(most_resident(rt)?.saturating_sub(before)),
-        Err(fault) => Err(fault.into()),
-    }
-}
-
-/// Prints the bytes of memory that a validator takes: of reading so many, behind reading a few.
-fn tell_memory(rt: &(impl AllocGlobal + Print + Files), validators: u32) -> Result<()> {
-    let few = reading_takes(rt, FEW)?;
-    let all = reading_takes(rt, validators)?;
-    let more = u64::from(validators.saturating_sub(FEW)).max(1);
-    let each = all.saturating_sub(few) / more;
-    println!(rt;
-        "reading a state of {validators} validators takes at most {each} bytes a validator"
-    )?;
-    Ok(())
-}
-
-/// Reads a state and prints the memory that this takes; then reads another, checks, roots, hashes, and prints both times.
-pub fn measure(rt: &(impl AllocGlobal + Print + CpuClock + Files), validators: u32) -> Result<()> {
+/// Reads, checks, roots, hashes, and prints both times.
+pub fn measure(rt: &(impl AllocGlobal + Print + CpuClock), validators: u32) -> Result<()> {
     let validators = validators.min(MOST);
-    tell_memory(rt, validators)?;
     let bytes = state_bytes(rt.alloc(), &Shape::at_genesis(validators))?;
     let begin = rt.process_cpu_time()?;
     match State::read(rt.alloc(), &Preset::mainnet(), &bytes) {
