@@ -11,7 +11,7 @@ ghost use Rattle.bc_outside.specs.inside.Tries.{Tries, no_faults};
 ghost use Rattle.bc_outside.specs.inside.Disk.{DiskFile, DiskFiles, DiskBytes, disk_told, written_told, no_disk_files, left_of};
 
 use crate::faults::FaultCounts;
-use crate::names::AskedName;
+use crate::names::{AskedName, ask};
 use crate::seen::{nothing_seen, see};
 use crate::{Shelf, Sink, Trouble, patience};
 use std::alloc::{AllocError, Global};
@@ -141,13 +141,10 @@ impl<'a, R: Files> DiskShelf<'a, R> {
         ensures opens { Opens name.now result (disk_told self.old) (disk_told self.new) }
         ensures tries { Tries result self.old.faults self.new.faults }
     {
-        self.asked.reserve(1)?;
         self.opened.reserve(1)?;
-        let asked = AskedName::new(self.alloc, name)?;
-        let kept = AskedName::new(self.alloc, name)?;
         let number = self.opened.len() as u32;
         let place = self.asked.len();
-        self.asked.push_reserved(asked);
+        let kept = ask(self.alloc, &mut self.asked, name)?;
         self.last = place;
         let Ok(reader) = patience::open(self.files, name, &mut self.faults, &mut self.cause) else {
             return Err(Trouble::Failed);

@@ -1,6 +1,6 @@
 //! Names that a shelf was asked for.
 
-ghost use Rattle.std.specs.Prelude.{◌≡◌, ℕ, List, IfOk};
+ghost use Rattle.std.specs.Prelude.{◌≡◌, ◌++◌, ℕ, List, [], ◌∷◌, IfOk, OnOk, OnErr};
 
 use std::alloc::{AllocError, Global};
 use std::marker::Model;
@@ -32,4 +32,15 @@ impl AskedName {
     {
         &self.bytes
     }
+}
+
+/// Keeps a name behind those that were asked for before, and gives it once more.
+pub fn ask(alloc: Global, asked: &mut Vec<AskedName>, name: &str) -> Result<AskedName, AllocError>
+    ensures given { IfOk result (λ given. given ≡ name.now) }
+    ensures kept { OnOk result (asked.new.items ≡ asked.old.items ++ (name.now ∷ [])) }
+    ensures unless { OnErr result (asked.new.items ≡ asked.old.items) }
+{
+    let given = AskedName::new(alloc, name)?;
+    asked.push(AskedName::new(alloc, name)?)?;
+    Ok(given)
 }

@@ -1,4 +1,4 @@
-//! The root of the default body, operations copied and compared, and clashes. Whole blocks, read and damaged, are in call_vectors.
+//! The root of the default body, operations copied and compared, and clashes. Whole blocks, read and damaged, are in vectors.
 
 use beacon_body::{Attestation, AttesterSlashing, BeaconBlock, SignedBeaconBlock, empty_body_root};
 use fork_store::clash;

@@ -1,34 +1,22 @@
-//! Runs the program on recorded cases, and compares its lines and its status with what an independent implementation
-//! gives: configurations, genesis states and records of all kinds of events, and an outside that fails.
+//! Runs recorded cases, and compares what they give with what an independent implementation gives: runs of the program, and
+//! single calls of its layers.
 //!
-//! `cases` lists the cases. Each is a folder with the files that its words name, the expected lines `stdout` and the
-//! expected `status`; a file that isn't there is that of the folder `common`. A file `NAME.filled` says how NAME goes on: a
-//! byte, and how often it comes again. `pieces` says how many bytes the shelf hands out and the sink takes at once, one
-//! run each. The calls of the shelf and of the sink that are to fail stand in `failing_calls` and `failing_writes`, by
-//! their numbers.
+//! `cases` lists the cases, each a folder of `data`: those below `calls` are calls, all others are runs.
 #![tactic(auto)]
 
-mod case;
-mod expected;
+mod calls;
+mod runs;
 
 use anyhow::Result;
-use case::Case;
 use std::fs;
-use std::io::Print;
 use std::rt::Files;
 
-/// Runs one case in each cutting, and prints one line.
+/// Runs the case of this name, and prints one line.
 fn run_case(rt: &(impl Files + Print + AllocGlobal), name: &str) -> Result<bool> {
-    let case = Case::load(rt, name)?;
-    for piece in case.pieces() {
-        let answer = case.run(rt.alloc(), *piece)?;
-        if let Some(difference) = case.difference(rt.alloc(), &answer)? {
-            println!(rt; "{name}: pieces of {piece}: {difference}")?;
-            return Ok(false);
-        }
+    match name.split_once('/') {
+        Some(("calls", _)) => calls::run_case(rt, name),
+        _ => runs::run_case(rt, name),
     }
-    println!(rt; "{name}: {}", case.status())?;
-    Ok(true)
 }
 
 /// Runs all cases that the file `cases` lists, prints one line for each, and how many were as expected.

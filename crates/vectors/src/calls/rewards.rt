@@ -4,7 +4,7 @@ ghost use Rattle.std.specs.Prelude.{◌≡◌};
 ghost use Rattle.spec_state.specs.Accessors.{get_previous_epoch, epoch_committees};
 ghost use Rattle.spec_state.specs.Soundness.{IsSoundWithinEpoch};
 
-use crate::answers::stop_line;
+use crate::calls::answers::stop_line;
 use anyhow::{Result, bail};
 use balance_totals::{committees_of_epoch, previous_epoch};
 use bc_words::Stop;
@@ -26,25 +26,39 @@ pub fn process_rewards(alloc: Global, state: &mut State) -> Result<Result<(), St
     Ok(epoch_rewards::process_rewards(alloc, state, &previous))
 }
 
-/// A line of numbers.
-fn numbers_line(alloc: Global, word: &str, numbers: &Items<u64>) -> Result<String> {
-    let mut line = String::from_str(alloc, word)?;
+/// Appends a number to a line.
+fn append_number(alloc: Global, line: &mut String, number: u64) -> Result<()> {
+    let more = format!(in alloc; " {number}")?;
+    Ok(line.push_str(more.as_str())?)
+}
+
+/// Appends a line of numbers, behind the end of the line before it.
+fn append_numbers(
+    alloc: Global,
+    lines: &mut String,
+    word: &str,
+    numbers: &Items<u64>,
+) -> Result<()> {
+    lines.push_str(word)?;
     for number in numbers.as_slice() {
-        let more = format!(in alloc; " {number}")?;
-        line.push_str(more.as_str())?;
+        append_number(alloc, lines, *number)?;
     }
-    Ok(line)
+    Ok(())
+}
+
+/// The lines of rewards and penalties.
+fn deltas_lines(alloc: Global, deltas: &Deltas) -> Result<String> {
+    let mut lines = String::from_str(alloc, "ok")?;
+    append_numbers(alloc, &mut lines, "\nrewards", &deltas.rewards)?;
+    append_numbers(alloc, &mut lines, "\npenalties", &deltas.penalties)?;
+    Ok(lines)
 }
 
 /// The lines of rewards and penalties, or why there are none.
-fn deltas_lines(alloc: Global, outcome: Result<Deltas, Stop>) -> Result<String> {
+fn lines_of(alloc: Global, outcome: &Result<Deltas, Stop>) -> Result<String> {
     match outcome {
-        Ok(deltas) => {
-            let rewards = numbers_line(alloc, "rewards", &deltas.rewards)?;
-            let penalties = numbers_line(alloc, "penalties", &deltas.penalties)?;
-            Ok(format!(in alloc; "ok\n{rewards}\n{penalties}")?)
-        }
-        Err(stop) => stop_line(alloc, stop),
+        Ok(deltas) => deltas_lines(alloc, deltas),
+        Err(stop) => stop_line(alloc, *stop),
     }
 }
 
@@ -83,7 +97,7 @@ pub fn deltas_answer(alloc: Global, state: &State, call: &str) -> Result<String>
     }
     let previous = committees_of_epoch(alloc, state, previous_epoch(state))?;
     match part(alloc, state, &previous, call) {
-        Some(outcome) => deltas_lines(alloc, outcome),
+        Some(outcome) => lines_of(alloc, &outcome),
         None => bail!("no such part"),
     }
 }

@@ -3,12 +3,18 @@
 use anyhow::{Result, bail};
 use bc_words::{Limit, Refusal, Stop};
 use beacon_state::State;
+use hash_tree::Root;
 use std::alloc::Global;
+
+/// The line of a call that was made, with a root.
+pub fn root_line(alloc: Global, root: &Root) -> Result<String> {
+    let root = hex::encode(alloc, root)?;
+    Ok(format!(in alloc; "ok 0x{root}")?)
+}
 
 /// The line of a call that was made: the root of the state behind it.
 pub fn done_line(alloc: Global, state: &State) -> Result<String> {
-    let root = hex::encode(alloc, &state.root())?;
-    Ok(format!(in alloc; "ok 0x{root}")?)
+    root_line(alloc, &state.root())
 }
 
 /// The line of a refusal.

@@ -1,6 +1,6 @@
 //! Those who leave.
 
-use crate::given::Given;
+use crate::calls::given::Given;
 use anyhow::Result;
 use bc_words::Stop;
 use beacon_state::State;

@@ -1,6 +1,6 @@
 //! Slashings of proposers and attesters.
 
-use crate::given::Given;
+use crate::calls::given::Given;
 use anyhow::Result;
 use bc_words::Stop;
 use beacon_body::{AttesterSlashing, ProposerSlashing};

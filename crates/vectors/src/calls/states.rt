@@ -4,7 +4,7 @@ ghost use Rattle.std.specs.Prelude.{IfOk};
 ghost use Rattle.bc_preset.specs.Presets.{IsPreset};
 ghost use Rattle.beacon_state.specs.Writing.{HasWriting};
 
-use crate::given::Given;
+use crate::calls::given::Given;
 use anyhow::{Result, bail};
 use bc_preset::Preset;
 use bc_words::NoMemory;

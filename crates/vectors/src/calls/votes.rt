@@ -1,6 +1,6 @@
 //! Attestations, with the committees of the state's epochs.
 
-use crate::given::Given;
+use crate::calls::given::Given;
 use anyhow::{Result, bail};
 use attest_ops::{attesting_indices, matching_head, matching_target};
 use balance_totals::{committees_of_epoch, current_epoch, previous_epoch};
@@ -47,18 +47,37 @@ fn members_of(
     }
 }
 
+/// How many members cast these attestations.
+fn members_of_all(
+    alloc: Global,
+    committees: &EpochCommittees,
+    attestations: &[PendingAttestation],
+) -> Result<usize> {
+    let mut members = 0usize;
+    for attestation in attestations {
+        members = members.saturating_add(members_of(alloc, committees, attestation)?);
+    }
+    Ok(members)
+}
+
+/// How many these attestations of the previous epoch are, and how many members cast them.
+fn heads_of(
+    alloc: Global,
+    state: &State,
+    attestations: &[PendingAttestation],
+) -> Result<(usize, usize)> {
+    let committees = committees_of_epoch(alloc, state, previous_epoch(state))?;
+    let members = members_of_all(alloc, &committees, attestations)?;
+    Ok((attestations.len(), members))
+}
+
 /// How many attestations of the previous epoch have the right target, how many the right head too, and how many members
 /// cast the latter.
 #[tactic(auto, unfolding(spec_state::specs::Accessors::get_previous_epoch))]
 pub fn matching_line(alloc: Global, state: &State) -> Result<String> {
     let epoch = previous_epoch(state);
     let targets = matching_target(alloc, state, epoch)?.len();
-    let committees = committees_of_epoch(alloc, state, epoch)?;
-    let heads = matching_head(alloc, state, epoch)?;
-    let mut members = 0usize;
-    for attestation in heads.as_slice() {
-        members = members.saturating_add(members_of(alloc, &committees, attestation)?);
-    }
-    let heads = heads.len();
+    let attestations = matching_head(alloc, state, epoch)?;
+    let (heads, members) = heads_of(alloc, state, attestations.as_slice())?;
     Ok(format!(in alloc; "{targets} targets, {heads} heads by {members} members")?)
 }

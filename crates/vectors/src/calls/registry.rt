@@ -1,6 +1,6 @@
 //! The registry at the end of an epoch.
 
-use crate::given::Given;
+use crate::calls::given::Given;
 use anyhow::Result;
 use bc_words::Stop;
 use beacon_state::State;

@@ -1,6 +1,6 @@
 //! Deposits.
 
-use crate::given::Given;
+use crate::calls::given::Given;
 use anyhow::{Result, bail};
 use bc_words::Stop;
 use beacon_state::State;

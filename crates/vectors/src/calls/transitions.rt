@@ -1,8 +1,9 @@
 //! Slots and whole blocks. Many go over ends of epochs.
 
-use crate::answers::{done_line, stop_line};
-use crate::given::Given;
+use crate::calls::answers::{done_line, stop_line};
+use crate::calls::given::Given;
 use anyhow::{Result, bail};
+use bc_preset::Config;
 use bc_words::Stop;
 use beacon_body::SignedBeaconBlock;
 use beacon_state::State;
@@ -12,11 +13,17 @@ use transition::process_slots::process_slots;
 use transition::state_transition::state_transition;
 use transition::{Step, is_sound};
 
-/// The line of a state on which epoch processing was entered.
+/// The line of a state on which epoch processing was entered, behind the end of the one before it.
 fn entered_line(alloc: Global, state: &State) -> Result<String> {
     let slot = state.slot();
     let root = hex::encode(alloc, &state.root())?;
-    Ok(format!(in alloc; "entered {slot} 0x{root}")?)
+    Ok(format!(in alloc; "\nentered {slot} 0x{root}")?)
+}
+
+/// Appends the line of a state on which epoch processing was entered.
+fn append_entered(alloc: Global, lines: &mut String, state: &State) -> Result<()> {
+    let line = entered_line(alloc, state)?;
+    Ok(lines.push_str(line.as_str())?)
 }
 
 /// The lines of a step: the state's root, and then each state that was entered.
@@ -24,8 +31,7 @@ fn step_lines(alloc: Global, step: &Step) -> Result<String> {
     let mut lines = done_line(alloc, &step.state)?;
     for index in 0..step.entered.len() {
         if let Some(state) = step.entered.get(index) {
-            let line = entered_line(alloc, state)?;
-            lines = format!(in alloc; "{lines}\n{line}")?;
+            append_entered(alloc, &mut lines, state)?;
         }
     }
     Ok(lines)
@@ -49,12 +55,24 @@ pub fn slots_lines(alloc: Global, state: &State, given: &Given) -> Result<String
     }
 }
 
+/// The lines of the step by a block.
+fn lines_behind(
+    alloc: Global,
+    state: &State,
+    block: &SignedBeaconBlock,
+    config: &Config,
+) -> Result<String> {
+    match is_sound(alloc, state) {
+        Ok(true) => lines_of(alloc, &state_transition(alloc, state, block, config)),
+        _ => bail!("the state isn't sound"),
+    }
+}
+
 /// Reads a signed block. The lines of the step by it.
 pub fn block_lines(alloc: Global, state: &State, given: &Given) -> Result<String> {
-    let block = SignedBeaconBlock::read(alloc, given.input()?)?;
     let config = given.config()?;
-    match is_sound(alloc, state) {
-        Ok(true) => lines_of(alloc, &state_transition(alloc, state, &block, &config)),
-        _ => bail!("the state isn't sound"),
+    match SignedBeaconBlock::read(alloc, given.input()?) {
+        Ok(block) => lines_behind(alloc, state, &block, &config),
+        Err(fault) => Err(fault.into()),
     }
 }

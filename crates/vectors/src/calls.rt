@@ -1,11 +1,10 @@
 //! Single calls on recorded states and bytes, compared with what an independent implementation gives.
 //!
-//! `data/cases` lists the cases. Each is a folder of `data/`: `call` names the call, with a word behind some, `pre.ssz` is the
-//! state before it, `input.ssz` what it takes beside the state, `config.yaml` the configuration, and `answer` what it
-//! answers. A case has the files that its call takes. All states but those of `read_state` are of the minimal preset.
+//! A case is a folder of `data/calls`: `call` names the call, with a word behind some, `pre.ssz` is the state before it, `input.ssz`
+//! what it takes beside the state, `config.yaml` the configuration, and `answer` what it answers. A case has the files
+//! that its call takes. All states but those of `read_state` are of the minimal preset.
 //!
-//! A module of the program, which bears the name of the cases' folder, has the calls of one kind.
-#![tactic(auto)]
+//! A module here, which bears the name of the cases' folder, has the calls of one kind.
 
 mod answers;
 mod blocks;
@@ -24,12 +23,12 @@ mod states;
 mod transitions;
 mod votes;
 
-use answers::answer_line;
+use crate::calls::answers::answer_line;
+use crate::calls::given::Given;
 use anyhow::{Result, bail};
 use bc_preset::Preset;
 use bc_words::Stop;
 use beacon_state::State;
-use given::Given;
 use std::alloc::Global;
 use std::fs;
 use std::rt::Files;
@@ -91,7 +90,7 @@ fn answer_of(alloc: Global, given: &Given) -> Result<String> {
 }
 
 /// Runs one case, and prints whether its answer is as expected.
-fn run_case<R: Files + Print + AllocGlobal>(rt: &R, case: &str) -> Result<bool> {
+pub fn run_case<R: Files + Print + AllocGlobal>(rt: &R, case: &str) -> Result<bool> {
     let alloc = rt.alloc();
     let given = Given::load(rt, case)?;
     let expected = fs::read_to_string(rt, format!(in alloc; "{case}/answer")?.as_str())?;
@@ -103,19 +102,4 @@ fn run_case<R: Files + Print + AllocGlobal>(rt: &R, case: &str) -> Result<bool> 
         println!(rt; "{case}: {answer}")?;
     }
     Ok(agrees)
-}
-
-fn main(rt: HostRuntime) -> Result<()> {
-    let mut passed = 0u32;
-    let mut failed = 0u32;
-    let cases = fs::read_to_string(&rt, "cases")?;
-    for case in cases.lines() {
-        if run_case(&rt, case)? {
-            passed = passed.saturating_add(1);
-        } else {
-            failed = failed.saturating_add(1);
-        }
-    }
-    println!(rt; "{passed} as expected, {failed} not")?;
-    Ok(())
 }

@@ -1,6 +1,6 @@
 //! The head of a block.
 
-use crate::given::Given;
+use crate::calls::given::Given;
 use anyhow::Result;
 use bc_words::Stop;
 use beacon_body::{BeaconBlock, BeaconBlockBody};

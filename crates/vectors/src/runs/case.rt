@@ -1,6 +1,6 @@
 //! One case: its words, the files that they name, and what is expected of them.
 
-use crate::expected::status_text;
+use crate::runs::expected::status_text;
 use anyhow::{Context, Result};
 use bc_outside::{MemoryFile, MemoryShelf, MemorySink};
 use beacon_node::beacon_main;
