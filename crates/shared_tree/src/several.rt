@@ -11,7 +11,7 @@ ghost use Rattle.shared_tree.specs.inside.Plans.{trees, pairs, gaps, filled, Are
 use crate::layers::{join, roots_of};
 use crate::node::Node;
 use crate::plan::{Plan, Stage};
-use crate::work::layer_step;
+use crate::work::{layer_step, pair_step};
 use bc_words::{NoMemory, Steps};
 use hash_tree::Leaf;
 use std::alloc::Global;
@@ -151,5 +151,25 @@ pub(crate) fn settle_one<T: Leaf + Drop, L: Ledger>(
     match nodes.pop() {
         Some(node) => Ok(node),
         None => unreachable!(),
+    }
+}
+
+/// The same, where each pair is hashed by itself.
+pub(crate) fn settle_apart<T: Leaf + Drop, L: Ledger>(
+    plan: Plan<T>,
+    alloc: Global,
+    steps: &mut Steps<L>,
+) -> Result<Node<T>, NoMemory>
+    ensures made { IfOk result (λ node. node ≡ plan.0) }
+    ensures steps { steps.new ≤ steps.old + plan.1 }
+{
+    match plan.open() {
+        Stage::Made(node) => Ok(node),
+        Stage::Paired(pair) => {
+            let pair = Box::into_inner(pair);
+            let left = settle_apart(pair.left, alloc, steps)?;
+            let right = settle_apart(pair.right, alloc, steps)?;
+            pair_step(left, right, alloc, steps)
+        }
     }
 }
