@@ -35,7 +35,7 @@ root_of_halves root_of left right h =
     ap (λ (d : ℕ). hash (merkle_root left.0 (map root_of left.1) ++ merkle_root d (map root_of right.1))) (sym h.same_depth) ∙ (sym whole ∙ ap (merkle_root (suc left.0)) (sym chunks))
 
 -- a place in the left half is none behind its items
-place_left : {A : Type 0} (left right : ℕ × List A) (at : ℕ) → AreHalves left right → at < 2 ^ left.0 → at ≤ length (left.1 ++ right.1) → at ≤ length left.1
+pub place_left : {A : Type 0} (left right : ℕ × List A) (at : ℕ) → AreHalves left right → at < 2 ^ left.0 → at ≤ length (left.1 ++ right.1) → at ≤ length left.1
 place_left left right at h low within =
     let long = length-append left.1 right.1 in
     elim (cases_lt 0 (length right.1)) as (λ _. at ≤ length left.1) [

@@ -92,3 +92,12 @@ returns-clause-work g t c =
     let left : c.in_ok-left.left.1 + length c.plan_many-2.new.changes.items * (c.args.depth - 1) ≤ length c.plan_many.new.changes.items * (c.args.depth - 1) = c.in_ok-left.ensures.work in
     let work = work_one (c.in_ok-right.right.1 + c.in_ok-left.left.1) c.in_ok-right.right.1 0 (length c.plan_many-2.new.changes.items) (length c.plan_many.new.changes.items) (length c.args.changes.now.items) c.args.depth (omega arith) (omega arith) (omega arith) (omega arith) in
     if_ok c.pair.result (λ p is. let one : p.1 ≡ suc (c.in_ok-left.left.1 + c.in_ok-right.right.1) = ap (λ (q : (ℕ × List _) × ℕ). q.1) is in omega arith) c.pair.ensures
+
+pub returns-clause-nodes : goal.returns-clause-nodes
+returns-clause-nodes g t c =
+    let facts = half_facts c.args.node.now c.in-Some-halves.left.now c.in-Some-halves.right.now c.args.depth c.half_width.result c.in-Some-halves.ensures c.requires.same c.half_width.ensures.lower in
+    let width = facts.2 in
+    let whole = c.half_width.ensures.half in
+    let right = c.in_ok-right.ensures.nodes in
+    let left = c.in_ok-left.ensures.nodes in
+    if_ok c.pair.result (λ p is. let one : p.1 ≡ suc (c.in_ok-left.left.1 + c.in_ok-right.right.1) = ap (λ (q : (ℕ × List _) × ℕ). q.1) is in omega arith) c.pair.ensures
