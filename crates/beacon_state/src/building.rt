@@ -8,6 +8,7 @@ ghost use Rattle.beacon_types.specs.Containers.{validator_codec, eth1_data_codec
 ghost use Rattle.spec_state.specs.States.{votes_limit, attestations_limit};
 ghost use Rattle.beacon_state.specs.inside.Plain.{limited_to};
 
+use crate::both::both;
 use crate::groups::{attestations_limit_of, votes_limit_of};
 use crate::numbers::Numbers;
 use crate::values::Values;
@@ -32,9 +33,12 @@ pub(crate) fn vectors_built(
     ensures { IfOk result (λ lists. (lists.0 ≡ limited_to preset.now.slots_per_historical_root block_roots) × (lists.1 ≡ limited_to preset.now.slots_per_historical_root state_roots) × (lists.2 ≡ limited_to preset.now.epochs_per_historical_vector randao_mixes)) }
 {
     let roots = preset.slots_per_historical_root;
-    let block_roots = Values::from_items(block_roots, roots)?;
-    let state_roots = Values::from_items(state_roots, roots)?;
-    let mixes = Values::from_items(randao_mixes, preset.epochs_per_historical_vector)?;
+    let of_chain = both(
+        Values::from_items(block_roots, roots),
+        Values::from_items(state_roots, roots),
+    );
+    let mixes = Values::from_items(randao_mixes, preset.epochs_per_historical_vector);
+    let ((block_roots, state_roots), mixes) = both(of_chain, mixes)?;
     Ok((block_roots, state_roots, mixes))
 }
 
@@ -53,9 +57,12 @@ pub(crate) fn registry_built(
     ensures { IfOk result (λ lists. (lists.0 ≡ limited_to preset.now.validator_registry_limit validators) × (lists.1 ≡ limited_to preset.now.validator_registry_limit balances) × (lists.2 ≡ limited_to preset.now.epochs_per_slashings_vector slashings)) }
 {
     let limit = preset.validator_registry_limit;
-    let validators = Values::from_items(validators, limit)?;
-    let balances = Numbers::from_items(balances, limit)?;
-    let slashings = Numbers::from_items(slashings, preset.epochs_per_slashings_vector)?;
+    let validators = Values::from_items(validators, limit);
+    let amounts = both(
+        Numbers::from_items(balances, limit),
+        Numbers::from_items(slashings, preset.epochs_per_slashings_vector),
+    );
+    let (validators, (balances, slashings)) = both(validators, amounts)?;
     Ok((validators, balances, slashings))
 }
 
@@ -71,9 +78,10 @@ pub(crate) fn lists_built(
     requires votes { (length eth1_data_votes ≤ votes_limit preset.now) × AllByRecursion eth1_data_codec.Within eth1_data_votes }
     ensures { IfOk result (λ lists. (lists.0 ≡ limited_to preset.now.historical_roots_limit historical_roots) × (lists.1 ≡ limited_to (votes_limit preset.now) eth1_data_votes)) }
 {
-    let roots = Values::from_items(historical_roots, preset.historical_roots_limit)?;
-    let votes = Values::from_items(eth1_data_votes, votes_limit_of(preset))?;
-    Ok((roots, votes))
+    both(
+        Values::from_items(historical_roots, preset.historical_roots_limit),
+        Values::from_items(eth1_data_votes, votes_limit_of(preset)),
+    )
 }
 
 /// The pending attestations of a state, with the preset's limits.
@@ -89,7 +97,8 @@ pub(crate) fn pending_built(
     ensures { IfOk result (λ lists. (lists.0 ≡ limited_to (attestations_limit preset.now) previous) × (lists.1 ≡ limited_to (attestations_limit preset.now) current)) }
 {
     let limit = attestations_limit_of(preset);
-    let previous = Values::from_items(previous, limit)?;
-    let current = Values::from_items(current, limit)?;
-    Ok((previous, current))
+    both(
+        Values::from_items(previous, limit),
+        Values::from_items(current, limit),
+    )
 }

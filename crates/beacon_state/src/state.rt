@@ -238,9 +238,8 @@ impl State {
     fn share_registry(&self) -> Result<(Values<Validator>, Numbers, Numbers), NoMemory>
         ensures { IfOk result (HasRegistry self.now) }
     {
-        let validators = self.validators.share()?;
-        let balances = self.balances.share()?;
-        let slashings = self.slashings.share()?;
+        let amounts = both(self.balances.share(), self.slashings.share());
+        let (validators, (balances, slashings)) = both(self.validators.share(), amounts)?;
         Ok((validators, balances, slashings))
     }
 
@@ -257,9 +256,11 @@ impl State {
     >
         ensures { IfOk result (HasPending self.now) }
     {
-        let votes = self.eth1_data_votes.share()?;
-        let previous = self.previous_epoch_attestations.share()?;
-        let current = self.current_epoch_attestations.share()?;
+        let attestations = both(
+            self.previous_epoch_attestations.share(),
+            self.current_epoch_attestations.share(),
+        );
+        let (votes, (previous, current)) = both(self.eth1_data_votes.share(), attestations)?;
         Ok((votes, previous, current))
     }
 

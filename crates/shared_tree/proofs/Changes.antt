@@ -10,17 +10,6 @@ unfolding changed
 changed_last items [] change = refl
 changed_last items (first ∷ changes) change = ap (λ (xs : List _). slice_set xs first.0 first.1) (changed_last items changes change)
 
-pub last_below : {A : Type 0} (lowest len : ℕ) (changes : List (ℕ × A)) (change : ℕ × A) → AreChanges lowest len (changes ++ change ∷ []) → AreChanges lowest len changes × (change.0 < len)
-last_below lowest len [] change h = (tt, h.1)
-last_below lowest len (first ∷ changes) change h =
-    let rest = last_below (suc first.0) len changes change h.2 in
-    ((h.0, h.1, rest.0), rest.1)
-
-pub one_more : (n m d : ℕ) → m ≡ n + 1 → m * d ≡ n * d + d
-one_more n m d e =
-    let next : m ≡ suc n = omega arith in
-    ap (λ (k : ℕ). k * d) next ∙ suc-mul n d
-
 pub changed_none : {A : Type 0} (items : List A) (changes : List (ℕ × A)) → length changes ≡ 0 → changed items changes ≡ items
 unfolding changed
 changed_none items [] h = refl

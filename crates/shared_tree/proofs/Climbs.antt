@@ -115,11 +115,6 @@ module _ {A : Type 0} where
   layer_absent depth [] h = (refl, omega arith, (λ some. absurd (omega arith)), tt)
   layer_absent depth (n ∷ ns) h = (h.0, h.1, (λ some. h.2 (subst (λ (r : List A). 0 < length r) (held_absent depth ns) some)), layer_absent depth ns h.3)
 
-  pub roots_absent : (root_of : A → List ℕ) (depth : ℕ) (nodes : List (ℕ × List A)) (root : List ℕ) → root ≡ merkle_root depth [] → node_roots root_of nodes ++ root ∷ [] ≡ node_roots root_of (nodes ++ (depth, []) ∷ [])
-  unfolding node_roots
-  roots_absent root_of depth [] root is = ap (λ (r : List ℕ). r ∷ []) is
-  roots_absent root_of depth (n ∷ ns) root is = ap (λ (r : List (List ℕ)). merkle_root n.0 (map root_of n.1) ∷ r) (roots_absent root_of depth ns root is)
-
   -- nodes two by two
   pub are_paired : (depth : ℕ) (nodes : List (ℕ × List A)) → IsLayer depth nodes → ArePaired nodes
   unfolding held

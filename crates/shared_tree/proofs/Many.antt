@@ -194,10 +194,6 @@ module _ {A : Type 0} where
   changed_all xs [] = in_nil 0 xs
   changed_all xs (c ∷ cs) = in_no 0 xs c cs (omega arith) ∙ (ap (λ (k : ℕ). slice_set (changed_in 0 xs cs) k c.1) (omega arith) ∙ ap (λ (l : List A). slice_set l c.0 c.1) (changed_all xs cs))
 
-  pub before_zero : (cs : List (ℕ × A)) → before 0 cs ≡ []
-  before_zero [] = before_nil 0
-  before_zero (c ∷ cs) = before_no 0 c cs (omega arith) ∙ before_zero cs
-
   ends : (c : ℕ × A) (cs : List (ℕ × A)) → (front : List (ℕ × A)) × ((last : ℕ × A) × (c ∷ cs ≡ front ++ last ∷ []))
   ends c [] = ([], (c, refl))
   ends c (d ∷ cs) = let rest = ends d cs in (c ∷ rest.0, (rest.1.0, ap (λ (r : List (ℕ × A)). c ∷ r) rest.1.1))
@@ -214,6 +210,15 @@ module _ {A : Type 0} where
   one_fewer from (c ∷ cs) some h =
       let e = ends c cs in
       reached_fewer from (c ∷ cs) e.0 e.1.0 e.1.1 (h e.0 e.1.0 e.1.1)
+
+  -- a place that the last change reaches is below the length
+  pub reached_below : (len from : ℕ) (cs : List (ℕ × A)) → AreChanges 0 len cs → 0 < length cs → ((front : List (ℕ × A)) (last : ℕ × A) → cs ≡ front ++ last ∷ [] → from ≤ last.0) → from < len
+  reached_below len from [] h some reach = absurd (omega arith)
+  reached_below len from (c ∷ cs) h some reach =
+      let e = ends c cs in
+      let all = all_before 0 len e.0 e.1.0 (subst (λ (r : List (ℕ × A)). AreChanges 0 len r) e.1.1 h) in
+      let here = reach e.0 e.1.0 e.1.1 in
+      omega (arith, all.1)
 
   -- the halves with their changes
   pub many_halves : (node left right l r : ℕ × List A) (depth half from middle : ℕ) (cs rest : List (ℕ × A)) → HalvesOf node left right → depth ≡ node.0 → ((lower : ℕ) → depth ≡ suc lower → half ≡ 2 ^ lower) → middle ≡ from + half → AreChanges 0 (from + length node.1) cs → rest ≡ before middle cs → l ≡ (depth - 1, changed_in from left.1 rest) → r ≡ (depth - 1, changed_in middle right.1 cs) → AreHalves l r × (◌≡◌ {A = ℕ × List A} (suc l.0, l.1 ++ r.1) (depth, changed_in from node.1 cs))
@@ -247,10 +252,6 @@ module _ {A : Type 0} where
 times : (n d : ℕ) → 0 < d → n * d ≡ n * (d - 1) + n
 times zero d h = omega arith
 times (suc n) d h = omega (arith, suc-mul n d, suc-mul n (d - 1), times n d h)
-
--- steps of a tree by those of its halves
-pub work_more : (now start n m d : ℕ) → 0 < d → n ≤ m → now + n * (d - 1) ≤ start + m * (d - 1) → now + n * d ≤ start + m * d
-work_more now start n m d some fewer work = omega (arith, times n d some, times m d some)
 
 pub work_one : (now middle start n k m d : ℕ) → 0 < d → suc n ≤ m → middle + k * (d - 1) ≤ start + m * (d - 1) → now + n * (d - 1) ≤ middle + k * (d - 1) → now + 1 + n * d ≤ start + m * d
 work_one now middle start n k m d some fewer right left = omega (arith, times n d some, times m d some)

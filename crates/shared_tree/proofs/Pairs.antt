@@ -34,20 +34,8 @@ root_of_halves root_of left right h =
     (sym (back (map root_of left.1) (map root_of right.1) (2 ^ left.0) low full)) in
     ap (λ (d : ℕ). hash (merkle_root left.0 (map root_of left.1) ++ merkle_root d (map root_of right.1))) (sym h.same_depth) ∙ (sym whole ∙ ap (merkle_root (suc left.0)) (sym chunks))
 
--- two empty trees of one depth
-pub empty_halves : {A : Type 0} (depth : ℕ) (left right : ℕ × List A) → left ≡ (depth, []) → right ≡ left → AreHalves left right
-empty_halves depth left right is same =
-    let left_empty : length left.1 ≡ 0 = ap (λ (v : ℕ × List _). length v.1) is in
-    let right_empty : length right.1 ≡ length left.1 = ap (λ (v : ℕ × List _). length v.1) same in
-    record {
-      same_depth = sym (ap (λ (v : ℕ × List _). v.0) same);
-      left_fits = omega arith;
-      right_fits = omega arith;
-      left_first = λ some. absurd (omega arith);
-    }
-
 -- a place in the left half is none behind its items
-place_left : {A : Type 0} (left right : ℕ × List A) (at : ℕ) → AreHalves left right → at < 2 ^ left.0 → at ≤ length (left.1 ++ right.1) → at ≤ length left.1
+pub place_left : {A : Type 0} (left right : ℕ × List A) (at : ℕ) → AreHalves left right → at < 2 ^ left.0 → at ≤ length (left.1 ++ right.1) → at ≤ length left.1
 place_left left right at h low within =
     let long = length-append left.1 right.1 in
     elim (cases_lt 0 (length right.1)) as (λ _. at ≤ length left.1) [
@@ -108,11 +96,11 @@ put_value_right left right new at item h high within is =
     ∙ ap (λ (items : List _). (suc left.0, items)) (sym (put_right left.1 right.1 (2 ^ left.0) at item full high))
 
 -- what a call puts into a half it puts into the whole
-pub put_into_left : {A : Type 0} (node left right sub new other : ℕ × List A) (depth half at : ℕ) (item : A) → AreHalves left right → node ≡ (suc left.0, left.1 ++ right.1) → depth ≡ node.0 → ((lower : ℕ) → depth ≡ suc lower → half ≡ 2 ^ lower) → at < half → at ≤ length node.1 → sub ≡ left → new ≡ (depth - 1, put_at sub.1 at item) → other ≡ right → AreHalves new other × (◌≡◌ {A = ℕ × List A} (suc new.0, new.1 ++ other.1) (depth, put_at node.1 at item))
-put_into_left node left right sub new other depth half at item h view same lower low within sub_is new_is other_is =
+pub put_into_left : {A : Type 0} (node left right new other : ℕ × List A) (depth half at : ℕ) (item : A) → AreHalves left right → node ≡ (suc left.0, left.1 ++ right.1) → depth ≡ node.0 → ((lower : ℕ) → depth ≡ suc lower → half ≡ 2 ^ lower) → at < half → at ≤ length node.1 → new ≡ (depth - 1, put_at left.1 at item) → other ≡ right → AreHalves new other × (◌≡◌ {A = ℕ × List A} (suc new.0, new.1 ++ other.1) (depth, put_at node.1 at item))
+put_into_left node left right new other depth half at item h view same lower low within new_is other_is =
     let d : depth ≡ suc left.0 = same ∙ ap (λ (v : ℕ × List _). v.0) view in
     let width : half ≡ 2 ^ left.0 = lower left.0 d in
-    let is : new ≡ (left.0, put_at left.1 at item) = new_is ∙ (ap (λ (k : ℕ). (k, put_at sub.1 at item)) (omega arith) ∙ ap (λ (v : ℕ × List _). (left.0, put_at v.1 at item)) sub_is) in
+    let is : new ≡ (left.0, put_at left.1 at item) = new_is ∙ ap (λ (k : ℕ). (k, put_at left.1 at item)) (omega arith) in
     let place : at ≤ length (left.1 ++ right.1) = omega (arith, ap (λ (v : ℕ × List _). length v.1) view) in (
       subst (λ (r : ℕ × List _). AreHalves new r) (sym other_is) (put_halves_left left right new at item h (omega arith) place is),
       ap (λ (r : ℕ × List _). (suc new.0, new.1 ++ r.1)) other_is
@@ -120,12 +108,12 @@ put_into_left node left right sub new other depth half at item h view same lower
           ∙ (ap (λ (k : ℕ). (k, put_at (left.1 ++ right.1) at item)) (sym d) ∙ ap (λ (v : ℕ × List _). (depth, put_at v.1 at item)) (sym view))),
     )
 
-pub put_into_right : {A : Type 0} (node left right sub new other : ℕ × List A) (depth half at : ℕ) (item : A) → AreHalves left right → node ≡ (suc left.0, left.1 ++ right.1) → depth ≡ node.0 → ((lower : ℕ) → depth ≡ suc lower → half ≡ 2 ^ lower) → half + half ≡ 2 ^ depth → half ≤ at → at < 2 ^ depth → at ≤ length node.1 → sub ≡ right → new ≡ (depth - 1, put_at sub.1 (at - half) item) → other ≡ left → AreHalves other new × (◌≡◌ {A = ℕ × List A} (suc other.0, other.1 ++ new.1) (depth, put_at node.1 at item))
-put_into_right node left right sub new other depth half at item h view same lower twice high low within sub_is new_is other_is =
+pub put_into_right : {A : Type 0} (node left right new other : ℕ × List A) (depth half at : ℕ) (item : A) → AreHalves left right → node ≡ (suc left.0, left.1 ++ right.1) → depth ≡ node.0 → ((lower : ℕ) → depth ≡ suc lower → half ≡ 2 ^ lower) → half + half ≡ 2 ^ depth → half ≤ at → at < 2 ^ depth → at ≤ length node.1 → new ≡ (depth - 1, put_at right.1 (at - half) item) → other ≡ left → AreHalves other new × (◌≡◌ {A = ℕ × List A} (suc other.0, other.1 ++ new.1) (depth, put_at node.1 at item))
+put_into_right node left right new other depth half at item h view same lower twice high low within new_is other_is =
     let d : depth ≡ suc left.0 = same ∙ ap (λ (v : ℕ × List _). v.0) view in
     let same_depth = h.same_depth in
     let width : half ≡ 2 ^ left.0 = lower left.0 d in
-    let is : new ≡ (right.0, put_at right.1 (at - 2 ^ left.0) item) = new_is ∙ (ap (λ (k : ℕ). (k, put_at sub.1 (at - half) item)) (omega arith) ∙ (ap (λ (v : ℕ × List _). (right.0, put_at v.1 (at - half) item)) sub_is ∙ ap (λ (k : ℕ). (right.0, put_at right.1 (at - k) item)) width)) in
+    let is : new ≡ (right.0, put_at right.1 (at - 2 ^ left.0) item) = new_is ∙ (ap (λ (k : ℕ). (k, put_at right.1 (at - half) item)) (omega arith) ∙ ap (λ (k : ℕ). (right.0, put_at right.1 (at - k) item)) width) in
     let place : at ≤ length (left.1 ++ right.1) = omega (arith, ap (λ (v : ℕ × List _). length v.1) view) in (
       subst (λ (l : ℕ × List _). AreHalves l new) (sym other_is) (put_halves_right left right new at item h (omega arith) (omega arith) place is),
       ap (λ (l : ℕ × List _). (suc l.0, l.1 ++ new.1)) other_is
@@ -141,10 +129,13 @@ alone (x ∷ []) zero item long low = refl
 alone (x ∷ []) (suc at) item long low = absurd (omega arith)
 alone (x ∷ y ∷ xs) at item long low = absurd (omega arith)
 
-pub put_into_leaf : {A : Type 0} (xs : List A) (depth at : ℕ) (item : A) → depth ≡ 0 → length xs ≤ 2 ^ depth → at < 2 ^ depth → ◌≡◌ {A = ℕ × List A} (0, item ∷ []) (depth, put_at xs at item)
-put_into_leaf xs depth at item leaf fits low =
-    let one : 2 ^ depth ≡ 1 = ap (λ (d : ℕ). 2 ^ d) leaf in
-    ap (λ (items : List _). (0, items)) (alone xs at item (omega arith) (omega arith)) ∙ ap (λ (d : ℕ). (d, put_at xs at item)) (sym leaf)
+pub put_into_bare : {A : Type 0} (node : ℕ × List A) (depth at : ℕ) (item : A) → depth ≡ node.0 → length node.1 ≤ 1 → (0 < node.0 → node.1 ≡ []) → at < 2 ^ depth → ◌≡◌ {A = ℕ × List A} (depth, item ∷ []) (depth, put_at node.1 at item)
+unfolding put_at
+put_into_bare node depth at item same one none low =
+    ap (λ (items : List _). (depth, items)) (elim (cases_lt 0 node.0) as (λ _. item ∷ [] ≡ put_at node.1 at item) [
+      | inl deep ↦ ap (λ (xs : List _). put_at xs at item) (sym (none deep))
+      | inr flat ↦ let zero_deep : depth ≡ 0 = omega arith in let width : 2 ^ depth ≡ 1 = ap (λ (d : ℕ). 2 ^ d) zero_deep in alone node.1 at item one (omega arith)
+    ])
 
 -- a full tree as the left half of a deeper one, whose right half has one item
 pub grown : {A : Type 0} (node shared right : ℕ × List A) (depth at : ℕ) (item : A) → depth ≡ node.0 → length node.1 ≤ 2 ^ depth → 2 ^ depth ≤ at → at ≤ length node.1 → shared ≡ node → right ≡ (depth, item ∷ []) → AreHalves shared right × (◌≡◌ {A = ℕ × List A} (suc shared.0, shared.1 ++ right.1) (depth + 1, put_at node.1 at item))
@@ -165,7 +156,3 @@ grown node shared right depth at item same fits full place shared_is right_is =
           ∙ (ap (λ (items : List _). (suc node.0, items)) (sym (put_push node.1 at item (omega arith)))
           ∙ ap (λ (d : ℕ). (d, put_at node.1 at item)) (omega arith))),
     )
-
-pub put_into_none : {A : Type 0} (depth : ℕ) (none new : ℕ × List A) (item : A) → none ≡ (depth, []) → new ≡ (depth, put_at none.1 0 item) → new ≡ (depth, item ∷ [])
-unfolding put_at
-put_into_none depth none new item empty is = is ∙ ap (λ (v : ℕ × List _). (depth, put_at v.1 0 item)) empty

@@ -35,23 +35,3 @@ module _ {A : Type 0} where
   length_put [] at item h = omega arith
   length_put (x ∷ xs) zero item h = omega arith
   length_put (x ∷ xs) (suc at) item h = omega (arith, length_put xs at item (omega arith))
-
-  pub get_left : (xs ys : List A) (at : ℕ) → (0 < length ys → at < length xs) → slice_get (xs ++ ys) at ≡ slice_get xs at
-  get_left xs [] at h = ap (λ (l : List A). slice_get l at) (append-nil xs)
-  get_left [] (y ∷ ys) at h = absurd (omega (arith, h (omega arith)))
-  get_left (x ∷ xs) (y ∷ ys) zero h = refl
-  get_left (x ∷ xs) (y ∷ ys) (suc at) h = get_left xs (y ∷ ys) at (λ some. omega (arith, h (omega arith)))
-
-  get_none : (xs : List A) (at : ℕ) → length xs ≤ at → slice_get xs at ≡ None
-  get_none [] at h = refl
-  get_none (x ∷ xs) zero h = absurd (omega arith)
-  get_none (x ∷ xs) (suc at) h = get_none xs at (omega arith)
-
-  get_behind : (xs ys : List A) (n at : ℕ) → length xs ≡ n → n ≤ at → slice_get (xs ++ ys) at ≡ slice_get ys (at - n)
-  get_behind [] ys n at e h = ap (λ (k : ℕ). slice_get ys k) (omega arith)
-  get_behind (x ∷ xs) ys n zero e h = absurd (omega arith)
-  get_behind (x ∷ xs) ys n (suc at) e h = get_behind xs ys (length xs) at refl (omega arith) ∙ ap (λ (k : ℕ). slice_get ys k) (omega arith)
-
-  pub get_right : (xs ys : List A) (n at : ℕ) → length xs ≤ n → (0 < length ys → length xs ≡ n) → n ≤ at → slice_get (xs ++ ys) at ≡ slice_get ys (at - n)
-  get_right xs [] n at low full h = ap (λ (l : List A). slice_get l at) (append-nil xs) ∙ get_none xs at (omega arith)
-  get_right xs (y ∷ ys) n at low full h = get_behind xs (y ∷ ys) n at (full (omega arith)) h

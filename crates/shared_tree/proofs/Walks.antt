@@ -135,20 +135,3 @@ unfolding numbers_in
 numbers_all len rest fours now none e =
     ap (λ (xs : List ℕ). take len (xs ++ flat_map (λ f. f.numbers) fours)) none
     ∙ ap (λ (fs : List Four). take len (flat_map (λ f. f.numbers) fs)) e
-
-pub turns_rest : (rest more : List ℕ) (number : ℕ) (fours : List Four) → rest ≡ number ∷ more → behind rest fours ≡ number ∷ behind more fours
-turns_rest rest more number fours e = ap (λ (xs : List ℕ). xs ++ flat_map (λ f. f.numbers) fours) e
-
-pub turns_to : (rest more : List ℕ) (number : ℕ) (four : Four) (fours now : List Four) → rest ≡ [] → fours ≡ four ∷ now → number ∷ more ≡ four.numbers → behind rest fours ≡ number ∷ behind more now
-turns_to rest more number four fours now none e first =
-    ap (λ (xs : List ℕ). xs ++ flat_map (λ f. f.numbers) fours) none
-    ∙ (ap (λ (fs : List Four). flat_map (λ f. f.numbers) fs) e
-    ∙ ap (λ (xs : List ℕ). xs ++ flat_map (λ f. f.numbers) now) (sym first))
-
-pub turns_none : (rest : List ℕ) (fours : List Four) → rest ≡ [] → fours ≡ [] → behind rest fours ≡ []
-turns_none rest fours none e = ap (λ (xs : List ℕ). xs ++ flat_map (λ f. f.numbers) fours) none ∙ ap (λ (fs : List Four). flat_map (λ f. f.numbers) fs) e
-
-pub number_first : (left number : ℕ) (rest more : List ℕ) (fours now : List Four) → 0 < left → behind rest fours ≡ number ∷ behind more now → numbers_left left rest fours ≡ number ∷ numbers_left (left - 1) more now
-number_first left number rest more fours now some is =
-    let one : left ≡ suc (left - 1) = omega arith in
-    ap (λ (xs : List ℕ). take left xs) is ∙ ap (λ (n : ℕ). take n (number ∷ behind more now)) one

@@ -3,7 +3,7 @@
 //! Items come from `tree`. The parents of a whole layer are hashed by one call over its roots, and the nodes above are made
 //! with the roots that they have.
 
-ghost use Rattle.std.specs.Prelude.{◌≡◌, ℕ, suc, ◌+◌, ◌*◌, ◌/◌, ◌<◌, ◌≤◌, ◌^◌, ◌++◌, length, map, IfOk, OnOk};
+ghost use Rattle.std.specs.Prelude.{◌≡◌, ℕ, suc, ◌+◌, ◌*◌, ◌/◌, ◌%◌, ◌<◌, ◌≤◌, ◌^◌, ◌++◌, length, map, IfOk, OnOk};
 ghost use Rattle.std.specs.Vec.Iter.{into_iter_items};
 ghost use Rattle.pair_lanes.specs.Pairs.{parents};
 ghost use Rattle.shared_tree.specs.inside.Layers.{leaves, held, paired, node_roots, IsLayer, ArePaired};
@@ -11,7 +11,7 @@ ghost use Rattle.shared_tree.specs.inside.Layers.{leaves, held, paired, node_roo
 use crate::node::Node;
 use crate::work::layer_step;
 use bc_words::{NoMemory, Steps};
-use hash_tree::{Leaf, Root, zero_hash};
+use hash_tree::{Leaf, Root};
 use std::alloc::Global;
 use std::marker::Brand;
 use std::sync::ledger::{Blank, Ledger};
@@ -90,10 +90,7 @@ fn leaf_nodes<T: Leaf + Drop>(items: Vec<T>, alloc: Global) -> Result<Vec<Node<T
 }
 
 /// The roots of the nodes, each of which is kept.
-pub(crate) fn roots_of<T: Leaf + Drop>(
-    nodes: &[Node<T>],
-    alloc: Global,
-) -> Result<Vec<Root>, NoMemory>
+fn roots_of<T: Leaf + Drop>(nodes: &[Node<T>], alloc: Global) -> Result<Vec<Root>, NoMemory>
     ensures { IfOk result (λ roots. roots.items ≡ node_roots T.root_of nodes.now) }
 {
     let mut roots = Vec::with_capacity(alloc, nodes.len())?;
@@ -104,7 +101,7 @@ pub(crate) fn roots_of<T: Leaf + Drop>(
 }
 
 /// The trees over two nodes each, whose roots are known.
-pub(crate) fn join<T: Leaf + Drop>(
+fn join<T: Leaf + Drop>(
     nodes: Vec<Node<T>>,
     above: &[Root],
     alloc: Global,
@@ -125,23 +122,33 @@ pub(crate) fn join<T: Leaf + Drop>(
     Ok(joined)
 }
 
+/// The trees over two nodes each, which are hashed by one call. A step for each.
+pub(crate) fn join_step<T: Leaf + Drop, L: Ledger>(
+    nodes: Vec<Node<T>>,
+    alloc: Global,
+    steps: &mut Steps<L>,
+) -> Result<Vec<Node<T>>, NoMemory>
+    requires halves { ArePaired nodes.items }
+    requires even { length nodes.items % 2 ≡ 0 }
+    ensures joined { IfOk result (λ joined. joined.items ≡ paired nodes.items) }
+    ensures steps { 2 * steps.new ≤ 2 * steps.old + length nodes.items }
+{
+    let roots = roots_of(&nodes, alloc)?;
+    let mut above = vec![in alloc; [0u8; 32]; nodes.len() / 2]?;
+    layer_step(&roots, &mut above, steps);
+    join(nodes, &above, alloc)
+}
+
 /// Puts a node without items behind an odd number of nodes.
-fn make_even<T: Leaf + Drop>(
-    nodes: &mut Vec<Node<T>>,
-    roots: &mut Vec<Root>,
-    depth: u32,
-) -> Result<(), NoMemory>
+fn make_even<T: Leaf + Drop>(nodes: &mut Vec<Node<T>>, depth: u32) -> Result<(), NoMemory>
     requires low { depth ≤ 40 }
     requires layer { IsLayer depth nodes.old.items }
-    requires roots { roots.old.items ≡ node_roots T.root_of nodes.old.items }
     ensures layer { OnOk result (IsLayer depth nodes.new.items) }
-    ensures roots { OnOk result (roots.new.items ≡ node_roots T.root_of nodes.new.items) }
     ensures held { OnOk result (held nodes.new.items ≡ held nodes.old.items) }
     ensures even { OnOk result (length nodes.new.items ≡ 2 * ((length nodes.old.items + 1) / 2)) }
 {
     if nodes.len() % 2 == 1 {
         nodes.push(Node::absent(depth))?;
-        roots.push(zero_hash(depth))?;
     }
     Ok(())
 }
@@ -149,27 +156,20 @@ fn make_even<T: Leaf + Drop>(
 /// Makes the layer above. A step for each of its nodes.
 fn climb<T: Leaf + Drop, L: Ledger>(
     nodes: Vec<Node<T>>,
-    roots: &mut Vec<Root>,
     depth: u32,
     alloc: Global,
     steps: &mut Steps<L>,
 ) -> Result<Vec<Node<T>>, NoMemory>
     requires low { depth ≤ 40 }
     requires layer { IsLayer depth nodes.items }
-    requires roots { roots.old.items ≡ node_roots T.root_of nodes.items }
     ensures layer { IfOk result (λ above. IsLayer (suc depth) above.items) }
-    ensures roots { IfOk result (λ above. roots.new.items ≡ node_roots T.root_of above.items) }
     ensures held { IfOk result (λ above. held above.items ≡ held nodes.items) }
     ensures count { IfOk result (λ above. length above.items ≡ (length nodes.items + 1) / 2) }
     ensures steps { steps.new ≤ steps.old + (length nodes.items + 1) / 2 }
 {
     let mut nodes = nodes;
-    make_even(&mut nodes, roots, depth)?;
-    let mut above = vec![in alloc; [0u8; 32]; nodes.len() / 2]?;
-    layer_step(roots, &mut above, steps);
-    *roots = above;
-    let joined = join(nodes, roots, alloc)?;
-    Ok(joined)
+    make_even(&mut nodes, depth)?;
+    join_step(nodes, alloc, steps)
 }
 
 /// The tree of this depth over the items, of which there is one or more. A step for each of its inner nodes that has items.
@@ -187,9 +187,8 @@ pub(crate) fn layered<T: Leaf + Drop, L: Ledger>(
     ensures nodes { steps.new + 1 ≤ steps.old + 2 ^ depth }
 {
     let mut nodes = leaf_nodes(items, alloc)?;
-    let mut roots = roots_of(&nodes, alloc)?;
     'layers: for level in 0..depth {
-        nodes = climb(nodes, &mut roots, level, alloc, steps)?;
+        nodes = climb(nodes, level, alloc, steps)?;
     }
     match nodes.pop() {
         Some(node) => Ok(node),

@@ -4,7 +4,7 @@
 
 ghost use Rattle.std.specs.Prelude.{◌≡◌, ℕ, suc, ◌+◌, ◌<◌, ◌≤◌, ◌^◌, List, [], ◌∷◌, ◌++◌, length, map, IfOk, OnOk};
 ghost use Rattle.hash_tree.specs.Merkle.{hash, merkle_root};
-ghost use Rattle.shared_tree.specs.inside.Nodes.{AreHalves, HalvesOf};
+ghost use Rattle.shared_tree.specs.inside.Nodes.{AreHalves, Splits};
 
 use bc_words::NoMemory;
 use hash_tree::{Leaf, Root, hash_pair, zero_hash};
@@ -218,16 +218,15 @@ impl<T: Leaf + Drop> Node<T> {
         Ok(Node { kind })
     }
 
-    /// The two halves.
-    pub(crate) fn halves(&self) -> Result<(Node<T>, Node<T>), NoMemory>
-        requires { 0 < self.now.0 }
-        ensures { IfOk result (λ halves. HalvesOf self.now halves.0 halves.1) }
+    /// The two halves. None where the node has no more than one item, and has none but for a leaf.
+    pub(crate) fn halves(&self) -> Option<(&Node<T>, &Node<T>)>
+        ensures { Splits self.now result }
     {
         match &self.kind {
-            Kind::Absent(depth) => Ok((Node::absent(*depth - 1), Node::absent(*depth - 1))),
-            Kind::Item(_) => unreachable!(),
-            Kind::Pair(pair) => Ok((pair.left.share()?, pair.right.share()?)),
-            Kind::Broad(broad) => Ok((broad.left.share()?, broad.right.share()?)),
+            Kind::Absent(_) => None,
+            Kind::Item(_) => None,
+            Kind::Pair(pair) => Some((&pair.left, &pair.right)),
+            Kind::Broad(broad) => Some((&broad.left, &broad.right)),
         }
     }
 }
@@ -245,17 +244,15 @@ fn is_high<T: Leaf + Drop>(node: &Node<T>, levels: u32) -> bool {
 fn gather<T: Leaf + Drop>(node: &Node<T>, leaves: &mut Vec<Rc<Item<T>>>) -> Result<(), NoMemory>
     ensures { OnOk result (map (λ leaf. leaf.value.item) leaves.new.items ≡ map (λ leaf. leaf.value.item) leaves.old.items ++ node.now.1) }
 {
-    match &node.kind {
-        Kind::Absent(_) => Ok(()),
-        Kind::Item(leaf) => Ok(leaves.push(leaf.clone()?)?),
-        Kind::Pair(pair) => {
-            gather(&pair.left, leaves)?;
-            gather(&pair.right, leaves)
+    match node.halves() {
+        Some((left, right)) => {
+            gather(left, leaves)?;
+            gather(right, leaves)
         }
-        Kind::Broad(broad) => {
-            gather(&broad.left, leaves)?;
-            gather(&broad.right, leaves)
-        }
+        None => match &node.kind {
+            Kind::Item(leaf) => Ok(leaves.push(leaf.clone()?)?),
+            _ => Ok(()),
+        },
     }
 }
 

@@ -4,11 +4,12 @@
 //! are made of them, so that `several` can hash the pairs of a layer by one call.
 
 ghost use Rattle.std.specs.Prelude.{◌≡◌, suc, ◌+◌, ◌*◌, ◌<◌, ◌≤◌, ◌^◌, ◌++◌, length, IfOk, OnOk};
-ghost use Rattle.shared_tree.specs.Lists.{AreChanges};
+ghost use Rattle.shared_tree.specs.Lists.{AreChanges, changed};
 ghost use Rattle.shared_tree.specs.inside.Nodes.{AreHalves};
 ghost use Rattle.shared_tree.specs.inside.Plans.{planned, IsPlan};
 ghost use Rattle.shared_tree.specs.inside.Puts.{before, changed_in};
 
+use crate::new_leaves::new_leaves;
 use crate::node::{NewLeaf, Node, half_width};
 use crate::put::reaches;
 use bc_words::NoMemory;
@@ -117,9 +118,30 @@ pub(crate) fn plan_many<T: Leaf + Drop>(
             None => unreachable!(),
         };
     }
-    let (left, right) = node.halves()?;
+    let Some((left, right)) = node.halves() else {
+        unreachable!()
+    };
     let middle = from + half_width(depth);
-    let right = plan_many(&right, depth - 1, middle, changes, alloc)?;
-    let left = plan_many(&left, depth - 1, from, changes, alloc)?;
+    let right = plan_many(right, depth - 1, middle, changes, alloc)?;
+    let left = plan_many(left, depth - 1, from, changes, alloc)?;
     Plan::pair(left, right, alloc)
+}
+
+/// The plan of the tree with the changes made. Roots of the new leaves are made side by side.
+pub(crate) fn plan_all<T: Leaf + Drop>(
+    node: &Node<T>,
+    depth: u32,
+    changes: Vec<(u64, T)>,
+    alloc: Global,
+) -> Result<Plan<T>, NoMemory>
+    requires same { depth ≡ node.now.0 }
+    requires low { depth ≤ 40 }
+    requires fits { length node.now.1 ≤ 2 ^ depth }
+    requires places { AreChanges 0 (length node.now.1) changes.items }
+    ensures put { IfOk result (λ plan. plan.0 ≡ (depth, changed node.now.1 changes.items)) }
+    ensures work { IfOk result (λ plan. plan.1 ≤ length changes.items * depth) }
+    ensures nodes { IfOk result (λ plan. plan.1 + 1 ≤ 2 ^ depth) }
+{
+    let mut leaves = new_leaves(changes, alloc)?;
+    plan_many(node, depth, 0, &mut leaves, alloc)
 }

@@ -1,18 +1,17 @@
 //! A tree like another one with one item changed, or with one more.
 //!
 //! The nodes of one path are made anew, and all others are shared. Where every item changes, the tree is built layer by
-//! layer, and where many do, their leaves are rooted side by side and their pairs hashed layer by layer.
+//! layer. Where some do, what the tree becomes is planned, and then its new pairs are hashed.
 
-ghost use Rattle.std.specs.Prelude.{◌≡◌, ◌+◌, ◌*◌, ◌<◌, ◌≤◌, ◌^◌, length, map, IfOk, OnOk};
+ghost use Rattle.std.specs.Prelude.{◌≡◌, ◌+◌, ◌*◌, ◌<◌, ◌≤◌, ◌^◌, [], ◌∷◌, length, map, IfOk, OnOk};
 ghost use Rattle.shared_tree.specs.Lists.{AreChanges, changed};
-ghost use Rattle.shared_tree.specs.inside.Puts.{put_at, Grows, before, changed_in, Reaches};
+ghost use Rattle.shared_tree.specs.inside.Puts.{put_at, Grows, Reaches};
 
 use crate::build::leaves_of;
 use crate::layers::layered;
-use crate::new_leaves::new_leaves;
 use crate::node::{Node, half_width};
-use crate::plan::plan_many;
-use crate::several::settle_one;
+use crate::plan::plan_all;
+use crate::several::{settle_apart, settle_one};
 use crate::work::pair_step;
 use bc_words::{NoMemory, Steps};
 use hash_tree::Leaf;
@@ -21,6 +20,25 @@ use std::sync::ledger::Ledger;
 
 /// From how many changes on the pairs of a layer are hashed by one call: so many are hashed side by side.
 const LANES: usize = 8;
+
+/// The tree of a depth whose first leaf is an item, and which has no other. A step for each level.
+fn sprout<T: Leaf + Drop, L: Ledger>(
+    item: T,
+    depth: u32,
+    alloc: Global,
+    steps: &mut Steps<L>,
+) -> Result<Node<T>, NoMemory>
+    requires { depth ≤ 40 }
+    ensures one { IfOk result (λ node. node ≡ (depth, item ∷ [])) }
+    ensures steps { OnOk result (steps.new ≡ steps.old + depth) }
+    ensures at_most { steps.new ≤ steps.old + depth }
+{
+    if depth == 0 {
+        return Node::item(item, alloc);
+    }
+    let left = sprout(item, depth - 1, alloc, steps)?;
+    pair_step(left, Node::absent(depth - 1), alloc, steps)
+}
 
 /// The tree with the item at a place: in the place of the one that is there, or behind the last. A step for each level.
 pub(crate) fn put<T: Leaf + Drop, L: Ledger>(
@@ -40,17 +58,16 @@ pub(crate) fn put<T: Leaf + Drop, L: Ledger>(
     ensures steps { OnOk result (steps.new ≡ steps.old + depth) }
     ensures at_most { steps.new ≤ steps.old + depth }
 {
-    if depth == 0 {
-        return Node::item(item, alloc);
-    }
-    let (left, right) = node.halves()?;
+    let Some((left, right)) = node.halves() else {
+        return sprout(item, depth, alloc, steps);
+    };
     let half = half_width(depth);
     if at < half {
-        let left = put(&left, depth - 1, at, item, alloc, steps)?;
-        return pair_step(left, right, alloc, steps);
+        let left = put(left, depth - 1, at, item, alloc, steps)?;
+        return pair_step(left, right.share()?, alloc, steps);
     }
-    let right = put(&right, depth - 1, at - half, item, alloc, steps)?;
-    pair_step(left, right, alloc, steps)
+    let right = put(right, depth - 1, at - half, item, alloc, steps)?;
+    pair_step(left.share()?, right, alloc, steps)
 }
 
 /// The same for a place behind the last of a full tree too, which becomes the left half of one that is a level deeper. The
@@ -77,47 +94,9 @@ pub(crate) fn put_or_grow<T: Leaf + Drop, L: Ledger>(
     if at < leaves_of(depth) {
         return Ok((put(node, depth, at, item, alloc, steps)?, depth));
     }
-    let right = put(&Node::absent(depth), depth, 0, item, alloc, steps)?;
+    let right = sprout(item, depth, alloc, steps)?;
     let whole = pair_step(node.share()?, right, alloc, steps)?;
     Ok((whole, depth + 1))
-}
-
-/// The tree, whose first place is `from`, with the changes made that are there or behind. They are taken off the list, whose
-/// last ones they are. Each node is made anew once: at most a step for each level and change, and no more than there are
-/// inner nodes.
-pub(crate) fn put_many<T: Leaf + Drop, L: Ledger>(
-    node: &Node<T>,
-    depth: u32,
-    from: u64,
-    changes: &mut Vec<(u64, T)>,
-    alloc: Global,
-    steps: &mut Steps<L>,
-) -> Result<Node<T>, NoMemory>
-    requires same { depth ≡ node.now.0 }
-    requires low { depth ≤ 40 }
-    requires fits { length node.now.1 ≤ 2 ^ depth }
-    requires within { from + 2 ^ depth ≤ 2 ^ 40 }
-    requires places { AreChanges 0 (from + length node.now.1) changes.old.items }
-    ensures put { IfOk result (λ new. new ≡ (depth, changed_in from node.now.1 changes.old.items)) }
-    ensures rest { OnOk result (changes.new.items ≡ before from changes.old.items) }
-    ensures fewer { length changes.new.items ≤ length changes.old.items }
-    ensures work { steps.new + length changes.new.items * depth ≤ steps.old + length changes.old.items * depth }
-    ensures nodes { steps.new + 1 ≤ steps.old + 2 ^ depth }
-{
-    if !reaches(changes, from) {
-        return node.share();
-    }
-    if depth == 0 {
-        return match changes.pop() {
-            Some((_at, item)) => Node::item(item, alloc),
-            None => unreachable!(),
-        };
-    }
-    let (left, right) = node.halves()?;
-    let middle = from + half_width(depth);
-    let right = put_many(&right, depth - 1, middle, changes, alloc, steps)?;
-    let left = put_many(&left, depth - 1, from, changes, alloc, steps)?;
-    pair_step(left, right, alloc, steps)
 }
 
 /// The items of the changes.
@@ -138,7 +117,7 @@ pub(crate) fn new_items<T: Drop>(changes: Vec<(u64, T)>, alloc: Global) -> Resul
 
 /// The tree with the changes made. Each node is made anew once: at most a step for each level and change, and no more than
 /// there are inner nodes. Where every item changes, the tree is built layer by layer, and where there are enough changes to hash
-/// side by side, the new leaves are rooted so, and the pairs of a layer are hashed by one call.
+/// side by side, the pairs of a layer are hashed by one call.
 pub(crate) fn put_all<T: Leaf + Drop, L: Ledger>(
     node: &Node<T>,
     depth: u32,
@@ -157,16 +136,15 @@ pub(crate) fn put_all<T: Leaf + Drop, L: Ledger>(
     ensures work { steps.new ≤ steps.old + length changes.items * depth }
     ensures nodes { steps.new + 1 ≤ steps.old + 2 ^ depth }
 {
-    if changes.len() as u64 == len {
+    let count = changes.len();
+    if count as u64 == len {
         let items = new_items(changes, alloc)?;
         return layered(items, depth, alloc, steps);
     }
-    let mut changes = changes;
-    if changes.len() < LANES {
-        return put_many(node, depth, 0, &mut changes, alloc, steps);
+    let plan = plan_all(node, depth, changes, alloc)?;
+    if count < LANES {
+        return settle_apart(plan, alloc, steps);
     }
-    let mut leaves = new_leaves(changes, alloc)?;
-    let plan = plan_many(node, depth, 0, &mut leaves, alloc)?;
     settle_one(plan, depth, alloc, steps)
 }
 

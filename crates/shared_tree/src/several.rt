@@ -8,10 +8,10 @@ ghost use Rattle.std.specs.Vec.Iter.{into_iter_items};
 ghost use Rattle.shared_tree.specs.inside.Layers.{paired, ArePaired};
 ghost use Rattle.shared_tree.specs.inside.Plans.{trees, pairs, gaps, filled, AreDeep, AreOpen};
 
-use crate::layers::{join, roots_of};
+use crate::layers::join_step;
 use crate::node::Node;
 use crate::plan::{Plan, Stage};
-use crate::work::layer_step;
+use crate::work::pair_step;
 use bc_words::{NoMemory, Steps};
 use hash_tree::Leaf;
 use std::alloc::Global;
@@ -95,23 +95,6 @@ fn fill<T: Leaf + Drop>(
     Ok(nodes)
 }
 
-/// The trees over two nodes each, which are hashed by one call. A step for each.
-fn join_step<T: Leaf + Drop, L: Ledger>(
-    nodes: Vec<Node<T>>,
-    alloc: Global,
-    steps: &mut Steps<L>,
-) -> Result<Vec<Node<T>>, NoMemory>
-    requires halves { ArePaired nodes.items }
-    requires even { length nodes.items % 2 ≡ 0 }
-    ensures joined { IfOk result (λ joined. joined.items ≡ paired nodes.items) }
-    ensures steps { 2 * steps.new ≤ 2 * steps.old + length nodes.items }
-{
-    let roots = roots_of(&nodes, alloc)?;
-    let mut above = vec![in alloc; [0u8; 32]; nodes.len() / 2]?;
-    layer_step(&roots, &mut above, steps);
-    join(nodes, &above, alloc)
-}
-
 /// The trees that the plans become, which are of this depth. A step for each of their pairs, and all pairs of a layer are
 /// hashed by one call.
 fn settle<T: Leaf + Drop, L: Ledger>(
@@ -151,5 +134,25 @@ pub(crate) fn settle_one<T: Leaf + Drop, L: Ledger>(
     match nodes.pop() {
         Some(node) => Ok(node),
         None => unreachable!(),
+    }
+}
+
+/// The same, where each pair is hashed by itself.
+pub(crate) fn settle_apart<T: Leaf + Drop, L: Ledger>(
+    plan: Plan<T>,
+    alloc: Global,
+    steps: &mut Steps<L>,
+) -> Result<Node<T>, NoMemory>
+    ensures made { IfOk result (λ node. node ≡ plan.0) }
+    ensures steps { steps.new ≤ steps.old + plan.1 }
+{
+    match plan.open() {
+        Stage::Made(node) => Ok(node),
+        Stage::Paired(pair) => {
+            let pair = Box::into_inner(pair);
+            let left = settle_apart(pair.left, alloc, steps)?;
+            let right = settle_apart(pair.right, alloc, steps)?;
+            pair_step(left, right, alloc, steps)
+        }
     }
 }

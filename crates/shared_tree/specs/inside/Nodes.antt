@@ -1,5 +1,6 @@
 -- What a node of a tree is seen as, and what holds of it.
-use Rattle.std.specs.Prelude.{◌≡◌, ℕ, suc, ◌<◌, ◌≤◌, ◌^◌, List, [], ◌∷◌, ◌++◌, length, map}
+use Rattle.std.specs.Prelude.{◌≡◌, ℕ, suc, ◌<◌, ◌≤◌, ◌^◌, List, [], ◌∷◌, ◌++◌, length, map, Option, Some, None}
+use Rattle.std.specs.Borrow.{Bor}
 use Rattle.hash_tree.specs.Merkle.{hash, merkle_root}
 use Rattle.shared_tree.specs.declared.node.Kind.{Kind}
 use Rattle.shared_tree.specs.declared.node.Kind.TheVariants.{Absent, Item, Pair, Broad}
@@ -22,6 +23,11 @@ pub record AreHalves {T : Type 0} (left right : ℕ × List T) : Type 0 where
 pub record HalvesOf {T : Type 0} (tree left right : ℕ × List T) : Type 0 where
   pub halves : AreHalves left right
   pub whole : tree ≡ (suc left.0, left.1 ++ right.1)
+
+-- a tree's halves, or none where it has no more than one item, and has none but for a leaf
+abbrev pub Splits : {T : Type 0} → ℕ × List T → Option (Bor (ℕ × List T) × Bor (ℕ × List T)) → Type 0
+Splits tree (Some halves) = HalvesOf tree halves.0.now halves.1.now
+Splits tree None = (length tree.1 ≤ 1) × (0 < tree.0 → tree.1 ≡ [])
 
 -- what is kept is the root
 abbrev pub IsNode : {T : Type 0} → (T → List ℕ) → Kind T → Type 0

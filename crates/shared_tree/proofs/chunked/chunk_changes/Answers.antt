@@ -3,6 +3,7 @@ use Rattle.std.proofs.Common.{◌≡◌, ℕ, suc, ◌+◌, ◌/◌, ◌<◌, �
 use Rattle.std.specs.Prelude.{slice_set}
 use Rattle.std.specs.List.{AllByRecursion}
 use Rattle.std.specs.Vec.Iter.{into_iter_items}
+use Rattle.std.proofs.lemmas.List.{take_all}
 use Rattle.ssz_codec.specs.Basic.{uint64}
 use Rattle.shared_tree.specs.Lists.{AreChanges, changed}
 use Rattle.shared_tree.specs.inside.Fours.{packed, numbers_in}
@@ -69,3 +70,13 @@ numbers-preserved c =
 pub returns-clause-places : goal.returns-clause-places
 returns-clause-places c =
     wider ((c.numbers.low + 3) / 4) (length c.args.tree.now.1) c.numbers.chunks.items (omega (arith, c.numbers.invariant.upto, ap length c.requires.packs, length_packed (numbers_in c.args.len c.args.tree.now.1), c.requires.len_is)) c.numbers.invariant.places
+
+pub returns-clause-made : goal.returns-clause-made
+returns-clause-made c =
+    let all = take_all c.numbers.k c.args.changes.items (omega (arith, c.numbers-test.false, c.len-count.ensures)) in
+    c.numbers.invariant.made ∙ ap (λ (cs : List (ℕ × ℕ)). packed (changed (numbers_in c.args.len c.args.tree.now.1) cs)) all
+
+pub returns-clause-within : goal.returns-clause-within
+returns-clause-within c =
+    let all = take_all c.numbers.k c.args.changes.items (omega (arith, c.numbers-test.false, c.len-count.ensures)) in
+    subst (λ (cs : List (ℕ × ℕ)). AllByRecursion uint64.Within (changed (numbers_in c.args.len c.args.tree.now.1) cs)) all c.numbers.invariant.within

@@ -3,7 +3,7 @@ use Rattle.std.proofs.Common.{ℕ, List, [], ◌∷◌, ◌++◌, length, map, a
 use Rattle.std.specs.Vec.Iter.{into_iter_items}
 use Rattle.std.proofs.lemmas.List.{length-map}
 use Rattle.shared_tree.specs.inside.Layers.{leaves}
-use Rattle.shared_tree.proofs.Climbs.{leaf_more, leaf_all, drop_next}
+use Rattle.shared_tree.proofs.Climbs.{leaf_more, leaf_all, drop_next, index_of}
 use Rattle.shared_tree.proofs.layers.add_leaves.Goals as goal
 
 pub leaves-preserved : goal.leaves-preserved
@@ -19,3 +19,7 @@ returns g c =
     leaf_all c.leaves.nodes.items (into_iter_items c.leaves.rest) (c.args.nodes.now.items ++ leaves c.args.items.items)
     (omega (arith, c.leaves-test.false, ap length c.leaves.invariant.roots, length-drop c.leaves.k c.args.roots.now, length-map (into_iter_items c.leaves.rest) g.T.Leaf.root_of))
     c.leaves.invariant.made
+
+pub known-requires : goal.known-requires
+known-requires g c =
+    index_of c.args.roots.now c.leaves.k (g.T.Leaf.root_of c.in-Some.item) (map g.T.Leaf.root_of (into_iter_items c.next.new.self)) [] (c.leaves.invariant.roots ∙ ap (λ (xs : List _). map g.T.Leaf.root_of xs) c.in-Some.ensures.items)

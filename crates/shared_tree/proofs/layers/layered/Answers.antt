@@ -1,6 +1,6 @@
 -- From the leaves to the one node that holds all.
 use Rattle.std.proofs.Common.{◌≡◌, ℕ, suc, ◌+◌, List, length, ap, sym, subst, ◌∙◌, arith}
-use Rattle.shared_tree.specs.inside.Layers.{held, node_roots, IsLayer}
+use Rattle.shared_tree.specs.inside.Layers.{held, IsLayer}
 use Rattle.shared_tree.proofs.Climbs.{length_leaves, held_leaves, leaves_layer, whole_width, whole_left, width_left, level_more, last_of}
 use Rattle.shared_tree.proofs.layers.layered.Goals as goal
 
@@ -12,7 +12,6 @@ layers-init g c =
     record {
       upto = omega arith;
       layer = subst (λ (ns : List (ℕ × List _)). IsLayer 0 ns) (sym c.in_ok-nodes.ensures) (leaves_layer c.args.items.items);
-      roots = c.in_ok-roots.ensures ∙ ap (λ (ns : List (ℕ × List _)). node_roots g.T.Leaf.root_of ns) c.deref.ensures.value;
       all = ap (λ (ns : List (ℕ × List _)). held ns) c.in_ok-nodes.ensures ∙ held_leaves c.args.items.items;
       some = omega arith;
       few = omega arith;
@@ -42,7 +41,6 @@ layers-preserved g c =
     record {
       upto = omega arith;
       layer = subst (λ (d : ℕ). IsLayer d c.in_ok-nodes-2.nodes.items) next c.in_ok-nodes-2.ensures.layer;
-      roots = c.in_ok-nodes-2.ensures.roots;
       all = c.in_ok-nodes-2.ensures.held ∙ c.layers.invariant.all;
       some = omega arith;
       few = omega arith;

@@ -1,13 +1,12 @@
 -- The nodes so far are a layer over all items, and the steps those of the layers below.
 use Rattle.std.proofs.Common.{◌≡◌, ◌+◌, ◌-◌, ◌*◌, ◌<◌, ◌≤◌, ◌^◌, length}
-use Rattle.shared_tree.specs.inside.Layers.{held, node_roots, IsLayer}
+use Rattle.shared_tree.specs.inside.Layers.{held, IsLayer}
 use Rattle.shared_tree.proofs.layers.layered.Given as goal
 
 abbrev pub invariant-layers : goal.invariant-layers
 invariant-layers g l = record {
   upto : l.level ≤ l.depth;
   layer : IsLayer l.level l.nodes.items;
-  roots : l.roots.items ≡ node_roots g.T.Leaf.root_of l.nodes.items;
   all : held l.nodes.items ≡ l.fn.items.items;
   some : 0 < length l.nodes.items;
   few : length l.nodes.items ≤ length l.fn.items.items;
