@@ -11,12 +11,13 @@ use bc_words::NoMemory;
 use std::alloc::Global;
 use std::marker::Model;
 
-/// What is counted of one validator, in Gwei, and at which node; and whether its message changed since.
+/// What is counted of one validator, in Gwei, and at which node; and whether its message changed since. Fields lie in this order:
+/// in another one each would take half as much again, and all of them are gone through.
 #[derive(Clone, Copy)]
 pub(crate) struct Counted {
     pub(crate) node: u32,
-    pub(crate) balance: u64,
     pub(crate) changed: bool,
+    pub(crate) balance: u64,
 }
 
 /// What is counted of each validator, and of the boost, in Gwei; and for each node what is counted at it.

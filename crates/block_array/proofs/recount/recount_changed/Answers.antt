@@ -1,10 +1,9 @@
 use Rattle.std.proofs.Common.{◌≡◌, ℕ, ◌+◌, ◌<◌, List, length, take, get_or, set, sym, subst, ap, ◌∙◌, refl, arith}
 use Rattle.std.proofs.Math.ListN.{length-set}
 use Rattle.block_array.specs.declared.tally.Counted.{Counted}
-use Rattle.block_array.specs.inside.Counts.{Counts}
 use Rattle.block_array.specs.inside.Held.{due}
 use Rattle.block_array.specs.inside.Noted.{AreMade}
-use Rattle.block_array.proofs.Noting.{same_step, made_none, made_more, changed_below}
+use Rattle.block_array.proofs.Noting.{same_step, validators_are, made_none, made_more, changed_below}
 use Rattle.block_array.proofs.recount.recount_changed.Goals as goal
 
 pub loop-i-init : goal.loop-i-init
@@ -22,7 +21,7 @@ loop-i-preserved g c =
     let v : ℕ = get_or c.changed-changed.result.now c.loop-i.i 0 in
     let inside : c.loop-i.i < length c.args.inputs.now.array.changed_validators = (let t = c.loop-i-test.true in let l : length c.changed-changed.result.now ≡ length c.args.inputs.now.array.changed_validators = ap length changed in omega arith) in
     let below : get_or c.changed-changed.result.now c.loop-i.i 0 < length c.loop-i.tally.validators = (let b : get_or c.changed-changed.result.now c.loop-i.i 0 < length c.args.tally.now.validators = subst (λ xs. get_or xs c.loop-i.i 0 < length c.args.tally.now.validators) (sym changed) (changed_below c.args.inputs.now.array c.args.tally.now c.requires c.loop-i.i inside) in let l = c.loop-i.invariant.length_is in omega arith) in
-    let vs : c.recount_one.new.tally.validators ≡ set c.loop-i.tally.validators (get_or c.changed-changed.result.now c.loop-i.i 0) (due c.args.inputs.now.array (get_or c.changed-changed.result.now c.loop-i.i 0)) = ap (λ (x : Counts). x.validators) c.recount_one.ensures.counted in
+    let vs : c.recount_one.new.tally.validators ≡ set c.loop-i.tally.validators (get_or c.changed-changed.result.now c.loop-i.i 0) (due c.args.inputs.now.array (get_or c.changed-changed.result.now c.loop-i.i 0)) = validators_are c.loop-i.tally c.recount_one.new.tally _ c.recount_one.ensures.counted in
     record {
       same = same_step c.args.tally.now c.loop-i.tally c.recount_one.new.tally _ c.loop-i.invariant.same c.recount_one.ensures.counted;
       length_is = ap length vs ∙ length-set c.loop-i.tally.validators _ _ ∙ c.loop-i.invariant.length_is;
