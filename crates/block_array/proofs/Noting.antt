@@ -1,5 +1,5 @@
 -- Changed messages, and what is counted anew.
-use Rattle.std.proofs.Common.{◌≡◌, ℕ, zero, suc, ◌+◌, ◌<◌, ◌≤◌, ◌⊎◌, inl, inr, Bool, true, false, cond, if◌then◌else◌, ◌||◌, eqb, List, [], ◌∷◌, ◌++◌, length, max, take, get_or, set, length-append, Option, Some, None, is_some, refl, sym, ap, ◌∙◌, arith}
+use Rattle.std.proofs.Common.{◌≡◌, ℕ, zero, suc, ◌+◌, ◌*◌, nat_lt, ◌<◌, ◌≤◌, ◌⊎◌, inl, inr, Bool, true, false, cond, if◌then◌else◌, ◌||◌, eqb, List, [], ◌∷◌, ◌++◌, length, max, take, get_or, set, length-append, Option, Some, None, is_some, refl, sym, ap, ◌∙◌, arith}
 use Rattle.std.specs.List.{list_any, count_by}
 use Rattle.std.specs.Option.{option_map_or}
 use Rattle.std.proofs.Math.ListN.{length-set}
@@ -15,7 +15,7 @@ use Rattle.block_array.specs.Work.{deltas_of}
 use Rattle.block_array.specs.inside.Counts.{counted_of, Counts, nothing}
 use Rattle.block_array.specs.inside.Held.{due, boost_due}
 use Rattle.block_array.specs.inside.Ranks.{IsCounted}
-use Rattle.block_array.specs.inside.Noted.{count_changed, marked, IsNoted, AreMade, AreDue, has_delta, deltas_below}
+use Rattle.block_array.specs.inside.Noted.{count_changed, marked, IsNoted, AreMade, AreDue, has_delta, deltas_below, goes_in_order}
 
 module _ (validators : List Counted) (v k : ℕ) (c : Counted) where
   pub counted_same : v < length validators → k ≡ v → counted_of (set validators v c) k ≡ c
@@ -97,6 +97,19 @@ changed_below array counts noted i inside = by (cases_lt v (length counts.valida
         absurd (let e : true ≡ false = sym (noted.listed v ∙ listed_at array.changed_validators i inside) ∙ ap (λ (c : Counted). c.changed) (counted_past counts.validators v past) in cc)
 
 pub ruleset changing = (made_none, made_more, changed_below)
+
+-- where not all are gone through, balances weren't set
+pub not_set : (array : PlainArray) (validators : List Counted) → goes_in_order array validators ≡ false → array.balances_set ≡ false
+unfolding goes_in_order
+not_set array validators e = by array.balances_set (nat_lt (length validators) (32 * length array.changed_validators)) e
+  where
+    by : (b few : Bool) → (b || few) ≡ false → b ≡ false
+    by true few e = absurd cc
+    by false few e = refl
+
+pub changed_deltas : (array : PlainArray) → array.balances_set ≡ false → deltas_of array ≡ length array.changed_validators
+unfolding deltas_of
+changed_deltas array kept = ap (λ b. cond b (count_by is_some array.latest_messages) (length array.changed_validators)) kept
 
 -- ---- one validator after another
 
@@ -189,7 +202,7 @@ all_counted array before after noted nodes len dues boost = record {
 
 pub ruleset in_order = (deltas_none, deltas_all, due_first, due_more)
 
-pub ruleset recounting = (due_changed, all_counted)
+pub ruleset recounting = (not_set, all_counted)
 
 -- ---- places for more validators
 

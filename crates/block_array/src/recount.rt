@@ -3,11 +3,11 @@
 //! Messages and balances come from the inputs. A delta takes what was counted of a validator off its old node, and counts its
 //! balance at the new one.
 
-ghost use Rattle.std.specs.Prelude.{◌≡◌, ℕ, ◌+◌, ◌*◌, ◌<◌, ◌≤◌, false, length, nat_lt, slice_set, if◌then◌else◌};
+ghost use Rattle.std.specs.Prelude.{◌≡◌, ℕ, ◌+◌, ◌<◌, ◌≤◌, false, true, length, slice_set, if◌then◌else◌};
 ghost use Rattle.block_array.specs.Work.{deltas_of};
 ghost use Rattle.block_array.specs.inside.Counts.{counted_of};
 ghost use Rattle.block_array.specs.inside.Held.{due, boost_due};
-ghost use Rattle.block_array.specs.inside.Noted.{IsNoted, AreMade, AreDue, has_delta};
+ghost use Rattle.block_array.specs.inside.Noted.{IsNoted, AreDue, has_delta, goes_in_order};
 ghost use Rattle.block_array.specs.inside.Ranks.{IsCounted};
 
 use crate::inputs::Inputs;
@@ -38,11 +38,12 @@ fn recount_one<L: Ledger>(inputs: &Inputs, tally: &mut Tally, validator: u64, st
 /// Counts what is due of each validator whose message changed. A delta of each.
 #[tactic(auto, using(crate::proofs::Noting::changing))]
 fn recount_changed<L: Ledger>(inputs: &Inputs, tally: &mut Tally, steps: &mut Steps<L>)
-    requires { IsNoted inputs.now.array tally.old }
+    requires noted { IsNoted inputs.now.array tally.old }
+    requires kept { inputs.now.array.balances_set ≡ false }
     ensures same { tally.new ≡ record tally.old { validators = tally.new.validators } }
     ensures length_is { length tally.new.validators ≡ length tally.old.validators }
-    ensures made { AreMade inputs.now.array tally.old.validators tally.new.validators inputs.now.array.changed_validators }
-    ensures steps { steps.new ≡ steps.old + length inputs.now.array.changed_validators }
+    ensures made { AreDue inputs.now.array tally.new.validators (length tally.new.validators) }
+    ensures steps { steps.new ≡ steps.old + deltas_of inputs.now.array }
 {
     let changed = inputs.changed();
     for i in 0..changed.len() {
@@ -51,7 +52,6 @@ fn recount_changed<L: Ledger>(inputs: &Inputs, tally: &mut Tally, steps: &mut St
 }
 
 /// Whether a validator has a delta: where balances were set, if it has a message, and else if that changed.
-#[tactic(auto, unfolding(crate::specs::inside::Noted::has_delta))]
 fn has_delta(inputs: &Inputs, tally: &Tally, validator: usize) -> bool
     requires { validator < length tally.now.validators }
     ensures { result ≡ has_delta inputs.now.array tally.now.validators validator }
@@ -87,7 +87,7 @@ fn recount_if_due<L: Ledger>(
 #[tactic(auto, using(crate::proofs::Noting::in_order))]
 fn recount_in_order<L: Ledger>(inputs: &Inputs, tally: &mut Tally, steps: &mut Steps<L>)
     requires noted { IsNoted inputs.now.array tally.old }
-    requires many { inputs.now.array.balances_set ≡ false → length tally.old.validators < 32 * length inputs.now.array.changed_validators }
+    requires worth { goes_in_order inputs.now.array tally.old.validators ≡ true }
     ensures same { tally.new ≡ record tally.old { validators = tally.new.validators } }
     ensures length_is { length tally.new.validators ≡ length tally.old.validators }
     ensures made { AreDue inputs.now.array tally.new.validators (length tally.new.validators) }
@@ -98,12 +98,14 @@ fn recount_in_order<L: Ledger>(inputs: &Inputs, tally: &mut Tally, steps: &mut S
     }
 }
 
-/// Whether so many messages changed, one in thirty-two, that it is faster to go through all validators in their order than through
-/// the changed ones in the order in which their votes came, where each may be far from the one before it.
-fn are_many_changed(inputs: &Inputs, tally: &Tally) -> bool
-    ensures { result ≡ nat_lt (length tally.now.validators) (32 * length inputs.now.array.changed_validators) }
+/// Whether all validators are gone through in their order: where balances were set; or where so many messages changed, one in
+/// thirty-two, that this is faster than to go through the changed ones in the order in which their votes came, where each may be
+/// far from the one before it.
+#[tactic(auto, unfolding(crate::specs::inside::Noted::goes_in_order))]
+fn goes_in_order(inputs: &Inputs, tally: &Tally) -> bool
+    ensures { result ≡ goes_in_order inputs.now.array tally.now.validators }
 {
-    tally.validators() / MARKS_A_DELTA < inputs.changed().len()
+    inputs.balances_set() || tally.validators() / MARKS_A_DELTA < inputs.changed().len()
 }
 
 /// Counts the boost that is due.
@@ -120,14 +122,14 @@ fn recount_boost(inputs: &Inputs, tally: &mut Tally)
 }
 
 /// Counts what is due of whatever changed.
-#[tactic(auto, unfolding(crate::specs::Work::deltas_of), using(crate::proofs::Noting::recounting))]
+#[tactic(auto, using(crate::proofs::Noting::recounting))]
 pub(crate) fn recount<L: Ledger>(inputs: &Inputs, tally: &mut Tally, steps: &mut Steps<L>)
     requires { IsNoted inputs.now.array tally.old }
     ensures counted { IsCounted inputs.now.array tally.new }
     ensures room { tally.new ≡ record tally.old { validators = tally.new.validators; boost = tally.new.boost } }
     ensures steps { steps.new ≡ steps.old + deltas_of inputs.now.array }
 {
-    if inputs.balances_set() || are_many_changed(inputs, tally) {
+    if goes_in_order(inputs, tally) {
         recount_in_order(inputs, tally, steps);
     } else {
         recount_changed(inputs, tally, steps);
