@@ -1,5 +1,5 @@
-//! Fork choice's array of nodes: weights and the head of 262,144 validators over 1,024 nodes, where all votes moved, against
-//! passes over the votes, and where none did.
+//! Fork choice's array of nodes: weights and the head of 262,144 validators over 1,024 nodes, where all votes moved, in order of
+//! validators and in a scattered order, against passes over the votes; and where none did.
 
 ghost use Rattle.std.specs.Prelude.{◌≡◌, ◌+◌, ◌*◌, ◌<◌, ◌≤◌, ◌^◌, [], false, length, IfOk, OnOk};
 ghost use Rattle.block_array.specs.PlainArray.{slot_at};
@@ -25,6 +25,24 @@ const BALANCE: u64 = 32_000_000_000;
 
 /// How often all votes move.
 const ROUNDS: u64 = 20;
+
+/// Rounds of votes that come one after the other.
+#[derive(Clone, Copy)]
+struct Arrival {
+    /// The epoch of the first round's votes.
+    epoch: u64,
+    /// How far apart the validators of a vote and of the next one are. Where it is odd, each validator's vote comes once.
+    apart: usize,
+}
+
+/// Votes in order of validators.
+const IN_ORDER: Arrival = Arrival { epoch: 1, apart: 1 };
+
+/// Later ones in an order in which each is far from the one before.
+const SCATTERED: Arrival = Arrival {
+    epoch: 1 + ROUNDS,
+    apart: 101_273,
+};
 
 /// What the parts of all rounds took.
 #[derive(Drop)]
@@ -98,12 +116,13 @@ fn vote(array: &mut BlockArray, validator: usize, message: Message) -> Result<()
     array.vote(validator as u64, message.node, message.epoch)
 }
 
-/// Moves the votes of all validators in order.
-fn vote_all(array: &mut BlockArray, votes: &[Message]) -> Result<(), NoMemory>
+/// Moves the votes of all validators, one behind the other's so far on.
+fn vote_all(array: &mut BlockArray, votes: &[Message], apart: usize) -> Result<(), NoMemory>
     requires nodes { length array.old.nodes ≡ 1024 }
     ensures nodes { length array.new.nodes ≡ 1024 }
 {
-    for validator in 0..votes.len() {
+    for place in 0..votes.len() {
+        let validator = place.wrapping_mul(apart) % votes.len();
         vote(array, validator, votes[validator])?;
     }
     Ok(())
@@ -184,13 +203,14 @@ fn time_round<L: Ledger>(
     rt: &impl CpuClock,
     array: &mut BlockArray,
     votes: &[Message],
+    apart: usize,
     steps: &mut Steps<L>,
     times: &mut Times,
 ) -> Result<()>
     requires nodes { length array.old.nodes ≡ 1024 }
     ensures nodes { length array.new.nodes ≡ 1024 }
 {
-    vote_all(array, votes)?;
+    vote_all(array, votes, apart)?;
     let moved = time_moved(rt, array, steps)?;
     let unmoved = time_unmoved(rt, array, steps)?;
     times.moved = times.moved.saturating_add(moved);
@@ -204,9 +224,11 @@ fn time_rounds<L: Ledger>(
     array: &mut BlockArray,
     balances: &[u64],
     weights: &mut [u128],
+    arrival: Arrival,
     steps: &mut Steps<L>,
 ) -> Result<Times>
     requires nodes { length array.old.nodes ≡ 1024 }
+    ensures nodes { length array.new.nodes ≡ 1024 }
 {
     let mut times = Times {
         moved: Duration::ZERO,
@@ -214,8 +236,8 @@ fn time_rounds<L: Ledger>(
         passes: Duration::ZERO,
     };
     for round in 0..ROUNDS {
-        let votes = votes_of(rt.alloc(), round + 1)?;
-        time_round(rt, array, &votes, steps, &mut times)?;
+        let votes = votes_of(rt.alloc(), arrival.epoch.wrapping_add(round))?;
+        time_round(rt, array, &votes, arrival.apart, steps, &mut times)?;
         let passed = time_pass(rt, &votes, balances, weights)?;
         times.passes = times.passes.saturating_add(passed);
     }
@@ -223,20 +245,37 @@ fn time_rounds<L: Ledger>(
 }
 
 /// Prints what was timed.
-fn tell(rt: &impl Print, times: Times, joined: u128) -> Result<()> {
+fn tell(rt: &impl Print, order: &str, times: Times, joined: u128) -> Result<()> {
     let unmoved = times.unmoved.as_micros();
     let ratio = Ratio {
         whole: times.moved,
         measure: times.passes,
     };
     println!(rt;
-        "weights and head of {VALIDATORS} validators over {NODES} nodes, {ROUNDS} times, all votes moved, against as many passes: {ratio} (joined {joined})"
+        "weights and head of {VALIDATORS} validators over {NODES} nodes, {ROUNDS} times, all votes moved {order}, against as many passes: {ratio} (joined {joined})"
     )?;
     println!(rt; "no vote moved: {unmoved} us")?;
     Ok(())
 }
 
-/// Times all rounds, and prints what they took.
+/// Times rounds, and prints what they took.
+fn measure_rounds<L: Ledger>(
+    rt: &(impl AllocGlobal + Print + CpuClock),
+    array: &mut BlockArray,
+    balances: &[u64],
+    order: &str,
+    arrival: Arrival,
+    steps: &mut Steps<L>,
+) -> Result<()>
+    requires nodes { length array.old.nodes ≡ 1024 }
+    ensures nodes { length array.new.nodes ≡ 1024 }
+{
+    let mut weights = vec![in rt.alloc(); 0u128; NODES as usize]?;
+    let times = time_rounds(rt, array, balances, &mut weights, arrival, steps)?;
+    tell(rt, order, times, weights.first().copied().unwrap_or(0))
+}
+
+/// Times the rounds in each order.
 fn measure_on<L: Ledger>(
     rt: &(impl AllocGlobal + Print + CpuClock),
     array: &mut BlockArray,
@@ -245,12 +284,13 @@ fn measure_on<L: Ledger>(
     requires nodes { length array.old.nodes ≡ 1024 }
 {
     let balances = vec![in rt.alloc(); BALANCE; VALIDATORS]?;
-    let mut weights = vec![in rt.alloc(); 0u128; NODES as usize]?;
     let total = u128::from(BALANCE) * VALIDATORS as u128;
     array.set_balances(balances.clone()?, VALIDATORS as u64, total);
     array.apply(steps);
-    let times = time_rounds(rt, array, &balances, &mut weights, steps)?;
-    tell(rt, times, weights.first().copied().unwrap_or(0))
+    let order = "in order of validators";
+    measure_rounds(rt, array, &balances, order, IN_ORDER, steps)?;
+    let order = "in a scattered order";
+    measure_rounds(rt, array, &balances, order, SCATTERED, steps)
 }
 
 /// Makes the array, and measures on it.

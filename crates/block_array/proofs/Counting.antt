@@ -168,14 +168,6 @@ module _ (own : List ℕ) (boost : Counted) (validators : List Counted) (tally :
       let x : get_or own number 0 ≡ counted_at (at number) (boost ∷ validators) = tally.exact number inside in
       omega arith
 
-  pub tally_node_if : (b : Bool) → IsTally (cond b (own ++ 0 ∷ []) own) boost validators
-  tally_node_if true = tally_node
-  tally_node_if false = tally
-
-  pub tally_validator_if : (b : Bool) → length validators < 2 ^ 40 → IsTally own boost (cond b (validators ++ nothing ∷ []) validators)
-  tally_validator_if true more = tally_validator more
-  tally_validator_if false more = tally
-
   module _ (k : ℕ) (old : Counted) (inside : k < length validators) (is : old ≡ get_or validators k old) where
     pub old_below : old.node < length own
     old_below = subst (λ (o : Counted). o.node < length own) (sym is) (All-get_or (IsBelow (length own)) validators k old inside tally.below)
@@ -290,7 +282,7 @@ pub ruleset bounding = (all_below, all_low)
 
 pub ruleset beginning = (begun)
 
-pub ruleset adding = (tally_node_if, tally_validator_if)
+pub ruleset adding = (tally_node, tally_validator)
 
 pub ruleset marking = (tally_marked)
 

@@ -1,5 +1,5 @@
 -- What is told stays well formed.
-use Rattle.std.proofs.Common.{◌≡◌, ℕ, zero, suc, ◌+◌, ◌<◌, ◌≤◌, ◌^◌, ◌-◌, ◌⊎◌, inl, inr, Bool, true, false, cond, List, [], ◌∷◌, ◌++◌, length, Option, Some, None, IfSome, get_or, slice_get, refl, sym, ap, ◌∙◌, subst, arith, length-append}
+use Rattle.std.proofs.Common.{◌≡◌, ℕ, zero, suc, ◌+◌, ◌<◌, ◌≤◌, ◌^◌, ◌-◌, ◌⊎◌, inl, inr, true, false, List, [], ◌∷◌, ◌++◌, length, Option, Some, None, IfSome, get_or, slice_get, refl, sym, ap, ◌∙◌, subst, arith, length-append}
 use Rattle.std.specs.Option.{option_and_then, option_map_or}
 use Rattle.std.proofs.lemmas.Bool.{cases_order}
 use Rattle.block_array.specs.declared.facts.Facts.{Facts}
@@ -159,12 +159,8 @@ module _ (held : Held) (h : IsHeld held) where
       put_below : (k : ℕ) (x : Message) → get_or (with_message held.array.latest_messages v message) k None ≡ Some x → x.node < length held.array.nodes
       put_below k x e = below k x (message_put held.array.latest_messages v message k x e)
 
-  pub kept_node : (node : Node) (parent room spare : ℕ) (b : Bool) (nodes : List Node) → nodes ≡ cond b (held.array.nodes ++ node ∷ []) held.array.nodes → spare ≡ held.array.spare_nodes - 1 → held.node_room ≤ room → length held.array.nodes < held.node_room → length held.array.nodes < 2 ^ 32 - 1 → node.parent ≡ Some parent → parent < length held.array.nodes → slot_at held.array.nodes parent < node.slot → IsHeld (record held { array = record held.array { nodes = nodes; anything_changed = true; spare_nodes = spare }; node_room = room })
-  kept_node node parent room spare false nodes is less more inside few first below later =
-      let a = h.nodes in
-      subst (λ (ns : List Node). IsHeld (record held { array = record held.array { nodes = ns; anything_changed = true; spare_nodes = spare }; node_room = room })) (sym is)
-      (record { plain = record { slots = h.plain.slots; percent = h.plain.percent; total = h.plain.total; few_balances = h.plain.few_balances; tree = h.plain.tree; some = h.plain.some; few_nodes = h.plain.few_nodes; justified = h.plain.justified; boosted = h.plain.boosted; messages = h.plain.messages; few_messages = h.plain.few_messages; few_spare = h.plain.few_spare }; nodes = omega arith; messages = h.messages; changed = h.changed; all_changed = h.all_changed })
-  kept_node node parent room spare true nodes is less more inside few first below later =
+  pub kept_node : (node : Node) (parent room spare : ℕ) (nodes : List Node) → nodes ≡ held.array.nodes ++ node ∷ [] → spare ≡ held.array.spare_nodes - 1 → held.node_room ≤ room → length held.array.nodes < held.node_room → length held.array.nodes < 2 ^ 32 - 1 → node.parent ≡ Some parent → parent < length held.array.nodes → slot_at held.array.nodes parent < node.slot → IsHeld (record held { array = record held.array { nodes = nodes; anything_changed = true; spare_nodes = spare }; node_room = room })
+  kept_node node parent room spare nodes is less more inside few first below later =
       let a = h.nodes in
       let l : length (held.array.nodes ++ node ∷ []) ≡ length held.array.nodes + 1 = length-append held.array.nodes (node ∷ []) in
       subst (λ (ns : List Node). IsHeld (record held { array = record held.array { nodes = ns; anything_changed = true; spare_nodes = spare }; node_room = room })) (sym is)

@@ -23,5 +23,3 @@ unfolding with_message
 in_place [] i message h = absurd (omega arith)
 in_place (m ∷ messages) zero message h = refl
 in_place (m ∷ messages) (suc i) message h = ap (λ ms. m ∷ ms) (in_place messages i message (omega arith))
-
-pub ruleset putting = (empty_place, at_end, in_place)

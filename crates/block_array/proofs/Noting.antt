@@ -1,20 +1,21 @@
 -- Changed messages, and what is counted anew.
-use Rattle.std.proofs.Common.{◌≡◌, ℕ, zero, suc, ◌+◌, ◌<◌, ◌≤◌, ◌⊎◌, inl, inr, Bool, true, false, cond, ◌||◌, eqb, List, [], ◌∷◌, ◌++◌, length, max, take, get_or, set, length-append, Option, Some, None, is_some, refl, sym, ap, ◌∙◌, arith}
+use Rattle.std.proofs.Common.{◌≡◌, ℕ, zero, suc, ◌+◌, ◌*◌, nat_lt, ◌<◌, ◌≤◌, ◌⊎◌, inl, inr, Bool, true, false, cond, if◌then◌else◌, ◌||◌, eqb, List, [], ◌∷◌, ◌++◌, length, max, take, get_or, set, length-append, Option, Some, None, is_some, refl, sym, ap, ◌∙◌, arith}
 use Rattle.std.specs.List.{list_any, count_by}
 use Rattle.std.specs.Option.{option_map_or}
 use Rattle.std.proofs.Math.ListN.{length-set}
 use Rattle.std.proofs.lemmas.Bool.{cases_eq, cases_lt, cases_Bool, eq-eqb, ne_eqb}
-use Rattle.std.proofs.lemmas.List.{get_or-set_same, get_or-set_other, get_or_past, set-get_or}
-use Rattle.std.proofs.lemmas.List.Sums.{count_by_more_yes, count_by_more_no, sum_by-cons, sum_by_push, sum_by-set, count_by-le-length}
+use Rattle.std.proofs.lemmas.List.{get_or-set_same, get_or-set_other, get_or_past, set-get_or, take_all}
+use Rattle.std.proofs.lemmas.List.Sums.{sum_by_more, sum_by-cons, sum_by_push, sum_by-set, count_by-le-length}
 use Rattle.std.proofs.lemmas.List.Folds.{list_any_more, list_any-append}
 use Rattle.block_array.specs.declared.node.Message.{Message}
 use Rattle.block_array.specs.declared.tally.Counted.{Counted}
 use Rattle.block_array.specs.PlainArray.{PlainArray, message_of, balance_of}
 use Rattle.block_array.specs.UpdateLatestMessages.{with_message, is_listed, with_changed}
+use Rattle.block_array.specs.Work.{deltas_of}
 use Rattle.block_array.specs.inside.Counts.{counted_of, Counts, nothing}
 use Rattle.block_array.specs.inside.Held.{due, boost_due}
 use Rattle.block_array.specs.inside.Ranks.{IsCounted}
-use Rattle.block_array.specs.inside.Noted.{count_changed, marked, IsNoted, AreMade, AreDue}
+use Rattle.block_array.specs.inside.Noted.{count_changed, marked, IsNoted, AreMade, AreDue, has_delta, deltas_below, goes_in_order}
 
 module _ (validators : List Counted) (v k : ℕ) (c : Counted) where
   pub counted_same : v < length validators → k ≡ v → counted_of (set validators v c) k ≡ c
@@ -35,6 +36,10 @@ same_step a b d validators e f = f ∙ ap (λ (x : Counts). record x { validator
 
 pub pad_step : (a b d : Counts) (validators : List Counted) → b ≡ record a { validators = b.validators; validator_room = b.validator_room } → d ≡ record b { validators = validators; validator_room = d.validator_room } → d ≡ record a { validators = d.validators; validator_room = d.validator_room }
 pad_step a b d validators e f = f ∙ ap (λ (x : Counts). record x { validators = validators; validator_room = d.validator_room }) e ∙ ap (λ ws. record a { validators = ws; validator_room = d.validator_room }) (sym (ap (λ (x : Counts). x.validators) f))
+
+-- what they are then
+pub validators_are : (a b : Counts) (validators : List Counted) → b ≡ record a { validators = validators } → b.validators ≡ validators
+validators_are a b validators e = ap (λ (c : Counts). c.validators) e
 
 -- ---- one changed validator after another
 
@@ -93,31 +98,76 @@ changed_below array counts noted i inside = by (cases_lt v (length counts.valida
 
 pub ruleset changing = (made_none, made_more, changed_below)
 
+-- where not all are gone through, balances weren't set
+pub not_set : (array : PlainArray) (validators : List Counted) → goes_in_order array validators ≡ false → array.balances_set ≡ false
+unfolding goes_in_order
+not_set array validators e = by array.balances_set (nat_lt (length validators) (32 * length array.changed_validators)) e
+  where
+    by : (b few : Bool) → (b || few) ≡ false → b ≡ false
+    by true few e = absurd cc
+    by false few e = refl
+
+pub changed_deltas : (array : PlainArray) → array.balances_set ≡ false → deltas_of array ≡ length array.changed_validators
+unfolding deltas_of
+changed_deltas array kept = ap (λ b. cond b (count_by is_some array.latest_messages) (length array.changed_validators)) kept
+
 -- ---- one validator after another
 
 pub due_none : (array : PlainArray) (v : ℕ) → message_of array v ≡ None → due array v ≡ nothing
 unfolding due
 due_none array v e = ap (λ o. option_map_or (λ message. record { node = message.node; balance = balance_of array v; changed = false }) o nothing) e
 
-pub set_idle : (array : PlainArray) (validators : List Counted) (v : ℕ) → message_of array v ≡ None → counted_of validators v ≡ nothing → set validators v (due array v) ≡ validators
+pub set_idle : (array : PlainArray) (validators : List Counted) (v : ℕ) → counted_of validators v ≡ due array v → set validators v (due array v) ≡ validators
 unfolding counted_of
-set_idle array validators v none idle = ap (set validators v) (due_none array v none ∙ sym idle) ∙ set-get_or validators v nothing
+set_idle array validators v current = ap (set validators v) (sym current) ∙ set-get_or validators v nothing
 
 pub ruleset idling = (set_idle)
 
-pub counts_more : (array : PlainArray) (i : ℕ) → i < length array.latest_messages → count_by is_some (take (i + 1) array.latest_messages) ≡ count_by is_some (take i array.latest_messages) + cond (is_some (message_of array i)) 1 0
-unfolding message_of
-counts_more array i inside = by (get_or array.latest_messages i None) refl
+-- a validator without a delta is counted as is due
+pub idle_due : (array : PlainArray) (counts : Counts) → IsNoted array counts → (v : ℕ) → has_delta array counts.validators v ≡ false → counted_of counts.validators v ≡ due array v
+unfolding has_delta
+idle_due array counts noted v idle = by array.balances_set refl
   where
-    by : (o : Option Message) → get_or array.latest_messages i None ≡ o → count_by is_some (take (i + 1) array.latest_messages) ≡ count_by is_some (take i array.latest_messages) + cond (is_some (get_or array.latest_messages i None)) 1 0
-    by None e =
-        let c : cond (is_some (get_or array.latest_messages i None)) 1 0 ≡ (let z : ℕ = 0 in z) = ap (λ o. cond (is_some o) 1 0) e in
-        let m : count_by is_some (take (i + 1) array.latest_messages) ≡ count_by is_some (take i array.latest_messages) = count_by_more_no is_some array.latest_messages i None inside (ap is_some e) in
-        omega arith
-    by (Some x) e =
-        let c : cond (is_some (get_or array.latest_messages i None)) 1 0 ≡ (let z : ℕ = 1 in z) = ap (λ o. cond (is_some o) 1 0) e in
-        let m : count_by is_some (take (i + 1) array.latest_messages) ≡ count_by is_some (take i array.latest_messages) + 1 = count_by_more_yes is_some array.latest_messages i None inside (ap is_some e) in
-        omega arith
+    none_of : (o : Option Message) → is_some o ≡ false → o ≡ None
+    none_of None e = refl
+    none_of (Some message) e = absurd cc
+
+    test : (b : Bool) → array.balances_set ≡ b → cond b (is_some (message_of array v)) (counted_of counts.validators v).changed ≡ false
+    test b e = sym (ap (λ b. cond b (is_some (message_of array v)) (counted_of counts.validators v).changed) e) ∙ idle
+
+    by : (b : Bool) → array.balances_set ≡ b → counted_of counts.validators v ≡ due array v
+    by true e = let m : message_of array v ≡ None = none_of (message_of array v) (test true e) in noted.idle v m ∙ sym (due_none array v m)
+    by false e = noted.current e v (test false e)
+
+pub delta_same : (array : PlainArray) (validators others : List Counted) (v : ℕ) → counted_of validators v ≡ counted_of others v → has_delta array validators v ≡ has_delta array others v
+unfolding has_delta
+delta_same array validators others v e = ap (λ (c : Counted). cond array.balances_set (is_some (message_of array v)) c.changed) e
+
+pub deltas_more : (array : PlainArray) (after before : List Counted) (i : ℕ) → counted_of after i ≡ counted_of before i → i < length before → length before ≡ length array.latest_messages → deltas_below array before (i + 1) ≡ deltas_below array before i + (if has_delta array after i then 1 else 0)
+unfolding deltas_below has_delta message_of counted_of count_changed
+deltas_more array after before i same inside len = by array.balances_set ∙ ap (λ b. deltas_below array before i + (if b then 1 else 0)) (sym (delta_same array after before i same))
+  where
+    by : (b : Bool)
+        → cond b (count_by is_some (take (i + 1) array.latest_messages)) (count_changed (take (i + 1) before))
+        ≡ cond b (count_by is_some (take i array.latest_messages)) (count_changed (take i before)) + cond (cond b (is_some (get_or array.latest_messages i None)) (get_or before i nothing).changed) 1 0
+    by true = sum_by_more (λ (o : Option Message). cond (is_some o) 1 0) array.latest_messages i None (omega arith)
+    by false = sum_by_more (λ (c : Counted). cond c.changed 1 0) before i nothing inside
+
+pub deltas_none : (array : PlainArray) (validators : List Counted) (i : ℕ) → i ≡ 0 → deltas_below array validators i ≡ 0
+unfolding deltas_below count_changed
+deltas_none array validators i z = ap (λ n. cond array.balances_set (count_by is_some (take n array.latest_messages)) (count_changed (take n validators))) z ∙ by array.balances_set
+  where
+    by : (b : Bool) → cond b (count_by is_some (take 0 array.latest_messages)) (count_changed (take 0 validators)) ≡ 0
+    by true = refl
+    by false = refl
+
+pub deltas_all : (array : PlainArray) (counts : Counts) → IsNoted array counts → (n : ℕ) → length counts.validators ≤ n → deltas_below array counts.validators n ≡ deltas_of array
+unfolding deltas_below deltas_of
+deltas_all array counts noted n all = by array.balances_set
+  where
+    by : (b : Bool) → cond b (count_by is_some (take n array.latest_messages)) (count_changed (take n counts.validators)) ≡ cond b (count_by is_some array.latest_messages) (length array.changed_validators)
+    by true = ap (count_by is_some) (take_all n array.latest_messages (let l = noted.length_is in omega arith))
+    by false = ap count_changed (take_all n counts.validators all) ∙ noted.many
 
 pub due_first : (array : PlainArray) (validators : List Counted) (n : ℕ) → n ≡ 0 → AreDue array validators n
 unfolding AreDue
@@ -150,9 +200,9 @@ all_counted array before after noted nodes len dues boost = record {
   boost = boost;
 }
 
-pub ruleset all_counting = (counts_more, due_first, due_more)
+pub ruleset in_order = (deltas_none, deltas_all, due_first, due_more)
 
-pub ruleset recounting = (due_changed, all_counted)
+pub ruleset recounting = (not_set, all_counted)
 
 -- ---- places for more validators
 

@@ -1,5 +1,5 @@
 -- The array stays whole.
-use Rattle.std.proofs.Common.{◌≡◌, ℕ, zero, suc, ◌+◌, ◌<◌, ◌≤◌, ◌⊎◌, inl, inr, Bool, true, false, cond, List, [], ◌∷◌, ◌++◌, length, get_or, Option, Some, None, Result, Ok, Err, OnErr, is_ok, refl, sym, ap, ◌∙◌, subst, arith, length-append}
+use Rattle.std.proofs.Common.{◌≡◌, ℕ, zero, suc, ◌+◌, ◌<◌, ◌≤◌, ◌⊎◌, inl, inr, Bool, true, false, cond, List, [], ◌∷◌, ◌++◌, length, get_or, Option, Some, None, refl, sym, ap, ◌∙◌, subst, arith, length-append}
 use Rattle.std.specs.Option.{option_map_or}
 use Rattle.std.proofs.lemmas.Bool.{cases_lt}
 use Rattle.std.proofs.lemmas.List.{get_or_past}
@@ -182,11 +182,11 @@ kept_spare array counts ranks rank_room nodes validators a t r v = record {
 
 -- ---- a node more
 
-pub kept_node : (array : PlainArray) (counts after : Counts) (ranks ranks₁ : List Rank) (rank_room rank_room₁ : ℕ) (told : PlainArray) (parent slot : ℕ) (root : List ℕ) (facts : Facts) (rank : Rank) (b : Bool) → IsArray array counts ranks rank_room
-    → told ≡ with_node array parent slot root facts → after ≡ record counts { nodes = counts.nodes + 1; node_room = after.node_room } → ranks₁ ≡ cond b (ranks ++ rank ∷ []) ranks → b ≡ true
+pub kept_node : (array : PlainArray) (counts after : Counts) (ranks ranks₁ : List Rank) (rank_room rank_room₁ : ℕ) (told : PlainArray) (parent slot : ℕ) (root : List ℕ) (facts : Facts) (rank : Rank) → IsArray array counts ranks rank_room
+    → told ≡ with_node array parent slot root facts → after ≡ record counts { nodes = counts.nodes + 1; node_room = after.node_room } → ranks₁ ≡ ranks ++ rank ∷ []
     → counts.node_room ≤ after.node_room → length array.nodes + 1 ≤ after.node_room → rank_room ≤ rank_room₁ → length array.nodes + 1 ≤ rank_room₁ → IsArray told after ranks₁ rank_room₁
 unfolding message_of balance_of due
-kept_node array counts after ranks ranks₁ rank_room rank_room₁ told parent slot root facts rank b a is tally more ok nodes node room rank_in =
+kept_node array counts after ranks ranks₁ rank_room rank_room₁ told parent slot root facts rank a is tally more nodes node room rank_in =
     let vr : after.validator_room ≡ counts.validator_room = ap (λ (c : Counts). c.validator_room) tally in
     let t = a.tally_nodes in let v = a.tally_validators in let r = a.rank_nodes in
     let node₁ : Node = record { parent = Some parent; slot = slot; root = root; facts = facts } in
@@ -197,7 +197,7 @@ kept_node array counts after ranks ranks₁ rank_room rank_room₁ told parent s
     subst (λ (t : PlainArray). IsArray t after ranks₁ rank_room₁) (sym is)
     (record {
       noted = subst (λ (c : Counts). IsNoted (with_node array parent slot root facts) c) (sym tally) (record { nodes = omega arith; length_is = a.noted.length_is; listed = a.noted.listed; many = a.noted.many; idle = a.noted.idle; current = a.noted.current });
-      length_is = ap length (more ∙ ap (λ x. cond x (ranks ++ rank ∷ []) ranks) ok) ∙ (let e : length (ranks ++ rank ∷ []) ≡ length (array.nodes ++ node₁ ∷ []) = omega arith in e);
+      length_is = ap length more ∙ (let e : length (ranks ++ rank ∷ []) ≡ length (array.nodes ++ node₁ ∷ []) = omega arith in e);
       unchanged = λ e. absurd cc;
       tally_nodes = omega arith;
       rank_nodes = omega arith;
@@ -291,9 +291,3 @@ module _ (array : PlainArray) (ranks : List Rank) (m : IsMade array ranks) where
   pub head_made : array.justified_node < length array.nodes → (rank_at ranks array.justified_node).descendant ≡ get_head array
   unfolding get_head IsHeadFrom
   head_made inside = sym (m.heads array.justified_node (omega arith) inside (length array.nodes) (omega arith))
-
--- ---- a push into room
-
-pub pushed_ok : {A B : Type 0} (r : Result A B) (P : Type 0) → OnErr r P → (P → ⊥) → is_ok r ≡ true
-pushed_ok (Ok x) P h n = refl
-pushed_ok (Err e) P h n = absurd (n h)

@@ -16,9 +16,10 @@ ghost use Rattle.block_array.specs.Work.{steps_of};
 use crate::facts::Facts;
 use crate::get_ancestor::get_ancestor;
 use crate::inputs::Inputs;
+use crate::list::push_item;
 use crate::node::Message;
 use crate::note::note;
-use crate::rank::{Rank, rank_at};
+use crate::rank::{Rank, UNMADE, rank_at};
 use crate::recount::recount;
 use crate::room::{grow_nodes, grow_validators, room_for_node, room_for_vote};
 use crate::settle::settle;
@@ -67,15 +68,10 @@ impl BlockArray {
         requires percent { percent ≤ 10000 }
         ensures { IfOk result (λ array. array ≡ new_array slots_per_epoch percent slot root facts) }
     {
-        let inputs = Inputs::new(alloc, slots_per_epoch, percent, slot, root, facts)?;
-        let tally = Tally::new(alloc)?;
         let mut ranks = Vec::new(alloc);
-        ranks.push(Rank {
-            weight: 0,
-            has_child: false,
-            child: None,
-            descendant: 0,
-        })?;
+        ranks.push(UNMADE)?;
+        let tally = Tally::new(alloc)?;
+        let inputs = Inputs::new(alloc, slots_per_epoch, percent, slot, root, facts)?;
         Ok(BlockArray {
             inputs,
             tally,
@@ -115,12 +111,7 @@ impl BlockArray {
         let number = self.inputs.nodes().len() as u32;
         self.inputs.push(parent, slot, root, facts);
         self.tally.push_node();
-        let _room = self.ranks.push(Rank {
-            weight: 0,
-            has_child: false,
-            child: None,
-            descendant: 0,
-        });
+        push_item(&mut self.ranks, UNMADE);
         Ok(number)
     }
 

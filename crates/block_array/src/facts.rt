@@ -3,7 +3,7 @@
 use beacon_types::Checkpoint;
 
 /// The current justified and the finalized checkpoint of a state.
-#[derive(Clone, Copy, Debug, PartialEq, Eq)]
+#[derive(Clone, Copy)]
 pub struct Facts {
     /// The current justified checkpoint.
     pub justified: Checkpoint,

@@ -10,6 +10,7 @@ ghost use Rattle.block_array.specs.Calls.{new_array, with_node, with_balances, w
 ghost use Rattle.block_array.specs.inside.Held.{IsPlain};
 
 use crate::facts::Facts;
+use crate::list::{make_room, push_item};
 use crate::node::{Message, Node};
 use bc_words::NoMemory;
 use beacon_types::Checkpoint;
@@ -122,7 +123,6 @@ impl Inputs {
     }
 
     /// Whether a message of an epoch is news of a validator: it has none, or one of an earlier epoch.
-    #[tactic(auto, unfolding(crate::specs::UpdateLatestMessages::is_news))]
     pub(crate) fn is_news(&self, validator: u64, epoch: u64) -> bool
         ensures { result ≡ is_news self.now.array validator epoch }
     {
@@ -220,14 +220,13 @@ impl Inputs {
         self.spare_validators
     }
 
-    /// Makes room for so many nodes more.
-    pub(crate) fn reserve_nodes(&mut self, more: usize) -> Result<(), NoMemory>
+    /// Makes room for so many nodes in all.
+    pub(crate) fn reserve_nodes(&mut self, places: usize) -> Result<(), NoMemory>
         ensures same { self.new ≡ record self.old { node_room = self.new.node_room } }
         ensures more { self.old.node_room ≤ self.new.node_room }
-        ensures room { OnOk result (length self.old.array.nodes + more ≤ self.new.node_room) }
+        ensures room { OnOk result (places ≤ self.new.node_room) }
     {
-        self.nodes.reserve(more)?;
-        Ok(())
+        make_room(&mut self.nodes, places)
     }
 
     /// Makes room for so many validators in all.
@@ -239,8 +238,7 @@ impl Inputs {
         ensures changed_room { OnOk result (places ≤ self.new.changed_room) }
     {
         make_room(&mut self.messages, places)?;
-        make_room(&mut self.changed, places)?;
-        Ok(())
+        make_room(&mut self.changed, places)
     }
 
     /// Takes so much to be spare. There is room for it.
@@ -266,12 +264,13 @@ impl Inputs {
         ensures pushed { self.new ≡ record self.old { array = with_node self.old.array parent slot root facts; node_room = self.new.node_room } }
         ensures room { self.old.node_room ≤ self.new.node_room }
     {
-        let _room = self.nodes.push(Node {
+        let node = Node {
             parent: Some(parent),
             slot,
             root,
             facts,
-        });
+        };
+        push_item(&mut self.nodes, node);
         self.anything_changed = true;
         self.spare_nodes = self.spare_nodes.saturating_sub(1);
     }
@@ -297,7 +296,7 @@ impl Inputs {
         ensures noted { self.new ≡ record self.old { array = record self.old.array { changed_validators = self.old.array.changed_validators ++ validator ∷ [] }; changed_room = self.new.changed_room } }
         ensures room { self.old.changed_room ≤ self.new.changed_room }
     {
-        let _room = self.changed.push(validator);
+        push_item(&mut self.changed, validator);
     }
 
     /// Takes other balances.
@@ -366,32 +365,18 @@ fn committee_weight(active: u64, slots: u64, total: u128) -> u128
     u128::from(active / slots) * (total / u128::from(active))
 }
 
-/// Makes room for so many items in all.
-fn make_room<T: Drop>(items: &mut Vec<T>, places: usize) -> Result<(), NoMemory>
-    ensures same { items.new.items ≡ items.old.items }
-    ensures more { vec_capacity items.old ≤ vec_capacity items.new }
-    ensures room { OnOk result (places ≤ vec_capacity items.new) }
-{
-    let len = items.len();
-    if len < places {
-        items.reserve(places - len)?;
-    }
-    Ok(())
-}
-
 /// Puts a message into a validator's place, with empty places before it where there were none. There is room for it.
-#[tactic(auto, using(crate::proofs::Messages::putting))]
 fn put(items: &mut Vec<Option<Message>>, validator: usize, message: Message)
     requires { validator < vec_capacity items.old }
     ensures exact { items.new.items ≡ with_message items.old.items validator message }
     ensures room { vec_capacity items.old ≤ vec_capacity items.new }
 {
     for place in items.len()..validator {
-        let _room = items.push(None);
+        push_item(items, None);
     }
     if validator < items.len() {
         items[validator] = Some(message);
     } else {
-        let _room = items.push(Some(message));
+        push_item(items, Some(message));
     }
 }

@@ -9,6 +9,7 @@ mod block_array;
 mod facts;
 mod get_ancestor;
 mod inputs;
+mod list;
 mod node;
 mod note;
 mod rank;

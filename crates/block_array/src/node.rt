@@ -4,7 +4,7 @@ use crate::facts::Facts;
 use hash_tree::Root;
 
 /// A block: its parent's number, its slot, its root, and facts of the state behind it. The first one has no parent.
-#[derive(Clone, Copy, Debug, PartialEq, Eq)]
+#[derive(Clone, Copy)]
 pub struct Node {
     /// The number of the parent.
     pub parent: Option<u32>,
@@ -17,7 +17,7 @@ pub struct Node {
 }
 
 /// The last vote of a validator (fork-choice.md, "LatestMessage").
-#[derive(Clone, Copy, Debug, PartialEq, Eq)]
+#[derive(Clone, Copy)]
 pub struct Message {
     /// The epoch of its target.
     pub epoch: u64,

@@ -12,6 +12,14 @@ pub(crate) struct Rank {
     pub(crate) descendant: u32,
 }
 
+/// What a node is before anything is made of it.
+pub(crate) const UNMADE: Rank = Rank {
+    weight: 0,
+    has_child: false,
+    child: None,
+    descendant: 0,
+};
+
 /// What is made of a node.
 #[tactic(auto, unfolding(crate::specs::inside::Ranks::rank_at), using(crate::proofs::Ranks::ranking))]
 pub(crate) fn rank_at(ranks: &[Rank], number: usize) -> Rank

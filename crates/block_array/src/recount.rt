@@ -3,19 +3,21 @@
 //! Messages and balances come from the inputs. A delta takes what was counted of a validator off its old node, and counts its
 //! balance at the new one.
 
-ghost use Rattle.std.specs.Prelude.{◌≡◌, ℕ, ◌+◌, ◌<◌, ◌≤◌, false, None, take, length, slice_set, is_some, if◌then◌else◌};
-ghost use Rattle.std.specs.List.{count_by};
-ghost use Rattle.block_array.specs.PlainArray.{message_of};
+ghost use Rattle.std.specs.Prelude.{◌≡◌, ℕ, ◌+◌, ◌<◌, ◌≤◌, false, true, length, slice_set, if◌then◌else◌};
 ghost use Rattle.block_array.specs.Work.{deltas_of};
-ghost use Rattle.block_array.specs.inside.Counts.{counted_of, Counts, nothing};
+ghost use Rattle.block_array.specs.inside.Counts.{counted_of};
 ghost use Rattle.block_array.specs.inside.Held.{due, boost_due};
-ghost use Rattle.block_array.specs.inside.Noted.{IsNoted, AreMade, AreDue};
+ghost use Rattle.block_array.specs.inside.Noted.{IsNoted, AreDue, has_delta, goes_in_order};
 ghost use Rattle.block_array.specs.inside.Ranks.{IsCounted};
 
 use crate::inputs::Inputs;
 use crate::tally::Tally;
 use bc_words::Steps;
 use std::sync::ledger::Ledger;
+
+/// How many marks may be looked at for one delta. One behind the other, they take about the time of a delta that is far from the
+/// one before it.
+const MARKS_A_DELTA: usize = 32;
 
 /// Counts what is due of a validator. One delta.
 #[tactic(auto, unfolding(crate::specs::inside::Held::due, crate::specs::PlainArray::message_of))]
@@ -36,11 +38,12 @@ fn recount_one<L: Ledger>(inputs: &Inputs, tally: &mut Tally, validator: u64, st
 /// Counts what is due of each validator whose message changed. A delta of each.
 #[tactic(auto, using(crate::proofs::Noting::changing))]
 fn recount_changed<L: Ledger>(inputs: &Inputs, tally: &mut Tally, steps: &mut Steps<L>)
-    requires { IsNoted inputs.now.array tally.old }
+    requires noted { IsNoted inputs.now.array tally.old }
+    requires kept { inputs.now.array.balances_set ≡ false }
     ensures same { tally.new ≡ record tally.old { validators = tally.new.validators } }
     ensures length_is { length tally.new.validators ≡ length tally.old.validators }
-    ensures made { AreMade inputs.now.array tally.old.validators tally.new.validators inputs.now.array.changed_validators }
-    ensures steps { steps.new ≡ steps.old + length inputs.now.array.changed_validators }
+    ensures made { AreDue inputs.now.array tally.new.validators (length tally.new.validators) }
+    ensures steps { steps.new ≡ steps.old + deltas_of inputs.now.array }
 {
     let changed = inputs.changed();
     for i in 0..changed.len() {
@@ -48,9 +51,21 @@ fn recount_changed<L: Ledger>(inputs: &Inputs, tally: &mut Tally, steps: &mut St
     }
 }
 
-/// Counts what is due of a validator that has a message. A delta of it.
+/// Whether a validator has a delta: where balances were set, if it has a message, and else if that changed.
+fn has_delta(inputs: &Inputs, tally: &Tally, validator: usize) -> bool
+    requires { validator < length tally.now.validators }
+    ensures { result ≡ has_delta inputs.now.array tally.now.validators validator }
+{
+    if inputs.balances_set() {
+        inputs.message(validator as u64).is_some()
+    } else {
+        tally.is_changed(validator)
+    }
+}
+
+/// Counts what is due of a validator, if it has a delta. A delta of it.
 #[tactic(auto, using(crate::proofs::Noting::idling))]
-fn recount_voter<L: Ledger>(
+fn recount_if_due<L: Ledger>(
     inputs: &Inputs,
     tally: &mut Tally,
     validator: usize,
@@ -58,28 +73,39 @@ fn recount_voter<L: Ledger>(
 )
     requires inside { validator < length tally.old.validators }
     requires nodes { tally.old.nodes ≡ length inputs.now.array.nodes }
-    requires idle { message_of inputs.now.array validator ≡ None → counted_of tally.old.validators validator ≡ nothing }
+    requires current { has_delta inputs.now.array tally.old.validators validator ≡ false → counted_of tally.old.validators validator ≡ due inputs.now.array validator }
     ensures counted { tally.new ≡ record tally.old { validators = slice_set tally.old.validators validator (due inputs.now.array validator) } }
-    ensures steps { steps.new ≡ steps.old + (if is_some (message_of inputs.now.array validator) then 1 else 0) }
+    ensures steps { steps.new ≡ steps.old + (if has_delta inputs.now.array tally.old.validators validator then 1 else 0) }
 {
-    match inputs.message(validator as u64) {
-        Some(_) => recount_one(inputs, tally, validator as u64, steps),
-        None => {}
+    if has_delta(inputs, tally, validator) {
+        recount_one(inputs, tally, validator as u64, steps);
     }
 }
 
-/// Counts what is due of all validators. A delta of each that has a message.
-#[tactic(auto, using(crate::proofs::Noting::all_counting))]
-fn recount_all<L: Ledger>(inputs: &Inputs, tally: &mut Tally, steps: &mut Steps<L>)
-    requires { IsNoted inputs.now.array tally.old }
+/// Counts what is due of all validators, in their order. A delta of each that has one; where balances weren't set, fewer than
+/// thirty-two marks are looked at for each of these.
+#[tactic(auto, using(crate::proofs::Noting::in_order))]
+fn recount_in_order<L: Ledger>(inputs: &Inputs, tally: &mut Tally, steps: &mut Steps<L>)
+    requires noted { IsNoted inputs.now.array tally.old }
+    requires worth { goes_in_order inputs.now.array tally.old.validators ≡ true }
     ensures same { tally.new ≡ record tally.old { validators = tally.new.validators } }
     ensures length_is { length tally.new.validators ≡ length tally.old.validators }
     ensures made { AreDue inputs.now.array tally.new.validators (length tally.new.validators) }
-    ensures steps { steps.new ≡ steps.old + count_by is_some inputs.now.array.latest_messages }
+    ensures steps { steps.new ≡ steps.old + deltas_of inputs.now.array }
 {
     for validator in 0..tally.validators() {
-        recount_voter(inputs, tally, validator, steps);
+        recount_if_due(inputs, tally, validator, steps);
     }
+}
+
+/// Whether all validators are gone through in their order: where balances were set; or where so many messages changed, one in
+/// thirty-two, that this is faster than to go through the changed ones in the order in which their votes came, where each may be
+/// far from the one before it.
+#[tactic(auto, unfolding(crate::specs::inside::Noted::goes_in_order))]
+fn goes_in_order(inputs: &Inputs, tally: &Tally) -> bool
+    ensures { result ≡ goes_in_order inputs.now.array tally.now.validators }
+{
+    inputs.balances_set() || tally.validators() / MARKS_A_DELTA < inputs.changed().len()
 }
 
 /// Counts the boost that is due.
@@ -96,15 +122,15 @@ fn recount_boost(inputs: &Inputs, tally: &mut Tally)
 }
 
 /// Counts what is due of whatever changed.
-#[tactic(auto, unfolding(crate::specs::Work::deltas_of), using(crate::proofs::Noting::recounting))]
+#[tactic(auto, using(crate::proofs::Noting::recounting))]
 pub(crate) fn recount<L: Ledger>(inputs: &Inputs, tally: &mut Tally, steps: &mut Steps<L>)
     requires { IsNoted inputs.now.array tally.old }
     ensures counted { IsCounted inputs.now.array tally.new }
     ensures room { tally.new ≡ record tally.old { validators = tally.new.validators; boost = tally.new.boost } }
     ensures steps { steps.new ≡ steps.old + deltas_of inputs.now.array }
 {
-    if inputs.balances_set() {
-        recount_all(inputs, tally, steps);
+    if goes_in_order(inputs, tally) {
+        recount_in_order(inputs, tally, steps);
     } else {
         recount_changed(inputs, tally, steps);
     }

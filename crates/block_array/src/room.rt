@@ -3,6 +3,7 @@
 ghost use Rattle.std.specs.Prelude.{◌≡◌, ◌+◌, ◌<◌, ◌≤◌, ◌^◌, length, vec_capacity, OnOk, IsOk};
 
 use crate::inputs::Inputs;
+use crate::list::make_room;
 use crate::rank::Rank;
 use crate::tally::Tally;
 use bc_words::NoMemory;
@@ -23,13 +24,13 @@ pub(crate) fn grow_nodes(
     ensures tally_more { tally.old.node_room ≤ tally.new.node_room }
     ensures ranks_more { vec_capacity ranks.old ≤ vec_capacity ranks.new }
     ensures inputs_room { OnOk result (length inputs.old.array.nodes + 1 ≤ inputs.new.node_room) }
-    ensures tally_room { OnOk result (tally.old.nodes + 1 ≤ tally.new.node_room) }
-    ensures ranks_room { OnOk result (length ranks.old.items + 1 ≤ vec_capacity ranks.new) }
+    ensures tally_room { OnOk result (length inputs.old.array.nodes + 1 ≤ tally.new.node_room) }
+    ensures ranks_room { OnOk result (length inputs.old.array.nodes + 1 ≤ vec_capacity ranks.new) }
 {
-    inputs.reserve_nodes(1)?;
-    tally.reserve_nodes(1)?;
-    ranks.reserve(1)?;
-    Ok(())
+    let places = inputs.nodes().len() + 1;
+    inputs.reserve_nodes(places)?;
+    tally.reserve_nodes(places)?;
+    make_room(ranks, places)
 }
 
 /// Makes room for one node more, where none is spare.
@@ -38,34 +39,20 @@ pub(crate) fn room_for_node(
     tally: &mut Tally,
     ranks: &mut Vec<Rank>,
 ) -> Result<(), NoMemory>
-    requires tally_nodes { tally.old.nodes + inputs.old.array.spare_nodes ≤ tally.old.node_room }
-    requires ranks_nodes { length ranks.old.items + inputs.old.array.spare_nodes ≤ vec_capacity ranks.old }
+    requires tally_nodes { length inputs.old.array.nodes + inputs.old.array.spare_nodes ≤ tally.old.node_room }
+    requires ranks_nodes { length inputs.old.array.nodes + inputs.old.array.spare_nodes ≤ vec_capacity ranks.old }
     ensures inputs { inputs.new ≡ record inputs.old { node_room = inputs.new.node_room } }
     ensures tally { tally.new ≡ record tally.old { node_room = tally.new.node_room } }
     ensures ranks { ranks.new.items ≡ ranks.old.items }
     ensures tally_more { tally.old.node_room ≤ tally.new.node_room }
     ensures ranks_more { vec_capacity ranks.old ≤ vec_capacity ranks.new }
     ensures inputs_room { OnOk result (length inputs.old.array.nodes + 1 ≤ inputs.new.node_room) }
-    ensures tally_room { OnOk result (tally.old.nodes + 1 ≤ tally.new.node_room) }
-    ensures ranks_room { OnOk result (length ranks.old.items + 1 ≤ vec_capacity ranks.new) }
+    ensures tally_room { OnOk result (length inputs.old.array.nodes + 1 ≤ tally.new.node_room) }
+    ensures ranks_room { OnOk result (length inputs.old.array.nodes + 1 ≤ vec_capacity ranks.new) }
     ensures spare { 0 < inputs.old.array.spare_nodes → IsOk result }
 {
     if inputs.spare_nodes() == 0 {
         grow_nodes(inputs, tally, ranks)
-    } else {
-        Ok(())
-    }
-}
-
-/// Makes room for the validators of a tally, so many in all.
-fn grow_tally(tally: &mut Tally, places: usize) -> Result<(), NoMemory>
-    ensures same { tally.new ≡ record tally.old { validator_room = tally.new.validator_room } }
-    ensures more { tally.old.validator_room ≤ tally.new.validator_room }
-    ensures room { OnOk result (places ≤ tally.new.validator_room) }
-{
-    let len = tally.validators();
-    if len < places {
-        tally.reserve_validators(places - len)
     } else {
         Ok(())
     }
@@ -91,7 +78,7 @@ pub(crate) fn grow_validators(
         return Err(NoMemory);
     }
     inputs.reserve_validators(places as usize)?;
-    grow_tally(tally, places as usize)
+    tally.reserve_validators(places as usize)
 }
 
 /// Makes room for the vote of a validator, where its isn't spare.

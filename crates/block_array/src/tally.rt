@@ -7,16 +7,18 @@ ghost use Rattle.std.specs.Prelude.{◌≡◌, ℕ, Bool, ◌+◌, ◌<◌, ◌�
 ghost use Rattle.block_array.specs.inside.Counts.{nothing, counted_of, own_at, all_of, counted_at, IsBelow};
 ghost use Rattle.std.specs.List.{All};
 
+use crate::list::{make_room, push_item};
 use bc_words::NoMemory;
 use std::alloc::Global;
 use std::marker::Model;
 
-/// What is counted of one validator, in Gwei, and at which node; and whether its message changed since.
+/// What is counted of one validator, in Gwei, and at which node; and whether its message changed since. Fields lie in this order:
+/// in another one each would take half as much again, and all of them are gone through.
 #[derive(Clone, Copy)]
 pub(crate) struct Counted {
     pub(crate) node: u32,
-    pub(crate) balance: u64,
     pub(crate) changed: bool,
+    pub(crate) balance: u64,
 }
 
 /// What is counted of each validator, and of the boost, in Gwei; and for each node what is counted at it.
@@ -117,24 +119,22 @@ impl Tally {
         self.counted[validator].changed
     }
 
-    /// Makes room for so many nodes more.
-    pub(crate) fn reserve_nodes(&mut self, more: usize) -> Result<(), NoMemory>
+    /// Makes room for so many nodes in all.
+    pub(crate) fn reserve_nodes(&mut self, places: usize) -> Result<(), NoMemory>
         ensures same { self.new ≡ record self.old { node_room = self.new.node_room } }
         ensures more { self.old.node_room ≤ self.new.node_room }
-        ensures room { OnOk result (self.old.nodes + more ≤ self.new.node_room) }
+        ensures room { OnOk result (places ≤ self.new.node_room) }
     {
-        self.own.reserve(more)?;
-        Ok(())
+        make_room(&mut self.own, places)
     }
 
-    /// Makes room for so many validators more.
-    pub(crate) fn reserve_validators(&mut self, more: usize) -> Result<(), NoMemory>
+    /// Makes room for so many validators in all.
+    pub(crate) fn reserve_validators(&mut self, places: usize) -> Result<(), NoMemory>
         ensures same { self.new ≡ record self.old { validator_room = self.new.validator_room } }
         ensures more { self.old.validator_room ≤ self.new.validator_room }
-        ensures room { OnOk result (length self.old.validators + more ≤ self.new.validator_room) }
+        ensures room { OnOk result (places ≤ self.new.validator_room) }
     {
-        self.counted.reserve(more)?;
-        Ok(())
+        make_room(&mut self.counted, places)
     }
 
     /// One node more. There is room for it.
@@ -144,7 +144,7 @@ impl Tally {
         ensures pushed { self.new ≡ record self.old { nodes = self.old.nodes + 1; node_room = self.new.node_room } }
         ensures more { self.old.node_room ≤ self.new.node_room }
     {
-        let _room = self.own.push(0);
+        push_item(&mut self.own, 0);
     }
 
     /// One validator more, of whom nothing is counted. There is room for it.
@@ -155,11 +155,12 @@ impl Tally {
         ensures pushed { self.new ≡ record self.old { validators = self.old.validators ++ nothing ∷ []; validator_room = self.new.validator_room } }
         ensures more { self.old.validator_room ≤ self.new.validator_room }
     {
-        let _room = self.counted.push(Counted {
+        let nothing = Counted {
             node: 0,
             balance: 0,
             changed: false,
-        });
+        };
+        push_item(&mut self.counted, nothing);
     }
 
     /// Notes that a validator's message changed.

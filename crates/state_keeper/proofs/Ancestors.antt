@@ -1,6 +1,6 @@
 -- Walks from a block to its parents.
-use Rattle.std.proofs.Common.{◌≡◌, ℕ, zero, suc, ◌+◌, ◌%◌, ◌<◌, ◌≤◌, cond, List, length, Option, Some, None, option_map, unwrap_or, slice_get, refl, sym, ap, ◌∙◌, subst, arith, add-one, eq-eqb}
-use Rattle.std.proofs.lemmas.Option.{same_Some}
+use Rattle.std.proofs.Common.{◌≡◌, ℕ, zero, suc, ◌+◌, ◌%◌, ◌<◌, ◌≤◌, cond, List, length, Option, Some, None, option_map, unwrap_or, slice_get, get_or, refl, sym, ap, ◌∙◌, subst, arith, add-one, eq-eqb}
+use Rattle.std.proofs.lemmas.Option.{same_Some, get_or_from_slice_get}
 use Rattle.state_keeper.proofs.Items.{item_at}
 use Rattle.bc_words.specs.Outcome.{Outcome, done}
 use Rattle.spec_state.specs.declared.plain.PlainState.{PlainState}
@@ -80,4 +80,23 @@ module _ {B : Type 0} where
           done_step = subst (λ s. step s found.entry.block ≡ done found.entry.state.value) same behind.done_step;
         }
 
-pub ruleset walking = (ancestor_begin, ancestor_next)
+  -- what is read of a block whose state is kept is its state
+  pub kept_read : (entries : List (Entry B PlainState)) (n : ℕ) (h : HasKept entries n) (read : Entry B PlainState) → (get_or entries n read).kept ≡ Some h.entry.state.value
+  kept_read entries n h read = ap (λ (e : Entry B PlainState). e.kept) (get_or_from_slice_get entries n h.entry read h.there) ∙ h.kept
+
+  pub kept_state_stands : (entries : List (Entry B PlainState)) (n : ℕ) → HasKept entries n → (read : Entry B PlainState) (state : PlainState) → (get_or entries n read).kept ≡ Some state → StandsFor entries n state
+  kept_state_stands entries n h read state is = ap (λ (o : Option (Entry B PlainState)). option_map (λ e. e.state.value) o) h.there ∙ sym (kept_read entries n h read) ∙ is
+
+  module _ (can : PlainState → B → Type 0) (step : PlainState → B → Outcome PlainState) (entries : List (Entry B PlainState)) (n : ℕ) (state : PlainState) (h : IsStep can step entries n state) (read : Entry B PlainState) where
+    -- and so of a block to which a step goes
+    pub can_read : can state (get_or entries n read).block
+    can_read = subst (λ (e : Entry B PlainState). can state e.block) (sym (get_or_from_slice_get entries n h.entry read h.there)) h.can_step
+
+    pub step_read : step state (get_or entries n read).block ≡ done h.entry.state.value
+    step_read = ap (λ (e : Entry B PlainState). step state e.block) (get_or_from_slice_get entries n h.entry read h.there) ∙ h.done_step
+
+    pub step_stands : (next : PlainState) → step state (get_or entries n read).block ≡ done next → StandsFor entries n next
+    step_stands next is =
+        let same : done h.entry.state.value ≡ done next = sym step_read ∙ is in
+        let value : h.entry.state.value ≡ next = cc in
+        ap (λ (o : Option (Entry B PlainState)). option_map (λ e. e.state.value) o) h.there ∙ ap (λ s. Some s) value

@@ -1,6 +1,7 @@
 -- Items of a list by their places.
-use Rattle.std.proofs.Common.{◌≡◌, ℕ, zero, suc, ◌<◌, ◌⊎◌, inl, inr, List, [], ◌∷◌, ◌++◌, length, Option, Some, None, option_map, slice_get, refl, ap, arith}
-use Rattle.std.proofs.lemmas.Option.{none-some, same_Some}
+use Rattle.std.proofs.Common.{◌≡◌, ℕ, zero, suc, ◌<◌, ◌⊎◌, inl, inr, true, false, ltb, get_or, List, [], ◌∷◌, ◌++◌, length, Option, Some, None, option_map, slice_get, refl, sym, ap, arith}
+use Rattle.std.proofs.lemmas.Bool.{ltb-true, ltb-false}
+use Rattle.std.proofs.lemmas.Option.{none-some, same_Some, slice_get_read, slice_get_past}
 
 module _ {X : Type 0} where
   -- the item at a place below the length
@@ -34,6 +35,13 @@ module _ {X : Type 0} where
     | inl old ↦ inl old
     | inr new ↦ inr (ap (λ k. suc k) new.0, new.1)
   ]
+
+  -- what a look-up found, and that it found nothing
+  pub found : (xs : List X) (n : ℕ) (x : X) → true ≡ ltb n (length xs) → x ≡ get_or xs n x → slice_get xs n ≡ Some x
+  found xs n x inside is = slice_get_read xs (length xs) n x refl (ltb-true n (length xs) (sym inside)) is
+
+  pub not_found : (xs : List X) (n : ℕ) → false ≡ ltb n (length xs) → slice_get xs n ≡ None
+  not_found xs n past = slice_get_past xs n (ltb-false n (length xs) (sym past))
 
 -- one field of an item
 pub mapped : {X Y Z : Type 0} (f : X → Y) (g : Y → Z) (o : Option X) → option_map g (option_map f o) ≡ option_map (λ x. g (f x)) o

@@ -1,6 +1,6 @@
 -- One entry more.
 use Rattle.std.proofs.Common.{◌≡◌, ℕ, zero, suc, ◌+◌, ◌<◌, ◌≤◌, ◌%◌, eqb, inl, inr, List, [], ◌∷◌, ◌++◌, length, map, Contains, IfSome, Option, Some, option_map, slice_get, sym, ap, ◌∙◌, subst, arith, length-append}
-use Rattle.std.proofs.lemmas.List.{length-map}
+use Rattle.std.proofs.lemmas.List.{length-map, map-append}
 use Rattle.std.proofs.lemmas.Option.{slice_get_within, slice_get-map, cond_some, same_Some, none-some}
 use Rattle.bc_words.specs.Outcome.{Outcome, done}
 use Rattle.spec_state.specs.declared.plain.PlainState.{PlainState}
@@ -129,6 +129,11 @@ module _ {B : Type 0} (can : PlainState → B → Type 0) (step : PlainState →
       subst (λ es. IsKeeper can step es pairs) (sym new_is) (keeps_joined entries pairs e keeps (joins_of entries e inside can_step done_step' distance' kept'))
 
 module _ {B : Type 0} where
+  -- the blocks with the one of that entry
+  pub added_blocks : (entries new : List (Entry B PlainState)) (e : Entry B PlainState) (state : PlainState) → new ≡ entries ++ e ∷ [] → e.state.value ≡ state → map plain_of new ≡ map plain_of entries ++ record { block = e.block; parent = e.parent; state = state } ∷ []
+  added_blocks entries new e state new_is seen =
+      ap (λ (es : List (Entry B PlainState)). map plain_of es) new_is ∙ (map-append plain_of entries (e ∷ []) ∙ ap (λ s. map plain_of entries ++ record { block = e.block; parent = e.parent; state = s } ∷ []) seen)
+
   -- which stands for the state that came with it
   pub added_stands : (entries new : List (Entry B PlainState)) (e : Entry B PlainState) (n : ℕ) (state : PlainState) → new ≡ entries ++ e ∷ [] → n ≡ length entries → e.state.value ≡ state → StandsFor new n state
   added_stands entries new e n state new_is n_is seen =

@@ -1,6 +1,6 @@
 //! The states that were used last.
 
-ghost use Rattle.std.specs.Prelude.{◌≡◌, ℕ, nat_eq, IfOk, Contains};
+ghost use Rattle.std.specs.Prelude.{◌≡◌, ℕ, nat_eq, Some, IfOk, Contains};
 ghost use Rattle.std.specs.Map.{lookup};
 ghost use Rattle.lru.specs.LruCache.{promoted};
 ghost use Rattle.state_keeper.specs.inside.Cache.{IsAmong};
@@ -9,13 +9,20 @@ use bc_words::NoMemory;
 use beacon_state::State;
 use lru::LruCache;
 
+/// The state that is there, in the same nodes.
+pub(crate) fn share_found(state: &State) -> Result<Option<State>, NoMemory>
+    ensures { IfOk result (λ found. found ≡ Some state.now) }
+{
+    Ok(Some(state.share()?))
+}
+
 /// The state of a block, where the cache has it. It becomes the one that was used last.
 pub(crate) fn recall(cache: &mut LruCache<u32, State>, n: u32) -> Result<Option<State>, NoMemory>
     ensures found { IfOk result (λ state. state ≡ lookup (nat_eq n) cache.old.entries) }
     ensures entries { cache.new.entries ≡ promoted (nat_eq n) cache.old.entries }
 {
     match cache.get(&n) {
-        Some(state) => Ok(Some(state.share()?)),
+        Some(state) => share_found(state),
         None => Ok(None),
     }
 }

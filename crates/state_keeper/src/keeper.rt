@@ -9,7 +9,7 @@ ghost use Rattle.spec_state.specs.declared.plain.PlainState.{PlainState};
 ghost use Rattle.state_keeper.specs.Chain.{HasState, state_at, distance_of, kept_every};
 ghost use Rattle.state_keeper.specs.inside.Entries.{kept_of};
 
-use crate::cache::{recall, remember};
+use crate::cache::{recall, remember, share_found};
 use crate::entry::{Entry, push_entry};
 use crate::remade::{distance_at, remade};
 use crate::stepper::Stepper;
@@ -156,7 +156,7 @@ impl<P: Stepper> Keeper<P> {
         ensures same { self.new ≡ self.old }
     {
         match &self.entries[n as usize].kept {
-            Some(state) => Ok(Some(state.share()?)),
+            Some(state) => share_found(state),
             None => recall(&mut self.cache, n),
         }
     }

@@ -32,7 +32,6 @@ pub(crate) fn distance_at<B: Drop>(entries: &[Entry<B, State>], n: u32) -> u32
 }
 
 /// The number of the block so many parents before another one.
-#[tactic(auto, using(crate::proofs::Ancestors::walking))]
 fn ancestor_at<B: Drop>(entries: &[Entry<B, State>], n: u32, back: u32) -> u32
     ensures { result ≡ ancestor_at entries.now n back }
 {
@@ -71,7 +70,8 @@ fn step_to<P: Stepper, L: Ledger>(
     match stepper.step(alloc, state, &entries[n as usize].block) {
         Ok(next) => Ok(next),
         Err(Stop::NoMemory) => Err(NoMemory),
-        Err(Stop::Refused(_)) | Err(Stop::Limit(_)) => unreachable!(),
+        Err(Stop::Refused(_)) => unreachable!(),
+        Err(Stop::Limit(_)) => unreachable!(),
     }
 }
 

@@ -1,5 +1,5 @@
 -- What is counted, where some messages changed since.
-use Rattle.std.specs.Prelude.{◌≡◌, ℕ, ◌+◌, ◌<◌, ◌≤◌, false, List, [], length, true, slice_set, None, if◌then◌else◌}
+use Rattle.std.specs.Prelude.{◌≡◌, ℕ, ◌+◌, ◌*◌, ◌<◌, ◌≤◌, nat_lt, Bool, false, ◌||◌, List, [], length, take, true, slice_set, None, is_some, if◌then◌else◌}
 use Rattle.std.specs.List.{count_by}
 use Rattle.block_array.specs.declared.rank.Rank.{Rank}
 use Rattle.block_array.specs.declared.tally.Counted.{Counted}
@@ -42,6 +42,19 @@ pub record IsArray (array : PlainArray) (counts : Counts) (ranks : List Rank) (r
 -- the deltas of some validators are made
 unfoldable pub AreMade : PlainArray → List Counted → List Counted → List ℕ → Type 0
 AreMade array before after validators = (v : ℕ) → counted_of after v ≡ (if is_listed validators v then due array v else counted_of before v)
+
+-- whether a validator has a delta: where balances were set, if it has a message, and else if that changed
+unfoldable pub has_delta : PlainArray → List Counted → ℕ → Bool
+has_delta array validators v = if array.balances_set then is_some (message_of array v) else (counted_of validators v).changed
+
+-- how many of the validators below one have a delta
+unfoldable pub deltas_below : PlainArray → List Counted → ℕ → ℕ
+deltas_below array validators count = if array.balances_set then count_by is_some (take count array.latest_messages) else count_changed (take count validators)
+
+-- whether all validators are gone through in their order: where balances were set, or for each changed message there are fewer
+-- than thirty-two
+unfoldable pub goes_in_order : PlainArray → List Counted → Bool
+goes_in_order array validators = array.balances_set || nat_lt (length validators) (32 * length array.changed_validators)
 
 -- those of all validators below one are
 unfoldable pub AreDue : PlainArray → List Counted → ℕ → Type 0

@@ -1,5 +1,5 @@
 -- What is found is the state of the block.
-use Rattle.std.proofs.Common.{◌≡◌, ◌<◌, nat_eq, IfOk, IfSome, Option, length, map, refl, sym, subst, arith}
+use Rattle.std.proofs.Common.{◌≡◌, ◌<◌, nat_eq, IfOk, IfSome, Option, Some, length, map, refl, sym, subst, arith}
 use Rattle.std.proofs.lemmas.List.{length-map}
 use Rattle.std.proofs.lemmas.Option.{slice_get_read}
 use Rattle.std.proofs.lemmas.Result.{IfOk-weaker}
@@ -19,14 +19,16 @@ invariant_of-self g c = record {
   cached = subst (λ pairs. IsCache c.self.inside.entries.items pairs) (sym c.recall.ensures.entries) (promoted_cache c.self.inside.entries.items c.self.inside.cache.entries c.args.n c.self.invariant.cached);
 }
 
-pub returns-in_ok-share-in-Some-clause-state : goal.returns-in_ok-share-in-Some-clause-state
-returns-in_ok-share-in-Some-clause-state g c =
+pub returns-in-Some-clause-state : goal.returns-in-Some-clause-state
+returns-in-Some-clause-state g c =
     let within : c.args.n < length (map plain_of c.self.inside.entries.items) = subst (λ (kept : Kept _ _). c.args.n < length kept.blocks) (sym c.self.view_is) c.requires in
     let less : c.args.n < length c.self.inside.entries.items = omega (arith, length-map c.self.inside.entries.items plain_of) in
     let there = slice_get_read c.self.inside.entries.items (length c.self.inside.entries.items) c.args.n c.index.result.now refl less c.index.ensures in
     let stands = kept_stands (g.P.Stepper.can_step c.self.inside.stepper) (g.P.Stepper.plain_step c.self.inside.stepper) c.self.inside.entries.items c.self.invariant.each c.args.n c.index.result.now c.in-Some.state there c.in-Some.is in
-    subst (λ s. HasState c.args.self.now.blocks c.args.n s) (sym c.in_ok-share-in-Some.ensures)
-    (subst (λ (kept : Kept _ _). HasState kept.blocks c.args.n c.in-Some.state) c.self.view_is (has_state c.self.inside.entries.items c.args.n c.in-Some.state stands))
+    let has = subst (λ (kept : Kept _ _). HasState kept.blocks c.args.n c.in-Some.state) c.self.view_is (has_state c.self.inside.entries.items c.args.n c.in-Some.state stands) in
+    IfOk-weaker c.share_found.result (λ found. found ≡ Some c.in-Some.state) (λ found. IfSome found (λ state. HasState c.args.self.now.blocks c.args.n state))
+    (λ found is. subst (λ (o : Option PlainState). IfSome o (λ state. HasState c.args.self.now.blocks c.args.n state)) (sym is) has)
+    c.share_found.ensures
 
 pub returns-in-None-clause-state : goal.returns-in-None-clause-state
 returns-in-None-clause-state g c =
@@ -34,3 +36,14 @@ returns-in-None-clause-state g c =
     (IfOk-weaker c.recall.result (λ found. found ≡ lookup (nat_eq c.args.n) c.self.inside.cache.entries) (λ found. IfSome found (λ state. HasState (map plain_of c.self.inside.entries.items) c.args.n state))
     (λ found is. subst (λ (o : Option PlainState). IfSome o (λ state. HasState (map plain_of c.self.inside.entries.items) c.args.n state)) (sym is) (found_has c.self.inside.entries.items c.self.inside.cache.entries c.args.n c.self.invariant.cached))
     c.recall.ensures.found)
+
+pub index-requires : goal.index-requires
+index-requires g c =
+    let within : c.args.n < length (map plain_of c.self.inside.entries.items) = subst (λ (kept : Kept _ _). c.args.n < length kept.blocks) (sym c.self.view_is) c.requires in
+    omega (arith, length-map c.self.inside.entries.items plain_of)
+
+pub returns-in-Some-clause-same : goal.returns-in-Some-clause-same
+returns-in-Some-clause-same g c = refl
+
+pub returns-in-None-clause-same : goal.returns-in-None-clause-same
+returns-in-None-clause-same g c = c.self.view_is

@@ -1,8 +1,7 @@
-use Rattle.std.proofs.Common.{◌≡◌, ℕ, ◌+◌, ◌≤◌, length, take, is_some}
-use Rattle.std.specs.List.{count_by}
+use Rattle.std.proofs.Common.{◌≡◌, ℕ, ◌+◌, ◌≤◌, length}
 use Rattle.block_array.specs.inside.Counts.{counted_of}
-use Rattle.block_array.specs.inside.Noted.{AreDue}
-use Rattle.block_array.proofs.recount.recount_all.Given as goal
+use Rattle.block_array.specs.inside.Noted.{AreDue, deltas_below}
+use Rattle.block_array.proofs.recount.recount_in_order.Given as goal
 
 abbrev pub invariant-loop-validator : goal.invariant-loop-validator
 invariant-loop-validator g l = record {
@@ -10,5 +9,5 @@ invariant-loop-validator g l = record {
   length_is : length l.tally.validators ≡ length l.fn.tally.validators;
   made : AreDue l.inputs.array l.tally.validators l.validator;
   rest : (v : ℕ) → l.validator ≤ v → counted_of l.tally.validators v ≡ counted_of l.fn.tally.validators v;
-  steps : l.steps ≡ l.fn.steps + count_by is_some (take l.validator l.inputs.array.latest_messages);
+  steps : l.steps ≡ l.fn.steps + deltas_below l.inputs.array l.fn.tally.validators l.validator;
 }
