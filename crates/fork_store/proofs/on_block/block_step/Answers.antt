@@ -1,8 +1,8 @@
 -- The step from the state of the kept parent, behind the checks.
 use Rattle.std.proofs.Common.{List, rules, subst}
 use Rattle.spec_fork_choice.specs.Store.{KeptBlock}
-use Rattle.fork_store.specs.inside.Keepers.{IsStateBehind}
-use Rattle.fork_store.proofs.Stepping.{step_gives, step_done, step_parent, step_linked, stepped_on}
+use Rattle.store_parts.specs.inside.Keepers.{IsStateBehind}
+use Rattle.store_parts.proofs.Stepping.{step_gives, step_done, step_parent, step_linked, stepped_on}
 use Rattle.fork_store.proofs.on_block.block_step.Goals as goal
 
 pub returns-in_err-step-clause-step : goal.returns-in_err-step-clause-step

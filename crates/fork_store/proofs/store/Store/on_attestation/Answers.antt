@@ -1,7 +1,7 @@
 use Rattle.std.proofs.Common.{◌∙◌, ap, rules}
 use Rattle.spec_fork_choice.specs.Store.{Store}
 use Rattle.spec_fork_choice.specs.UpdateLatestMessages.{update_latest_messages}
-use Rattle.fork_store.proofs.Votes.{attestation_done}
+use Rattle.store_parts.proofs.Votes.{attestation_done}
 use Rattle.fork_store.proofs.store.Store.on_attestation.Goals as goal
 
 pub returns-clause-exact : goal.returns-clause-exact

@@ -1,4 +1,4 @@
-use Rattle.fork_store.proofs.Ticks.{tick_array, tick_kept}
+use Rattle.store_parts.proofs.Ticks.{tick_array, tick_kept}
 use Rattle.fork_store.proofs.store.Store.on_tick.Goals as goal
 
 pub follow_tick-requires-clause-array : goal.follow_tick-requires-clause-array
