@@ -8,7 +8,6 @@ ghost use Rattle.bc_words.specs.Events.{StoreChanges};
 ghost use Rattle.spec_state.specs.Misc.{compute_epoch_at_slot};
 ghost use Rattle.spec_fork_choice.specs.OnAttestation.{on_attestation};
 ghost use Rattle.store_parts.specs.inside.Arrays.{AreNodesOf};
-ghost use Rattle.store_parts.specs.inside.CheckpointStates.{IsStateOf};
 ghost use Rattle.store_parts.specs.inside.Keepers.{IsKeeperOf};
 ghost use Rattle.store_parts.specs.inside.Votes.{attesters_of, judged, event_of};
 
@@ -18,32 +17,12 @@ use crate::update_latest_messages::update_latest_messages;
 use bc_words::{Stop, StoreStop};
 use beacon_body::Attestation;
 use block_array::BlockArray;
-use checkpoint_states::CheckpointState;
 use state_keeper::Keeper;
 use std::alloc::Global;
-use store_parts::attesters::attesters_by;
+use store_parts::attesters::{attesters_by, attesters_by_made};
 use store_parts::chain_stepper::ChainStepper;
 use store_parts::store_fields::StoreFields;
 use store_parts::validate_on_attestation::validate_on_attestation;
-
-/// The attesters of such an attestation by its target's state, which was made for it and is kept. What contracts see of the store
-/// stays.
-fn attesters_by_made(
-    alloc: Global,
-    store: &mut StoreFields,
-    made: CheckpointState,
-    attestation: &Attestation,
-) -> Result<Vec<u64>, Stop>
-    requires epoch { compute_epoch_at_slot store.old.config.preset attestation.now.content.slot ≡ attestation.now.content.target.epoch }
-    requires own { IsStateOf store.old made }
-    requires target { made.checkpoint ≡ attestation.now.content.target }
-    ensures exact { GivesBy (λ members. members.items) result (attesters_of store.old attestation.now) }
-    ensures same { store.new ≡ store.old }
-{
-    let indices = attesters_by(alloc, store, &made, attestation)?;
-    store.keep_checkpoint_state(made)?;
-    Ok(indices)
-}
 
 /// The attesters of such an attestation, whose target's state has to be made, and is kept. What contracts see of the store and the
 /// keeper stays.

@@ -69,3 +69,22 @@ pub fn attesters_by(
     let bits = &attestation.aggregation_bits;
     attesters_at(alloc, target.committees(), &attestation.content, bits)
 }
+
+/// The attesters of such an attestation by its target's state, which was made for it and is kept. What contracts see of the store
+/// stays.
+pub fn attesters_by_made(
+    alloc: Global,
+    store: &mut StoreFields,
+    made: CheckpointState,
+    attestation: &Attestation,
+) -> Result<Vec<u64>, Stop>
+    requires epoch { compute_epoch_at_slot store.old.config.preset attestation.now.content.slot ≡ attestation.now.content.target.epoch }
+    requires own { IsStateOf store.old made }
+    requires target { made.checkpoint ≡ attestation.now.content.target }
+    ensures exact { GivesBy (λ members. members.items) result (attesters_of store.old attestation.now) }
+    ensures same { store.new ≡ store.old }
+{
+    let indices = attesters_by(alloc, store, &made, attestation)?;
+    store.keep_checkpoint_state(made)?;
+    Ok(indices)
+}
