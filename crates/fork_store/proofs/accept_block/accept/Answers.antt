@@ -1,10 +1,12 @@
-use Rattle.std.proofs.Common.{◌≡◌, ◌∙◌, sym, subst}
+use Rattle.std.proofs.Common.{◌≡◌, ◌∙◌, ℕ, ◌<◌, ◌^◌, sym, subst}
 use Rattle.block_array.specs.declared.facts.Facts.{Facts}
+use Rattle.spec_fork_choice.specs.Slots.{start_slot_of}
 use Rattle.spec_fork_choice.specs.Store.{KeptBlock}
 use Rattle.store_parts.specs.inside.Accepted.{settled}
 use Rattle.store_parts.specs.inside.Following.{AreGiven}
 use Rattle.store_parts.proofs.Keepers.{keeper_same, keeper_settled}
-use Rattle.store_parts.proofs.AcceptedBlocks.{settled_is_accepted, accepted_whole, again_whole, mid_few, mid_given, mid_kept, mid_known, mid_ready}
+use Rattle.store_parts.proofs.AcceptedBlocks.{settled_is_accepted, accepted_whole, again_whole, mid_few, mid_given, mid_kept, mid_known, mid_low, mid_ready}
+use Rattle.store_parts.proofs.Numbers.{justified_is_low}
 use Rattle.fork_store.proofs.accept_block.accept.Goals as goal
 
 pub returns-clause-exact : goal.returns-clause-exact
@@ -56,3 +58,26 @@ keep_block-requires-clause-array c = c.requires.whole.array_of
 
 pub keep_block-requires-clause-keeper : goal.keep_block-requires-clause-keeper
 keep_block-requires-clause-keeper c = keeper_same c.args.store.now c.args.keeper.now c.prepare.new.keeper c.requires.keeper c.in_ok-given.ensures.same
+
+low_slot : (state slot : ℕ) → state ≡ slot → slot < 2 ^ 64 → state < 2 ^ 64
+low_slot state slot is low = subst (λ n. n < 2 ^ 64) (sym is) low
+
+pub prepare-requires-clause-low : goal.prepare-requires-clause-low
+prepare-requires-clause-low c =
+    subst (λ (f : Facts). start_slot_of c.args.store.now f.justified < 2 ^ 64) (sym c.facts_of-facts.ensures)
+    (justified_is_low c.args.state c.args.store.now.config.preset c.requires.kept.sound c.requires.preset (low_slot _ _ c.requires.kept.slot c.requires.kept.low))
+
+pub settle_whole-requires-clause-low : goal.settle_whole-requires-clause-low
+settle_whole-requires-clause-low c =
+    subst (λ (f : Facts). start_slot_of c.keep_block.new.store f.justified < 2 ^ 64) (sym c.facts_of-facts.ensures)
+    (mid_low c.args.store.now c.keep_block.new.store c.args.array.now c.args.ready.now c.args.root c.args.block.now.message c.args.state c.requires.whole c.requires.linked c.in_ok-keep_block.ensures.exact
+    (justified_is_low c.args.state c.args.store.now.config.preset c.requires.kept.sound c.requires.preset (low_slot _ _ c.requires.kept.slot c.requires.kept.low)))
+
+pub returns-in_err-given-clause-keeper : goal.returns-in_err-given-clause-keeper
+returns-in_err-given-clause-keeper c = keeper_same c.args.store.now c.args.keeper.now c.prepare.new.keeper c.requires.keeper c.in_err-given.ensures.same
+
+pub returns-in_err-keep_block-clause-keeper : goal.returns-in_err-keep_block-clause-keeper
+returns-in_err-keep_block-clause-keeper c = c.in_err-keep_block.ensures.keeper
+
+pub returns-in_err-keep_block-clause-unset : goal.returns-in_err-keep_block-clause-unset
+returns-in_err-keep_block-clause-unset c = λ _. c.in_err-keep_block.ensures.unset

@@ -1,4 +1,4 @@
-use Rattle.std.proofs.Common.{◌≡◌, ◌∙◌, List, Some, None, rules, sym, ap, subst}
+use Rattle.std.proofs.Common.{◌≡◌, ◌∙◌, ◌<◌, ◌^◌, List, length, Some, None, arith, rules, sym, ap, subst}
 use Rattle.block_array.specs.PlainArray.{PlainArray}
 use Rattle.block_array.specs.declared.facts.Facts.{Facts}
 use Rattle.block_array.specs.Calls.{with_node}
@@ -10,7 +10,7 @@ use Rattle.store_parts.specs.inside.Keepers.{IsStepOn}
 use Rattle.store_parts.specs.inside.Stores.{IsKept}
 use Rattle.store_parts.specs.inside.Trees.{Follows}
 use Rattle.store_parts.proofs.Trees.{follows}
-use Rattle.store_parts.proofs.Adding.{parent_numbered, parent_fits, node_added, spare_array, block_array, array_same}
+use Rattle.store_parts.proofs.Adding.{few_nodes, parent_numbered, parent_fits, node_added, spare_array, block_array, array_same}
 use Rattle.fork_store.proofs.accept_block.add_block.Goals as goal
 
 pub unreachable-requires : goal.unreachable-requires
@@ -68,3 +68,9 @@ pub keep-requires-clause-follows : goal.keep-requires-clause-follows
 keep-requires-clause-follows c =
     subst (λ (b : SignedBeaconBlock). Follows c.args.store.now.blocks (kept_of c.args.root b.message c.args.state)) (sym c.in_ok-copy.ensures)
     (follows c.args.store.now.blocks c.args.root c.args.block.now.message c.args.state c.requires.fresh c.requires.parent)
+
+pub number_of-requires : goal.number_of-requires
+number_of-requires c = subst (λ (blocks : List KeptBlock). length blocks < 2 ^ 32) (sym c.blocks-2.ensures) (omega (arith, c.requires.few))
+
+pub push-room-requires-clause-few : goal.push-room-requires-clause-few
+push-room-requires-clause-few c = few_nodes c.args.store.now c.args.array.now c.reserve.new.self c.requires.array c.in_ok-reserve.ensures c.requires.few
