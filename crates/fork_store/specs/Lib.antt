@@ -1,2 +1,1 @@
-pub mod ChainStep
 pub mod inside

@@ -1,33 +1,21 @@
 //! The head of the chain (fork-choice.md, "get_head"), looked up in the array of nodes.
 
-ghost use Rattle.std.specs.Prelude.{◌≡◌, ◌+◌, ◌<◌, ◌≤◌, length, slice_index_or, []};
+ghost use Rattle.std.specs.Prelude.{◌≡◌, ◌+◌, ◌≤◌};
 ghost use Rattle.spec_fork_choice.specs.GetHead.{get_head};
 ghost use Rattle.block_array.specs.Calls.{made};
 ghost use Rattle.block_array.specs.Work.{steps_of};
-ghost use Rattle.fork_store.specs.inside.Roots.{roots_of};
 
 use crate::store::Store;
 use bc_words::Steps;
 use hash_tree::Root;
 use std::sync::ledger::Ledger;
-
-/// The root at a place.
-#[tactic(auto, using(crate::proofs::Heads::reading))]
-pub(crate) fn root_at(roots: &[Root], place: usize) -> Root
-    requires { place < length roots.now }
-    ensures { result ≡ slice_index_or roots.now place [] }
-{
-    match roots.get(place) {
-        Some(root) => *root,
-        None => unreachable!(),
-    }
-}
+use store_parts::get_ancestor::root_at;
 
 impl Store {
     /// The root of the head: from the justified block go to the viable child of the greatest weight, of the greatest root among
     /// those of one weight, as long as there is one (fork-choice.md, `get_head`). It takes no memory, and leaves the array
     /// applied. A step is the delta of one validator, or one visit of a node.
-    #[tactic(auto, using(crate::proofs::Heads::heading))]
+    #[tactic(auto, using(store_parts::proofs::Heads::heading))]
     pub fn head<L: Ledger>(&mut self, steps: &mut Steps<L>) -> Root
         ensures root { result ≡ get_head self.old.plain }
         ensures same { self.new.plain ≡ self.old.plain }

@@ -6,36 +6,22 @@
 #![tactic(auto)]
 
 mod accept_block;
-mod array_laws;
-mod block_in;
-mod chain_stepper;
-mod checkpoint_states;
-mod clash_of;
-mod copies;
-mod follow;
-mod get_ancestor;
+mod balances;
+mod feed;
 mod get_head;
-mod kept_blocks;
 mod kept_state;
-mod number_of;
 mod on_attestation;
 mod on_block;
 mod on_event;
 mod on_tick;
-mod ready_balances;
-mod root_clash;
-mod should_update_justified_checkpoint;
-mod slots;
 mod store;
-mod store_fields;
 mod store_new;
 mod store_target_checkpoint_state;
 mod update_latest_messages;
-mod validate_on_attestation;
 
-pub use array_laws::array_agrees;
-pub use block_in::BlockIn;
-pub use chain_stepper::ChainStepper;
 pub use on_event::Accepted;
-pub use root_clash::{clash, same_block_is_equality};
 pub use store::Store;
+pub use store_parts::array_laws::array_agrees;
+pub use store_parts::block_in::BlockIn;
+pub use store_parts::chain_stepper::ChainStepper;
+pub use store_parts::root_clash::{clash, same_block_is_equality};

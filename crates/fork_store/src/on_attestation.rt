@@ -2,190 +2,71 @@
 //!
 //! They come from a record's events. The committees are those of the target's state, and what changes is the latest votes.
 
-ghost use Rattle.std.specs.Prelude.{◌≡◌, Some, None, IfOk, IfSome};
+ghost use Rattle.std.specs.Prelude.{◌≡◌};
 ghost use Rattle.bc_words.specs.Outcome.{GivesBy};
 ghost use Rattle.bc_words.specs.Events.{StoreChanges};
-ghost use Rattle.committees.specs.Committees.{committee_at};
 ghost use Rattle.spec_state.specs.Misc.{compute_epoch_at_slot};
 ghost use Rattle.spec_fork_choice.specs.OnAttestation.{on_attestation};
-ghost use Rattle.fork_store.specs.inside.Arrays.{AreNodesOf};
-ghost use Rattle.fork_store.specs.inside.CheckpointStates.{IsStateOf};
-ghost use Rattle.fork_store.specs.inside.Keepers.{IsKeeperOf};
-ghost use Rattle.fork_store.specs.inside.Votes.{attesters_among, attesters_of, judged, event_of};
+ghost use Rattle.store_parts.specs.inside.Arrays.{AreNodesOf};
+ghost use Rattle.store_parts.specs.inside.Keepers.{IsKeeperOf};
+ghost use Rattle.store_parts.specs.inside.Votes.{attesters_of, judged, event_of};
 
-use crate::chain_stepper::ChainStepper;
-use crate::checkpoint_states::CheckpointState;
 use crate::store::Store;
-use crate::store_fields::StoreFields;
 use crate::store_target_checkpoint_state::checkpoint_state_anew;
 use crate::update_latest_messages::update_latest_messages;
-use crate::validate_on_attestation::validate_on_attestation;
-use attest_ops::attesting_indices;
-use bc_words::{NoMemory, Refusal, Stop, StoreStop};
+use bc_words::{Stop, StoreStop};
 use beacon_body::Attestation;
-use beacon_types::{AggregationBits, AttestationData};
 use block_array::BlockArray;
-use committees::EpochCommittees;
 use state_keeper::Keeper;
 use std::alloc::Global;
+use store_parts::attesters::{attesters_by, attesters_by_made};
+use store_parts::chain_stepper::ChainStepper;
+use store_parts::store_fields::StoreFields;
+use store_parts::validate_on_attestation::validate_on_attestation;
 
-/// The members of a committee that attest. Refused where there are fewer bits than members, and where nobody attests; bits
-/// behind those of the members are ignored.
-#[tactic(auto, unfolding(crate::specs::inside::Votes::attesters_among))]
-fn attesters_among(
+/// The attesters of such an attestation, whose target's state has to be made, and is kept. What contracts see of the store and the
+/// keeper stays.
+#[tactic(auto, unfolding(store_parts::specs::inside::Votes::attesters_of), using(store_parts::proofs::Votes::start_is_low))]
+fn attesters_anew(
     alloc: Global,
-    committee: &[u64],
-    bits: &AggregationBits,
-) -> Result<Vec<u64>, Stop>
-    ensures { GivesBy (λ members. members.items) result (attesters_among (Some committee.now) bits.now) }
-{
-    if bits.len() < committee.len() as u64 {
-        return Err(Stop::Refused(Refusal::FcBitsShort));
-    }
-    let members = attesting_indices(alloc, committee, bits.as_bits())?;
-    if members.is_empty() {
-        return Err(Stop::Refused(Refusal::FcEmpty));
-    }
-    Ok(members)
-}
-
-/// The attesters of a vote, by the committees of its epoch. Refused where there is no such committee, and as above.
-#[tactic(auto, unfolding(crate::specs::inside::Votes::attesters_among))]
-fn attesters_at(
-    alloc: Global,
-    committees: &EpochCommittees,
-    voted: &AttestationData,
-    bits: &AggregationBits,
-) -> Result<Vec<u64>, Stop>
-    ensures { GivesBy (λ members. members.items) result (attesters_among (committee_at committees.now voted.now.slot voted.now.index) bits.now) }
-{
-    match committees.committee(voted.slot, voted.index) {
-        Some(committee) => attesters_among(alloc, committee, bits),
-        None => Err(Stop::Refused(Refusal::FcCommittee)),
-    }
-}
-
-/// The attesters of an attestation whose target's epoch is that of its slot, by the target's state with its committees.
-#[tactic(auto, using(crate::proofs::CheckpointStates::attesters_by_kept))]
-fn attesters_by(
-    alloc: Global,
-    store: &StoreFields,
-    target: &CheckpointState,
-    attestation: &Attestation,
-) -> Result<Vec<u64>, Stop>
-    requires epoch { compute_epoch_at_slot store.now.config.preset attestation.now.content.slot ≡ attestation.now.content.target.epoch }
-    requires own { IsStateOf store.now target.now }
-    requires target { target.now.checkpoint ≡ attestation.now.content.target }
-    ensures { GivesBy (λ members. members.items) result (attesters_of store.now attestation.now) }
-{
-    let _store = store;
-    let bits = &attestation.aggregation_bits;
-    attesters_at(alloc, target.committees(), &attestation.content, bits)
-}
-
-/// The attesters of an attestation, and the state of its target where that had to be made.
-#[derive(Drop)]
-struct Judged {
-    indices: Vec<u64>,
-    made: Option<CheckpointState>,
-}
-
-/// The attesters of such an attestation, whose target's state has to be made.
-#[tactic(auto, unfolding(crate::specs::inside::Votes::attesters_of), using(crate::proofs::Votes::start_is_low))]
-fn judge_anew(
-    alloc: Global,
-    store: &StoreFields,
+    store: &mut StoreFields,
     keeper: &mut Keeper<ChainStepper>,
     attestation: &Attestation,
-) -> Result<Judged, Stop>
-    requires epoch { compute_epoch_at_slot store.now.config.preset attestation.now.content.slot ≡ attestation.now.content.target.epoch }
-    requires keeper { IsKeeperOf store.now keeper.old }
-    ensures exact { GivesBy (λ judged. judged.indices.items) result (attesters_of store.now attestation.now) }
-    ensures made { IfOk result (λ judged. IfSome judged.made (λ made. IsStateOf store.now made)) }
-    ensures same { keeper.new ≡ keeper.old }
+) -> Result<Vec<u64>, Stop>
+    requires epoch { compute_epoch_at_slot store.old.config.preset attestation.now.content.slot ≡ attestation.now.content.target.epoch }
+    requires keeper { IsKeeperOf store.old keeper.old }
+    ensures exact { GivesBy (λ members. members.items) result (attesters_of store.old attestation.now) }
+    ensures same { store.new ≡ store.old }
+    ensures keeper { keeper.new ≡ keeper.old }
 {
     let _slot = attestation.content.slot;
     let made = checkpoint_state_anew(alloc, store, keeper, attestation.content.target)?;
-    let indices = attesters_by(alloc, store, &made, attestation)?;
-    Ok(Judged {
-        indices,
-        made: Some(made),
-    })
+    attesters_by_made(alloc, store, made, attestation)
 }
 
-/// The attesters of such an attestation, whose target's state is kept.
-fn judge_kept(
+/// The attesters of such an attestation. Its target's state is kept. What contracts see of the store and the keeper stays.
+fn attesters_of(
     alloc: Global,
-    store: &StoreFields,
-    target: &CheckpointState,
-    attestation: &Attestation,
-) -> Result<Judged, Stop>
-    requires epoch { compute_epoch_at_slot store.now.config.preset attestation.now.content.slot ≡ attestation.now.content.target.epoch }
-    requires own { IsStateOf store.now target.now }
-    requires target { target.now.checkpoint ≡ attestation.now.content.target }
-    ensures exact { GivesBy (λ judged. judged.indices.items) result (attesters_of store.now attestation.now) }
-    ensures made { IfOk result (λ judged. judged.made ≡ None) }
-{
-    let indices = attesters_by(alloc, store, target, attestation)?;
-    Ok(Judged {
-        indices,
-        made: None,
-    })
-}
-
-/// The attesters of such an attestation.
-fn judge_target(
-    alloc: Global,
-    store: &StoreFields,
+    store: &mut StoreFields,
     keeper: &mut Keeper<ChainStepper>,
     attestation: &Attestation,
-) -> Result<Judged, Stop>
-    requires epoch { compute_epoch_at_slot store.now.config.preset attestation.now.content.slot ≡ attestation.now.content.target.epoch }
-    requires keeper { IsKeeperOf store.now keeper.old }
-    ensures exact { GivesBy (λ judged. judged.indices.items) result (attesters_of store.now attestation.now) }
-    ensures made { IfOk result (λ judged. IfSome judged.made (λ made. IsStateOf store.now made)) }
-    ensures same { keeper.new ≡ keeper.old }
+) -> Result<Vec<u64>, Stop>
+    requires epoch { compute_epoch_at_slot store.old.config.preset attestation.now.content.slot ≡ attestation.now.content.target.epoch }
+    requires keeper { IsKeeperOf store.old keeper.old }
+    ensures exact { GivesBy (λ members. members.items) result (attesters_of store.old attestation.now) }
+    ensures same { store.new ≡ store.old }
+    ensures keeper { keeper.new ≡ keeper.old }
 {
     match store.checkpoint_state(attestation.content.target) {
-        Some(target) => judge_kept(alloc, store, target, attestation),
-        None => judge_anew(alloc, store, keeper, attestation),
-    }
-}
-
-/// The attesters of an attestation that may count now.
-#[tactic(auto, unfolding(crate::specs::inside::Votes::judged))]
-fn judge(
-    alloc: Global,
-    store: &StoreFields,
-    keeper: &mut Keeper<ChainStepper>,
-    array: &BlockArray,
-    attestation: &Attestation,
-    is_from_block: bool,
-) -> Result<Judged, Stop>
-    requires nodes { AreNodesOf store.now.blocks array.now.nodes }
-    requires keeper { IsKeeperOf store.now keeper.old }
-    ensures exact { GivesBy (λ judged. judged.indices.items) result (judged store.now attestation.now is_from_block) }
-    ensures made { IfOk result (λ judged. IfSome judged.made (λ made. IsStateOf store.now made)) }
-    ensures same { keeper.new ≡ keeper.old }
-{
-    validate_on_attestation(store, keeper, array, attestation, is_from_block)?;
-    judge_target(alloc, store, keeper, attestation)
-}
-
-/// Keeps the state of a target that was made. What contracts see of the store stays.
-fn keep_made(store: &mut StoreFields, made: Option<CheckpointState>) -> Result<(), NoMemory>
-    requires { IfSome made (λ state. IsStateOf store.old state) }
-    ensures { store.new ≡ store.old }
-{
-    match made {
-        Some(state) => store.keep_checkpoint_state(state),
-        None => Ok(()),
+        Some(target) => attesters_by(alloc, store, target, attestation),
+        None => attesters_anew(alloc, store, keeper, attestation),
     }
 }
 
 /// The attesters of an attestation that may count now. Its target's state is kept. What contracts see of the store and the keeper
 /// stays.
-fn take_attesters(
+#[tactic(auto, unfolding(store_parts::specs::inside::Votes::judged))]
+fn judge(
     alloc: Global,
     store: &mut StoreFields,
     keeper: &mut Keeper<ChainStepper>,
@@ -199,10 +80,8 @@ fn take_attesters(
     ensures same { store.new ≡ store.old }
     ensures keeper { keeper.new ≡ keeper.old }
 {
-    let judged = judge(alloc, store, keeper, array, attestation, is_from_block)?;
-    let Judged { indices, made } = judged;
-    keep_made(store, made)?;
-    Ok(indices)
+    validate_on_attestation(store, keeper, array, attestation, is_from_block)?;
+    attesters_of(alloc, store, keeper, attestation)
 }
 
 impl Store {
@@ -212,7 +91,7 @@ impl Store {
     /// Refused, in this order: as `validate_on_attestation` has it; as the slots up to the target's first one are, with their
     /// limit; `FcCommittee`, `FcBitsShort`, `FcEmpty`. After a stop the store is as before. It never clashes, and gives the array
     /// no balances.
-    #[tactic(auto, using(crate::proofs::Votes::handling, crate::proofs::Votes::voted_is_kept, crate::proofs::Walks::whole_nodes))]
+    #[tactic(auto, using(store_parts::proofs::Votes::handling, store_parts::proofs::Votes::voted_is_kept, store_parts::proofs::Walks::whole_nodes))]
     pub fn on_attestation(
         &mut self,
         alloc: Global,
@@ -222,7 +101,7 @@ impl Store {
         ensures exact { StoreChanges result self.old.plain self.new.plain (event_of (on_attestation self.old.plain attestation.now from_block)) }
         ensures unset { self.new.array.balances_set ≡ self.old.array.balances_set }
     {
-        let indices = take_attesters(
+        let indices = judge(
             alloc,
             &mut self.fields,
             &mut self.keeper,

@@ -1,58 +1,37 @@
 //! Blocks (fork-choice.md, "on_block").
 
 ghost use Rattle.std.specs.Prelude.{◌≡◌, ◌<◌, ◌-◌, ◌^◌, length, IfOk};
-ghost use Rattle.bc_words.specs.Outcome.{Gives, GivesExactly};
-ghost use Rattle.fork_store.specs.inside.Stores.{IsRootOf, IsBehind};
-ghost use Rattle.fork_store.specs.inside.Trees.{HasParent};
+ghost use Rattle.bc_words.specs.Outcome.{Gives};
+ghost use Rattle.store_parts.specs.inside.Stores.{IsRootOf, IsBehind};
+ghost use Rattle.store_parts.specs.inside.Trees.{HasParent};
 ghost use Rattle.spec_fork_choice.specs.Clash.{clash_of};
 ghost use Rattle.spec_fork_choice.specs.OnBlock.{block_step, accept_block, on_block};
-ghost use Rattle.fork_store.specs.inside.Accepted.{check_block};
-ghost use Rattle.fork_store.specs.inside.Accepts.{Accepts};
-ghost use Rattle.fork_store.specs.inside.Arrays.{AreNodesOf};
-ghost use Rattle.fork_store.specs.inside.Wholes.{IsWhole};
-ghost use Rattle.fork_store.specs.inside.Chains.{IsChained, IsLinked};
-ghost use Rattle.fork_store.specs.inside.Keepers.{IsKeeperOf, IsStepOn};
+ghost use Rattle.store_parts.specs.inside.Accepts.{Accepts};
+ghost use Rattle.store_parts.specs.inside.Arrays.{AreNodesOf};
+ghost use Rattle.store_parts.specs.inside.Wholes.{IsWhole};
+ghost use Rattle.store_parts.specs.inside.Chains.{IsChained, IsLinked};
+ghost use Rattle.store_parts.specs.inside.Keepers.{IsKeeperOf, IsStepOn};
 
 use crate::accept_block::{accept, keep_justified};
-use crate::block_in::BlockIn;
-use crate::chain_stepper::ChainStepper;
-use crate::clash_of::clash_of;
-use crate::get_ancestor::get_ancestor;
 use crate::kept_state::kept_state;
-use crate::ready_balances::ReadyBalances;
-use crate::slots::{current_slot, start_slot};
 use crate::store::Store;
-use crate::store_fields::StoreFields;
 use bc_words::{Refusal, Stop, StoreStop};
-use beacon_body::{BeaconBlock, SignedBeaconBlock};
+use beacon_body::SignedBeaconBlock;
 use block_array::BlockArray;
 use hash_tree::Root;
 use state_keeper::Keeper;
 use std::alloc::Global;
+use store_parts::block_in::BlockIn;
+use store_parts::chain_stepper::ChainStepper;
+use store_parts::check_block::check_block;
+use store_parts::clash_of::clash_of;
+use store_parts::ready_balances::ReadyBalances;
+use store_parts::store_fields::StoreFields;
 use transition::Step;
 use transition::state_transition::state_transition;
 
-/// The checks of a block whose parent is kept.
-#[tactic(auto, unfolding(crate::specs::inside::Accepted::check_block))]
-fn check_block(store: &StoreFields, array: &BlockArray, block: &BeaconBlock) -> Result<(), Stop>
-    requires { AreNodesOf store.now.blocks array.now.nodes }
-    ensures { GivesExactly result (check_block store.now block.now) }
-{
-    if block.slot > current_slot(store) {
-        return Err(Stop::Refused(Refusal::FutureBlock));
-    }
-    let finalized_slot = start_slot(store, store.finalized());
-    if u128::from(block.slot) <= finalized_slot {
-        return Err(Stop::Refused(Refusal::BeforeFinalized));
-    }
-    if get_ancestor(store, array, block.parent_root, finalized_slot) != store.finalized().root {
-        return Err(Stop::Refused(Refusal::NotOnFinalized));
-    }
-    Ok(())
-}
-
 /// The checks of a block, and the step of its parent's state by it. The keeper is as before.
-#[tactic(auto, using(crate::proofs::Steps::state_root_is, crate::proofs::Stepping::stepping, crate::proofs::Keepers::keeping))]
+#[tactic(auto, using(store_parts::proofs::Steps::state_root_is, store_parts::proofs::Stepping::stepping, store_parts::proofs::Keepers::keeping))]
 fn block_step(
     alloc: Global,
     store: &StoreFields,
@@ -83,7 +62,7 @@ fn block_step(
 }
 
 /// Takes a valid block into the store, unless its root is no name for it alone.
-#[tactic(auto, using(crate::proofs::Steps::is_kept, crate::proofs::Steps::is_named), unfolding(spec_fork_choice::specs::OnBlock::accept_block))]
+#[tactic(auto, using(store_parts::proofs::Steps::is_kept, store_parts::proofs::Steps::is_named), unfolding(spec_fork_choice::specs::OnBlock::accept_block))]
 fn accept_unless(
     alloc: Global,
     store: &mut StoreFields,
@@ -112,8 +91,14 @@ fn accept_unless(
     match clash_of(store.blocks(), keeper, root, &block.message) {
         Some(kind) => Err(StoreStop::Clash(kind)),
         None => {
-            keep_justified(alloc, store, keeper, &step.state)?;
-            Ok(accept(alloc, store, keeper, array, ready, block, root, step)?)
+            let Step { state, entered } = step;
+            keep_justified(alloc, store, keeper, &state)?;
+            accept(alloc, store, keeper, array, ready, block, root, state)?;
+            Ok(BlockIn {
+                root,
+                state_root: block.message.state_root,
+                entered,
+            })
         }
     }
 }
@@ -125,7 +110,7 @@ impl Store {
     /// Refused, in this order: as `ParentUnknown`, `FutureBlock`, `BeforeFinalized`, `NotOnFinalized`, and as the state
     /// transition is. Limited as that is too. A clash comes last, where the block's root or state root is zero or another block
     /// of its root is kept. Where the justified checkpoint stays, the array is given no balances.
-    #[tactic(auto, using(crate::proofs::Walks::whole_nodes), unfolding(spec_fork_choice::specs::OnBlock::on_block, crate::specs::inside::Stores::IsRootOf, spec_transition::specs::StateTransition::IsLatest))]
+    #[tactic(auto, using(store_parts::proofs::Walks::whole_nodes), unfolding(spec_fork_choice::specs::OnBlock::on_block, store_parts::specs::inside::Stores::IsRootOf, spec_transition::specs::StateTransition::IsLatest))]
     pub fn on_block(
         &mut self,
         alloc: Global,

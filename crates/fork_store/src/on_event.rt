@@ -2,19 +2,19 @@
 //!
 //! The payload's bytes come from a record; the store changes, and what an accepted block leaves goes to the event's line.
 
-ghost use Rattle.std.specs.Prelude.{◌≡◌, ◌<◌, ◌-◌, ◌^◌, Some, length};
+ghost use Rattle.std.specs.Prelude.{◌<◌, ◌-◌, ◌^◌, Some, length};
 ghost use Rattle.beacon_body.specs.Containers.{signed_block_codec, attestation_codec};
 ghost use Rattle.spec_fork_choice.specs.OnTick.{on_tick};
 ghost use Rattle.spec_fork_choice.specs.OnAttestation.{on_attestation};
 ghost use Rattle.spec_fork_choice.specs.OnEvent.{without_block, handle_tick, handle_block, handle_attestation, on_event};
 ghost use Rattle.fork_store.specs.inside.Events.{AcceptsBy, accepted_of};
 
-use crate::block_in::BlockIn;
 use crate::store::Store;
 use bc_words::{Refusal, StoreStop};
 use beacon_body::{Attestation, SignedBeaconBlock};
 use ssz_codec::{Ssz, SszFault};
 use std::alloc::Global;
+use store_parts::block_in::BlockIn;
 
 /// What an accepted event gives beside the new store.
 #[derive(Drop)]
@@ -26,7 +26,7 @@ pub enum Accepted {
 }
 
 /// Takes the time of a tick.
-#[tactic(auto, using(crate::proofs::Events::ticking))]
+#[tactic(auto, using(store_parts::proofs::Events::ticking))]
 fn take_tick(store: &mut Store, time: u64) -> Result<Accepted, StoreStop>
     ensures { AcceptsBy accepted_of result store.old.plain store.new.plain (without_block (on_tick store.old.plain time)) }
 {
@@ -50,7 +50,7 @@ fn handle_tick(store: &mut Store, payload: &[u8]) -> Result<Accepted, StoreStop>
 }
 
 /// Takes a signed block.
-#[tactic(auto, unfolding(spec_fork_choice::specs::OnEvent::handle_block), using(crate::proofs::Events::blocks))]
+#[tactic(auto, unfolding(spec_fork_choice::specs::OnEvent::handle_block), using(store_parts::proofs::Events::blocks))]
 fn take_block(
     alloc: Global,
     store: &mut Store,
@@ -76,7 +76,7 @@ fn handle_block(alloc: Global, store: &mut Store, payload: &[u8]) -> Result<Acce
 }
 
 /// Takes an attestation from the wire or from a block.
-#[tactic(auto, using(crate::proofs::Events::voting))]
+#[tactic(auto, using(store_parts::proofs::Events::voting))]
 fn take_attestation(
     alloc: Global,
     store: &mut Store,

@@ -3,19 +3,19 @@
 ghost use Rattle.std.specs.Prelude.{◌≡◌, ◌⊎◌};
 ghost use Rattle.bc_words.specs.Outcome.{ChangesOrRefuses};
 ghost use Rattle.spec_fork_choice.specs.OnTick.{is_better_justified, in_new_epoch, in_new_slot, on_tick};
-ghost use Rattle.spec_state.specs.Genesis.{zero_root};
-ghost use Rattle.fork_store.specs.inside.Arrays.{AreNodesOf, IsArrayOf};
-ghost use Rattle.fork_store.specs.inside.Wholes.{IsReady};
-ghost use Rattle.fork_store.specs.inside.Following.{with_told, AreKept};
+ghost use Rattle.store_parts.specs.inside.Arrays.{AreNodesOf, IsArrayOf};
+ghost use Rattle.store_parts.specs.inside.Wholes.{IsReady};
+ghost use Rattle.store_parts.specs.inside.Following.{with_told, AreKept};
 
-use crate::follow::{Told, feed_best, follow, told_of};
-use crate::get_ancestor::is_behind;
-use crate::ready_balances::ReadyBalances;
-use crate::slots::{current_slot, slots_since_epoch_start};
+use crate::feed::feed_best;
 use crate::store::Store;
-use crate::store_fields::StoreFields;
 use bc_words::Refusal;
 use block_array::BlockArray;
+use store_parts::follow::{Told, follow, told_of};
+use store_parts::get_ancestor::is_behind;
+use store_parts::ready_balances::ReadyBalances;
+use store_parts::slots::{current_slot, slots_since_epoch_start};
+use store_parts::store_fields::StoreFields;
 
 /// Whether the best justified checkpoint is better than the justified one, and behind the finalized one.
 #[tactic(auto, unfolding(spec_fork_choice::specs::OnTick::is_better_justified))]
@@ -100,7 +100,7 @@ impl Store {
     ///
     /// Refused as `TickBack` where it is before the store's, which is then as it was. Where the justified checkpoint stays, the
     /// array is given no balances.
-    #[tactic(auto, using(crate::proofs::Ticks::ticking, crate::proofs::Walks::whole_nodes, crate::proofs::Keepers::keeping))]
+    #[tactic(auto, using(store_parts::proofs::Ticks::ticking, store_parts::proofs::Walks::whole_nodes, store_parts::proofs::Keepers::keeping))]
     pub fn on_tick(&mut self, time: u64) -> Result<(), Refusal>
         ensures exact { ChangesOrRefuses result self.old.plain self.new.plain (on_tick self.old.plain time) }
         ensures unset { self.new.plain.justified_checkpoint ≡ self.old.plain.justified_checkpoint → self.new.array.balances_set ≡ self.old.array.balances_set }

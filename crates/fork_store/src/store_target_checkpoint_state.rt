@@ -4,44 +4,28 @@ ghost use Rattle.std.specs.Prelude.{◌≡◌, ◌<◌, ◌^◌, IfOk};
 ghost use Rattle.bc_words.specs.Outcome.{Gives, GivesBy};
 ghost use Rattle.spec_state.specs.Soundness.{IsSound};
 ghost use Rattle.spec_fork_choice.specs.Slots.{start_slot_of};
-ghost use Rattle.spec_fork_choice.specs.StoreTargetCheckpointState.{state_at, store_target_checkpoint_state};
-ghost use Rattle.fork_store.specs.inside.CheckpointStates.{IsStateOf};
-ghost use Rattle.fork_store.specs.inside.Keepers.{IsKeeperOf};
+ghost use Rattle.spec_fork_choice.specs.StoreTargetCheckpointState.{store_target_checkpoint_state};
+ghost use Rattle.store_parts.specs.inside.CheckpointStates.{IsStateOf};
+ghost use Rattle.store_parts.specs.inside.Keepers.{IsKeeperOf};
 
-use crate::chain_stepper::ChainStepper;
-use crate::checkpoint_states::CheckpointState;
 use crate::kept_state::kept_state;
-use crate::slots::start_slot;
-use crate::store_fields::StoreFields;
 use balance_totals::committees_of_epoch;
 use bc_words::{NoMemory, Refusal, Stop};
 use beacon_state::State;
 use beacon_types::Checkpoint;
+use checkpoint_states::CheckpointState;
 use state_keeper::Keeper;
 use std::alloc::Global;
-use transition::process_slots::process_slots;
-
-/// The state taken on to a slot, where it is earlier.
-#[tactic(auto, unfolding(spec_fork_choice::specs::StoreTargetCheckpointState::state_at))]
-fn state_at(alloc: Global, store: &StoreFields, state: &State, slot: u64) -> Result<State, Stop>
-    requires sound { IsSound state.now }
-    requires preset { state.now.preset ≡ store.now.config.preset }
-    ensures exact { Gives result (state_at store.now state.now slot) }
-    ensures sound { IfOk result (λ taken. IsSound taken) }
-    ensures preset { IfOk result (λ taken. taken.preset ≡ store.now.config.preset) }
-{
-    if slot <= state.slot() {
-        return Ok(state.share()?);
-    }
-    let step = process_slots(alloc, state, slot, store.config())?;
-    Ok(step.state)
-}
+use store_parts::chain_stepper::ChainStepper;
+use store_parts::slots::start_slot;
+use store_parts::state_at::state_at;
+use store_parts::store_fields::StoreFields;
 
 /// The state of a checkpoint whose epoch begins at a slot of 64 bits, made anew: that of its root, taken on to the first slot of
 /// its epoch. The keeper is as before.
 ///
 /// Refused as `FcTargetUnknown` where the root isn't kept, and refused and limited as the slots are.
-#[tactic(auto, using(crate::proofs::Keepers::targeting))]
+#[tactic(auto, using(store_parts::proofs::Keepers::targeting))]
 fn state_anew(
     alloc: Global,
     store: &StoreFields,
@@ -84,7 +68,7 @@ pub(crate) fn store_target_checkpoint_state(
 }
 
 /// The state of such a checkpoint, made anew, with the committees of its epoch. The keeper is as before.
-#[tactic(auto, using(crate::proofs::CheckpointStates::epoch_is_low))]
+#[tactic(auto, using(store_parts::proofs::CheckpointStates::epoch_is_low))]
 pub(crate) fn checkpoint_state_anew(
     alloc: Global,
     store: &StoreFields,

@@ -1,58 +1,22 @@
 //! The votes of an attestation (fork-choice.md, "update_latest_messages").
 
-ghost use Rattle.std.specs.Prelude.{◌≡◌, ◌<◌, ◌≤◌, true, length, IfOk};
+ghost use Rattle.std.specs.Prelude.{◌≡◌, true};
 ghost use Rattle.bc_words.specs.Outcome.{Becomes};
 ghost use Rattle.spec_fork_choice.specs.Store.{is_kept};
 ghost use Rattle.spec_fork_choice.specs.UpdateLatestMessages.{update_latest_messages};
-ghost use Rattle.fork_store.specs.inside.Messages.{AllBelow};
-ghost use Rattle.fork_store.specs.inside.ArrayVotes.{updated_array};
-ghost use Rattle.fork_store.specs.inside.Wholes.{IsWhole};
+ghost use Rattle.store_parts.specs.inside.Wholes.{IsWhole};
 
-use crate::number_of::number_of;
-use crate::ready_balances::ReadyBalances;
-use crate::store_fields::StoreFields;
 use bc_words::NoMemory;
 use beacon_body::Attestation;
 use block_array::BlockArray;
-
-/// How many places a list needs so that it has one for each of these indices. Without memory where no list is so long.
-fn places_for(indices: &[u64]) -> Result<usize, NoMemory>
-    ensures { IfOk result (λ places. AllBelow places indices.now) }
-{
-    let mut places = 0;
-    for i in 0..indices.len() {
-        places = places_with(places, indices[i])?;
-    }
-    Ok(places)
-}
-
-/// So many places, or more where an index needs more.
-fn places_with(places: usize, index: u64) -> Result<usize, NoMemory>
-    ensures index { IfOk result (λ more. index < more) }
-    ensures more { IfOk result (λ more. places ≤ more) }
-{
-    if index == u64::MAX {
-        return Err(NoMemory);
-    }
-    let needed = index as usize + 1;
-    Ok(if places < needed { needed } else { places })
-}
-
-/// Takes the votes of these validators for a node. There is room for all.
-#[tactic(auto, using(crate::proofs::Voting::each_votes))]
-fn vote_all(array: &mut BlockArray, indices: &[u64], node: u32, epoch: u64)
-    requires room { AllBelow array.old.spare_validators indices.now }
-    requires node { node < length array.old.nodes }
-    ensures { array.new ≡ updated_array array.old indices.now (record { epoch = epoch; node = node }) }
-{
-    for i in 0..indices.len() {
-        let _room = array.vote(indices[i], node, epoch);
-    }
-}
+use store_parts::number_of::number_of;
+use store_parts::ready_balances::ReadyBalances;
+use store_parts::store_fields::StoreFields;
+use store_parts::vote_all::{places_for, vote_all};
 
 /// Takes the attestation's vote for each of these validators to whom it is news. Where memory is refused, the store is as
 /// before: all room is made first.
-#[tactic(auto, using(crate::proofs::Voting::voting))]
+#[tactic(auto, using(store_parts::proofs::Voting::voting))]
 pub(crate) fn update_latest_messages(
     store: &mut StoreFields,
     array: &mut BlockArray,

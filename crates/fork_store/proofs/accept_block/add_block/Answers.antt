@@ -1,16 +1,16 @@
-use Rattle.std.proofs.Common.{◌≡◌, ◌∙◌, List, Some, None, rules, sym, ap, subst}
+use Rattle.std.proofs.Common.{◌≡◌, ◌∙◌, ◌<◌, ◌^◌, List, length, Some, None, arith, rules, sym, ap, subst}
 use Rattle.block_array.specs.PlainArray.{PlainArray}
-use Rattle.beacon_types.specs.declared.checkpoint.Checkpoint.{Checkpoint}
+use Rattle.block_array.specs.declared.facts.Facts.{Facts}
 use Rattle.block_array.specs.Calls.{with_node}
 use Rattle.spec_fork_choice.specs.Store.{KeptBlock}
 use Rattle.beacon_body.specs.declared.signed_block.SignedBeaconBlock.{SignedBeaconBlock}
-use Rattle.fork_store.specs.inside.Accepted.{kept_of}
-use Rattle.fork_store.specs.inside.Arrays.{number_of}
-use Rattle.fork_store.specs.inside.Keepers.{IsStepOn}
-use Rattle.fork_store.specs.inside.Stores.{IsKept}
-use Rattle.fork_store.specs.inside.Trees.{Follows}
-use Rattle.fork_store.proofs.Trees.{follows}
-use Rattle.fork_store.proofs.Adding.{parent_numbered, parent_fits, node_added, spare_array, block_array, array_same}
+use Rattle.store_parts.specs.inside.Accepted.{kept_of}
+use Rattle.store_parts.specs.inside.Arrays.{number_of}
+use Rattle.store_parts.specs.inside.Keepers.{IsStepOn}
+use Rattle.store_parts.specs.inside.Stores.{IsKept}
+use Rattle.store_parts.specs.inside.Trees.{Follows}
+use Rattle.store_parts.proofs.Trees.{follows}
+use Rattle.store_parts.proofs.Adding.{few_nodes, parent_numbered, parent_fits, node_added, spare_array, block_array, array_same}
 use Rattle.fork_store.proofs.accept_block.add_block.Goals as goal
 
 pub unreachable-requires : goal.unreachable-requires
@@ -36,11 +36,10 @@ returns-clause-array c =
     c.requires.array c.in_ok-reserve.ensures c.requires.named
     (subst (λ (blocks : List KeptBlock). Some c.in-Some.parent ≡ number_of blocks c.args.block.now.message.parent_root) c.blocks-2.ensures c.in-Some.ensures)
     (search rules)
-    (subst (λ (j : Checkpoint). c.push-room.new.self ≡ with_node c.reserve.new.self c.in-Some.parent c.args.block.now.message.slot c.args.root (record { justified = j; finalized = c.args.state.finalized_checkpoint })) c.current_justified_checkpoint.ensures
-    (subst (λ (f : Checkpoint). c.push-room.new.self ≡ with_node c.reserve.new.self c.in-Some.parent c.args.block.now.message.slot c.args.root (record { justified = c.current_justified_checkpoint.result; finalized = f })) c.finalized_checkpoint.ensures
+    (subst (λ (f : Facts). c.push-room.new.self ≡ with_node c.reserve.new.self c.in-Some.parent c.args.block.now.message.slot c.args.root f) c.facts_of-facts.ensures
     (node_added c.push-room.result c.args.array.now c.reserve.new.self c.push-room.new.self
-    (with_node c.reserve.new.self c.in-Some.parent c.args.block.now.message.slot c.args.root (record { justified = c.current_justified_checkpoint.result; finalized = c.finalized_checkpoint.result }))
-    c.in_ok-reserve.ensures c.push-room.ensures.pushed c.push-room.ensures.spare)))
+    (with_node c.reserve.new.self c.in-Some.parent c.args.block.now.message.slot c.args.root c.facts_of-facts.result)
+    c.in_ok-reserve.ensures c.push-room.ensures.pushed c.push-room.ensures.spare))
 
 pub returns-in_err-copy-clause-unset : goal.returns-in_err-copy-clause-unset
 returns-in_err-copy-clause-unset c = ap (λ (a : PlainArray). a.balances_set) c.in_ok-reserve.ensures
@@ -69,3 +68,9 @@ pub keep-requires-clause-follows : goal.keep-requires-clause-follows
 keep-requires-clause-follows c =
     subst (λ (b : SignedBeaconBlock). Follows c.args.store.now.blocks (kept_of c.args.root b.message c.args.state)) (sym c.in_ok-copy.ensures)
     (follows c.args.store.now.blocks c.args.root c.args.block.now.message c.args.state c.requires.fresh c.requires.parent)
+
+pub number_of-requires : goal.number_of-requires
+number_of-requires c = subst (λ (blocks : List KeptBlock). length blocks < 2 ^ 32) (sym c.blocks-2.ensures) (omega (arith, c.requires.few))
+
+pub push-room-requires-clause-few : goal.push-room-requires-clause-few
+push-room-requires-clause-few c = few_nodes c.args.store.now c.args.array.now c.reserve.new.self c.requires.array c.in_ok-reserve.ensures c.requires.few

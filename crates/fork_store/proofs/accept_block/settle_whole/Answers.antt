@@ -1,6 +1,6 @@
 use Rattle.std.proofs.Common.{◌∙◌, sym, ap}
-use Rattle.fork_store.specs.declared.follow.Told.{Told}
-use Rattle.fork_store.proofs.Settling.{settle_array, settle_moved, settle_kept}
+use Rattle.store_parts.specs.declared.follow.Told.{Told}
+use Rattle.store_parts.proofs.Settling.{settle_array, settle_moved, settle_kept}
 use Rattle.fork_store.proofs.accept_block.settle_whole.Goals as goal
 
 pub feed-requires-clause-array : goal.feed-requires-clause-array

@@ -1,5 +1,5 @@
 use Rattle.spec_fork_choice.specs.OnAttestation.{on_attestation}
-use Rattle.fork_store.proofs.Events.{vote_stops}
+use Rattle.store_parts.proofs.Events.{vote_stops}
 use Rattle.fork_store.proofs.on_event.take_attestation.Goals as goal
 
 pub returns-in-Err : goal.returns-in-Err

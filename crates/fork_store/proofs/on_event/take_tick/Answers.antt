@@ -1,5 +1,5 @@
 use Rattle.spec_fork_choice.specs.OnTick.{on_tick}
-use Rattle.fork_store.proofs.Events.{tick_refused}
+use Rattle.store_parts.proofs.Events.{tick_refused}
 use Rattle.fork_store.proofs.on_event.take_tick.Goals as goal
 
 pub returns-in-Err : goal.returns-in-Err

@@ -1,7 +1,7 @@
 use Rattle.std.proofs.Common.{List, subst}
 use Rattle.spec_fork_choice.specs.Store.{KeptBlock}
-use Rattle.fork_store.specs.inside.Keepers.{IsStateBehind}
-use Rattle.fork_store.proofs.Keepers.{behind_sound, behind_preset, gives_target}
+use Rattle.store_parts.specs.inside.Keepers.{IsStateBehind}
+use Rattle.store_parts.proofs.Keepers.{behind_sound, behind_preset, gives_target}
 use Rattle.fork_store.proofs.store_target_checkpoint_state.state_anew.Goals as goal
 
 pub state_at-requires-clause-sound : goal.state_at-requires-clause-sound

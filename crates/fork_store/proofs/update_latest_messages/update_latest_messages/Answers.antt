@@ -1,6 +1,6 @@
 use Rattle.std.proofs.Common.{◌∙◌, ap}
 use Rattle.block_array.specs.PlainArray.{PlainArray}
-use Rattle.fork_store.proofs.Voting.{store_voted, array_voted, votes_whole, votes_unset}
+use Rattle.store_parts.proofs.Voting.{store_voted, array_voted, votes_whole, votes_unset}
 use Rattle.fork_store.proofs.update_latest_messages.update_latest_messages.Goals as goal
 
 pub returns-clause-exact : goal.returns-clause-exact

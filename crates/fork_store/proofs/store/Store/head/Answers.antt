@@ -1,4 +1,4 @@
-use Rattle.fork_store.proofs.Heads.{made_whole}
+use Rattle.store_parts.proofs.Heads.{made_whole}
 use Rattle.fork_store.proofs.store.Store.head.Goals as goal
 
 pub invariant_of-self : goal.invariant_of-self

@@ -1,0 +1,90 @@
+-- The checks of a block and the step of its parent's state, one after another.
+use Rattle.std.proofs.Common.{◌≡◌, ◌∙◌, ℕ, true, false, leb, nat_lt, Option, Some, None, Result, is_some, refl, sym, ap, subst}
+use Rattle.bc_words.specs.Outcome.{Outcome, done, refused, bind, Stops, StopsExactly, Gives}
+use Rattle.bc_words.specs.declared.stop.Stop.{Stop}
+use Rattle.bc_words.specs.declared.refusal.Refusal.TheVariants.{ParentUnknown, FutureBlock, BeforeFinalized, NotOnFinalized}
+use Rattle.bc_words.proofs.Outcomes.{stops_bound, stops_exactly}
+use Rattle.bc_preset.specs.Presets.{IsPreset}
+use Rattle.beacon_types.specs.Equality.{same_root}
+use Rattle.beacon_body.specs.declared.signed_block.SignedBeaconBlock.{SignedBeaconBlock}
+use Rattle.spec_state.specs.declared.plain.PlainState.{PlainState}
+use Rattle.spec_blocks.specs.Checks.{check}
+use Rattle.spec_transition.specs.ProcessSlots.{Stepped}
+use Rattle.spec_transition.specs.StateTransition.{state_transition}
+use Rattle.spec_fork_choice.specs.Store.{KeptBlock, Store, block_of, is_kept}
+use Rattle.spec_fork_choice.specs.Slots.{get_current_slot, start_slot_of}
+use Rattle.spec_fork_choice.specs.GetAncestor.{get_ancestor}
+use Rattle.spec_fork_choice.specs.StoreTargetCheckpointState.{kept_or}
+use Rattle.spec_fork_choice.specs.OnBlock.{block_step}
+use Rattle.store_parts.specs.inside.Accepted.{check_block}
+use Rattle.store_parts.specs.inside.Chains.{IsChained, IsLinked}
+use Rattle.store_parts.specs.inside.Keepers.{IsStateBehind, IsStepOn}
+use Rattle.store_parts.specs.inside.Stores.{IsStore}
+use Rattle.store_parts.specs.inside.Trees.{HasParent}
+use Rattle.store_parts.proofs.Chains.{block_state_is_linked}
+use Rattle.store_parts.proofs.Finds.{no_block}
+use Rattle.store_parts.proofs.Keepers.{behind_sound, behind_preset, from_kept, is_step}
+use Rattle.store_parts.proofs.Trees.{has_parent}
+use Rattle.store_parts.proofs.Votes.{assoc, same_next}
+
+found_kept : (o : Option KeptBlock) → is_some o ≡ true → (k : KeptBlock) × (o ≡ Some k)
+found_kept (Some k) is = (k, refl)
+found_kept None is = absurd cc
+
+module _ (store : Store) (block : SignedBeaconBlock) where
+  abbrev finalized_slot : ℕ
+  finalized_slot = start_slot_of store store.finalized_checkpoint
+
+  -- by a parent that is found
+  on_parent : (kept : KeptBlock) → block_of store.blocks block.message.parent_root ≡ Some kept → bind (check_block store block.message) (λ _. state_transition kept.state block store.config) ≡ block_step store block
+  unfolding check_block block_step kept_or
+  on_parent kept is =
+      let step : Unit {0} → Outcome Stepped = λ _. state_transition kept.state block store.config in
+      let future : Outcome (Unit {0}) = check (leb block.message.slot (get_current_slot store)) FutureBlock in
+      let before : Outcome (Unit {0}) = check (nat_lt finalized_slot block.message.slot) BeforeFinalized in
+      let behind : Outcome (Unit {0}) = check (same_root (get_ancestor store block.message.parent_root finalized_slot) store.finalized_checkpoint.root) NotOnFinalized in
+      assoc future (λ _. bind before (λ _. behind)) step
+      ∙ same_next future (λ _. bind (bind before (λ _. behind)) step) (λ _. bind before (λ _. bind behind step)) (λ _. assoc before (λ _. behind) step)
+      ∙ ap (λ (o : Option KeptBlock). bind (kept_or ParentUnknown o) (λ k. bind future (λ _. bind before (λ _. bind behind (λ _. state_transition k.state block store.config))))) (sym is)
+
+  pub parent_unknown : is_kept store.blocks block.message.parent_root ≡ false → block_step store block ≡ refused ParentUnknown
+  unfolding block_step kept_or is_kept
+  parent_unknown not =
+      ap (λ (o : Option KeptBlock). bind (kept_or ParentUnknown o) (λ k. bind (check (leb block.message.slot (get_current_slot store)) FutureBlock) (λ _. bind (check (nat_lt finalized_slot block.message.slot) BeforeFinalized) (λ _. bind (check (same_root (get_ancestor store block.message.parent_root finalized_slot) store.finalized_checkpoint.root) NotOnFinalized) (λ _. state_transition k.state block store.config)))))
+      (sym (no_block (block_of store.blocks block.message.parent_root) not))
+
+  -- a check that stops
+  pub check_stops : (stop : Stop) → is_kept store.blocks block.message.parent_root ≡ true → StopsExactly stop (check_block store block.message) → Stops stop (block_step store block)
+  unfolding is_kept
+  check_stops stop known stops =
+      let (kept, there) = found_kept (block_of store.blocks block.message.parent_root) known in
+      subst (Stops stop) (on_parent kept there) (stops_bound stop (check_block store block.message) (λ _. state_transition kept.state block store.config) (stops_exactly stop (check_block store block.message) stops))
+
+  module _ (parent : PlainState) (behind : IsStateBehind store.blocks block.message.parent_root parent) (checked : Unit {0}) (passes : check_block store block.message ≡ done checked) where
+    step_is : state_transition parent block store.config ≡ block_step store block
+    step_is =
+        ap (λ (s : PlainState). state_transition s block store.config) (sym behind.same)
+        ∙ ap (λ (o : Outcome (Unit {0})). bind o (λ _. state_transition behind.kept.state block store.config)) (sym passes)
+        ∙ on_parent behind.kept behind.found
+
+    -- and the step behind them
+    pub step_gives : (result : Result Stepped Stop) → Gives result (state_transition parent block store.config) → Gives result (block_step store block)
+    step_gives result gives = subst (Gives result) step_is gives
+
+    pub step_stops : (stop : Stop) → Stops stop (state_transition parent block store.config) → Stops stop (block_step store block)
+    step_stops stop stops = subst (Stops stop) step_is stops
+
+    pub step_done : (step : Stepped) → state_transition parent block store.config ≡ done step → block_step store block ≡ done step
+    step_done step is = sym step_is ∙ is
+
+module _ (store : Store) (block : SignedBeaconBlock) (parent : PlainState) (step : Stepped) (behind : IsStateBehind store.blocks block.message.parent_root parent) (is : state_transition parent block store.config ≡ done step) where
+  pub step_parent : HasParent store.blocks block.message
+  step_parent = has_parent store.blocks behind.kept block store.config step (sym behind.found) behind.good (from_kept store.config store.blocks block parent step behind is)
+
+  pub step_linked : IsChained store → IsPreset store.config.preset → IsLinked store.config store.blocks step.state
+  step_linked chained preset = block_state_is_linked store behind.kept block step chained preset (sym behind.found) behind.good (from_kept store.config store.blocks block parent step behind is)
+
+  pub stepped_on : IsStore store → IsStepOn store.config store.blocks block step.state
+  stepped_on sound = is_step store.config store.blocks block parent step behind is sound.presets
+
+pub ruleset stepping = (behind_sound, behind_preset, parent_unknown, check_stops, step_stops, step_done, step_parent, step_linked, stepped_on)

@@ -1,0 +1,2 @@
+pub mod ChainStep
+pub mod inside

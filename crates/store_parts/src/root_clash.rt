@@ -1,0 +1,44 @@
+//! Whether the roots of a block that would be accepted are no names for it alone. The block comes from an event, the
+//! one that it is compared with is the kept block of its root.
+
+ghost use Rattle.std.specs.Prelude.{◌≡◌, option_map};
+ghost use Rattle.std.specs.Bool.{Decides};
+ghost use Rattle.spec_fork_choice.specs.SameBlock.{same_block as same_blocks};
+ghost use Rattle.spec_fork_choice.specs.Clash.{clashes, is_another as another};
+
+use beacon_body::BeaconBlock;
+use hash_tree::Root;
+
+/// Whether the roots of a block clash: one of them is zero, or the kept block of its root, if there is one, is another
+/// block. Signatures don't count. It takes no memory.
+#[tactic(auto, unfolding(spec_fork_choice::specs::Clash::clashes))]
+pub fn clash(root: Root, state_root: Root, kept: Option<&BeaconBlock>, new: &BeaconBlock) -> bool
+    ensures { result ≡ clashes root state_root (option_map (λ b. b.now) kept.entry) new.now }
+{
+    root == [0; 32] || state_root == [0; 32] || is_another(kept, new)
+}
+
+/// Whether a kept block is there and is another one.
+#[tactic(auto, unfolding(spec_fork_choice::specs::Clash::is_another))]
+pub fn is_another(kept: Option<&BeaconBlock>, new: &BeaconBlock) -> bool
+    ensures { result ≡ another (option_map (λ b. b.now) kept.entry) new.now }
+{
+    match kept {
+        Some(other) => !same_block(other, new),
+        None => false,
+    }
+}
+
+/// Whether two blocks are the same.
+#[tactic(auto, using(spec_fork_choice::proofs::SameBlock::block_decides))]
+fn same_block(a: &BeaconBlock, b: &BeaconBlock) -> bool
+    ensures { result ≡ same_blocks a.now b.now }
+{
+    a.equals(b)
+}
+
+/// The comparison in those definitions is equality.
+#[tactic(auto, using(spec_fork_choice::proofs::SameBlock::block_decides))]
+pub fn same_block_is_equality()
+    ensures { (a b : BeaconBlock) → Decides (same_blocks a b) (a ≡ b) }
+{}
