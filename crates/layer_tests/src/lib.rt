@@ -8,6 +8,8 @@ mod changes;
 #[cfg(test)]
 mod genesis;
 #[cfg(test)]
+mod keeper;
+#[cfg(test)]
 mod lanes;
 #[cfg(test)]
 mod outside;

@@ -1,6 +1,6 @@
-use Rattle.keeper_tests.specs.Adder.{with_deposits}
-use Rattle.keeper_tests.proofs.Blocks.{stepped_from}
-use Rattle.keeper_tests.proofs.states.stepped.Goals as goal
+use Rattle.layer_tests.specs.Adder.{with_deposits}
+use Rattle.layer_tests.proofs.Stepped.{stepped_from}
+use Rattle.layer_tests.proofs.keeper.states.stepped.Goals as goal
 
 pub returns-clause-state : goal.returns-clause-state
 returns-clause-state g c =

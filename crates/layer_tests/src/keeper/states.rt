@@ -2,9 +2,9 @@
 
 ghost use Rattle.std.specs.Prelude.{◌≡◌, ◌+◌, ◌-◌, ◌<◌, ◌^◌, length, slice_get, IfOk, IfSome, OnOk};
 ghost use Rattle.bc_words.specs.Outcome.{done};
-ghost use Rattle.keeper_tests.specs.Adder.{with_deposits};
+ghost use Rattle.layer_tests.specs.Adder.{with_deposits};
 
-use crate::adder::Adder;
+use crate::keeper::adder::Adder;
 use bc_preset::Preset;
 use bc_words::{Steps, Stop};
 use beacon_state::State;

@@ -1,6 +1,6 @@
 //! A made-up stepper: a block is a number, which is added to the state's count of deposits.
 
-ghost use Rattle.keeper_tests.specs.Adder.{with_deposits};
+ghost use Rattle.layer_tests.specs.Adder.{with_deposits};
 
 use bc_words::{Stop, checked_add};
 use beacon_state::State;

@@ -1,5 +1,5 @@
 use Rattle.std.proofs.Common.{◌≡◌, length}
-use Rattle.keeper_tests.proofs.states.add_blocks.Given as goal
+use Rattle.layer_tests.proofs.keeper.states.add_blocks.Given as goal
 
 abbrev pub invariant-loop-number : goal.invariant-loop-number
 invariant-loop-number g l = length l.keeper.blocks ≡ l.number

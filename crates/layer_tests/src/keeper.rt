@@ -1,0 +1,5 @@
+//! Tests of the keeper of states.
+
+mod adder;
+mod chain;
+mod states;
