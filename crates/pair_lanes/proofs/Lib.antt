@@ -4,6 +4,7 @@ pub mod Expansion
 pub mod Padding
 pub mod Hashes
 pub mod Layers
+pub mod Majority
 pub mod Maps
 pub mod SourceBlocks
 pub mod Rotations

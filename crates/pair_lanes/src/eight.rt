@@ -5,7 +5,7 @@ ghost use Rattle.sha2.specs.Sha256.{digest_bytes, sha256, word_at};
 ghost use Rattle.pair_lanes.specs.Pairs.{message};
 ghost use Rattle.pair_lanes.specs.inside.Lanes.{lane_at, variables};
 
-use crate::rounds::{compress, compress_padding, expand, initial};
+use crate::rounds::{compress, compress_padding, expand, initial, schedule_room};
 use std::simd::u32x8;
 
 /// A root has 32 bytes.
@@ -88,7 +88,7 @@ pub(crate) fn hash_eight(pairs: &[[[u8; 32]; 2]], out: &mut [[u8; 32]])
     requires out { length out.old ≡ 8 }
     ensures { (j : ℕ) → j < 8 → slice_index_or out.new j [] ≡ sha256 (message (slice_index_or pairs.now j [])) }
 {
-    let mut w = [u32x8::splat(0); 64];
+    let mut w = schedule_room();
     load(pairs, &mut w);
     expand(&mut w);
     let h = compress(initial(), &w);

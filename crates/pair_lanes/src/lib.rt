@@ -12,4 +12,5 @@ mod sources;
 mod words;
 
 pub use pairs::{hash_layer, hash_pairs};
+pub use rounds::schedule_room;
 pub use sources::Seed;

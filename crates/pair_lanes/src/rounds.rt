@@ -26,6 +26,13 @@ pub(crate) fn initial() -> [u32x8; 8]
     ]
 }
 
+/// Room for eight schedules, whose words are all still to be written. They don't begin as zeros, since those would be
+/// written by the C library, in registers so wide that some processors lower their clock for a while.
+#[inline(always)]
+pub fn schedule_room() -> [u32x8; 64] {
+    [u32x8::splat(ROUND_CONSTANTS[0]); 64]
+}
+
 /// The word at a place of the schedule, from the words before it.
 #[inline(always)]
 fn following(w: &[u32x8; 64], t: usize) -> u32x8

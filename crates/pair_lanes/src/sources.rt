@@ -10,7 +10,7 @@ ghost use Rattle.pair_lanes.specs.inside.Lanes.{Ahead, Common, lane_at, source_b
 
 use crate::eight::{digest, turned};
 use crate::rounds::{
-    compress_rest, eight_steps, expand, expand_from, expand_near, far_sum, initial,
+    compress_rest, eight_steps, expand, expand_from, expand_near, far_sum, initial, schedule_room,
 };
 use std::marker::Model;
 use std::simd::u32x8;
@@ -262,7 +262,7 @@ impl Seed {
     pub fn new(bytes: &[u8; 32]) -> Self
         ensures { result ≡ bytes.now }
     {
-        let mut w = [u32x8::splat(0); 64];
+        let mut w = schedule_room();
         fill(bytes, 0, 0, &mut w);
         let begun = turned(eight_steps(initial(), &w), 0);
         let common = first_words(&w);
@@ -289,9 +289,22 @@ impl Seed {
         requires { first + 8 ≤ 2 ^ 32 }
         ensures { (j : ℕ) → j < 8 → slice_index_or out.new j [] ≡ sha256 (self.now ++ round ∷ to_le_bytes w32 (first + j)) }
     {
-        let mut w = [u32x8::splat(0); 64];
-        fill_sources(&self.bytes, &self.common, &self.sums, round, first, &mut w);
-        let h = compress_rest(initial(), spread(&self.begun), &w);
+        self.hash_sources_in(&mut schedule_room(), round, first, out);
+    }
+
+    /// Likewise, with room for the schedules that isn't made for each call: what it holds doesn't matter.
+    pub fn hash_sources_in(
+        &self,
+        room: &mut [u32x8; 64],
+        round: u8,
+        first: u32,
+        out: &mut [[u8; 32]; 8],
+    )
+        requires { first + 8 ≤ 2 ^ 32 }
+        ensures { (j : ℕ) → j < 8 → slice_index_or out.new j [] ≡ sha256 (self.now ++ round ∷ to_le_bytes w32 (first + j)) }
+    {
+        fill_sources(&self.bytes, &self.common, &self.sums, round, first, room);
+        let h = compress_rest(initial(), spread(&self.begun), room);
         'hashes: for j in 0..8 {
             out[j] = digest(&turned(h, j));
         }

@@ -64,12 +64,13 @@ pub(crate) fn choose(x: u32x8, y: u32x8, z: u32x8) -> u32x8
     xor(and(x, y), without(x, z))
 }
 
-/// Maj.
+/// Maj. Where the first two words differ it has the third one's bits, else the second one's. In the next round those two
+/// words are the last two, so that half of this is computed once.
 #[inline(always)]
 pub(crate) fn majority(x: u32x8, y: u32x8, z: u32x8) -> u32x8
     ensures { (j : ℕ) → j < 8 → slice_index result j ≡ maj (slice_index x j) (slice_index y j) (slice_index z j) }
 {
-    xor(xor(and(x, y), and(x, z)), and(y, z))
+    xor(and(xor(x, y), xor(y, z)), y)
 }
 
 /// The upper case Σ 0. Its rotations are nested, which takes fewer copies of the words than each from the first.

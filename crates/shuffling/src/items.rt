@@ -2,7 +2,7 @@
 //! 64 bits.
 
 ghost use Rattle.std.specs.Prelude.{◌≡◌, ℕ, ◌+◌, ◌<◌, ◌≤◌, ◌^◌, List, length, Option, Some, None, IfSome};
-ghost use Rattle.shuffling.specs.inside.Pass.{by_word, Passed};
+ghost use Rattle.shuffling.specs.inside.Pass.{by_source, Passed};
 
 use crate::planes::Planes;
 use crate::wide::swap_wide;
@@ -41,18 +41,18 @@ impl Items {
     }
 
     /// Swaps the positions from `first` up to but not `last` with their mirror images where their bits are 1.
-    pub fn swap_where_set(&mut self, sum: usize, first: usize, last: usize, word: u64)
+    pub fn swap_where_set(&mut self, sum: usize, first: usize, last: usize, source: &[u8; 32])
         requires ordered { first ≤ last }
         requires in_list { last ≤ length self.old }
         requires fits { length self.old ≤ 2 ^ 40 }
         requires earlier { sum < first + first }
         requires images { last ≤ sum + 1 }
-        ensures passed { Passed (by_word word first sum) sum first last self.old self.new }
+        ensures passed { Passed (by_source source.now sum) sum first last self.old self.new }
         ensures length { length self.new ≡ length self.old }
     {
         match &mut self.narrow {
-            Some(narrow) => narrow.swap_where_set(sum, first, last, word),
-            None => swap_wide(&mut self.list, sum, first, last, word),
+            Some(narrow) => narrow.swap_where_set(sum, first, last, source),
+            None => swap_wide(&mut self.list, sum, first, last, source),
         }
     }
 

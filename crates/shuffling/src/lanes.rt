@@ -43,19 +43,19 @@ pub fn load_turned(list: &[u8], at: usize) -> u8x16
 
 /// The bit of each lane: of the low byte in eight lanes, and of the high byte in the others.
 #[inline(always)]
-fn bytes_of(bits: u64) -> u8x16
+fn bytes_of(bits: u16) -> u8x16
     ensures low { (j : ℕ) → j < 8 → slice_index result j ≡ bits % 256 }
     ensures high { (j : ℕ) → 8 ≤ j → j < 16 → slice_index result j ≡ bits / 256 % 256 }
     ensures long { length result ≡ 16 }
 {
-    let word = u16x8::splat((bits % 65536) as u16);
-    word.to_le_bytes()
+    u16x8::splat(bits)
+        .to_le_bytes()
         .swizzle([0, 0, 0, 0, 0, 0, 0, 0, 1, 1, 1, 1, 1, 1, 1, 1])
 }
 
 /// The items of one vector, or of another where their bits are 1.
 #[inline(always)]
-pub fn mixed(one: u8x16, other: u8x16, bits: u64) -> u8x16
+pub fn mixed(one: u8x16, other: u8x16, bits: u16) -> u8x16
     ensures { (j : ℕ) → j < 16 → slice_index result j ≡ (if bit_at bits j == 1 then slice_index other j else slice_index one j) }
 {
     let weights = u8x16::from_array([1, 2, 4, 8, 16, 32, 64, 128, 1, 2, 4, 8, 16, 32, 64, 128]);

@@ -2,35 +2,15 @@
 //! positions, eight of them side by side.
 
 ghost use Rattle.std.specs.Prelude.{◌≡◌, ℕ, ◌+◌, ◌-◌, ◌/◌, ◌%◌, ◌<◌, ◌≤◌, ◌^◌, length, slice_index, IsOk, IfOk};
-ghost use Rattle.std.specs.Int.{bit_at};
-ghost use Rattle.shuffling.specs.Shuffling.{after_round, pivot_of, source_of, bit_in, shuffled_list};
+ghost use Rattle.shuffling.specs.Shuffling.{after_round, pivot_of, shuffled_list};
 
 use crate::items::Items;
 use crate::pages::turn_pages;
 use crate::round::pivot_at;
 use bc_words::NoMemory;
 use hash_tree::Root;
-use pair_lanes::Seed;
+use pair_lanes::{Seed, schedule_room};
 use std::alloc::Global;
-
-/// The bits of `position` and of the positions behind it that are in the same 64, the lowest first.
-#[tactic(auto, unfolding(crate::specs::Shuffling::bit_in))]
-fn word_at(source: &[u8; 32], position: u64) -> u64
-    ensures { (offset : ℕ) → position % 64 + offset < 64 → bit_at result offset ≡ bit_in source.now (position + offset) }
-{
-    let first = (position % 256 / 64 * 8) as usize;
-    let bytes = [
-        source[first],
-        source[first + 1],
-        source[first + 2],
-        source[first + 3],
-        source[first + 4],
-        source[first + 5],
-        source[first + 6],
-        source[first + 7],
-    ];
-    u64::from_le_bytes(bytes) >> (position % 64)
-}
 
 /// One round over the places from `start` up to but not `end`, in which each place's flip is its mirror image.
 fn swap_mirror_images(list: &mut Items, start: usize, end: usize, seed: &Seed, round: u8)
@@ -47,12 +27,12 @@ fn swap_mirror_images(list: &mut Items, start: usize, end: usize, seed: &Seed, r
     let sum = start + end - 1;
     let middle = end - (end - start) / 2;
     let mut pages = [[0; 32]; 8];
+    let mut room = schedule_room();
     let mut position = middle;
     while position < end {
-        turn_pages(&mut pages, seed, round, middle, position);
-        let next = end.min((position / 64 + 1) * 64);
-        let word = word_at(&pages[position / 256 % 8], position as u64);
-        list.swap_where_set(sum, position, next, word);
+        turn_pages(&mut pages, &mut room, seed, round, middle, position);
+        let next = end.min((position / 256 + 1) * 256);
+        list.swap_where_set(sum, position, next, &pages[position / 256 % 8]);
         position = next;
     }
 }

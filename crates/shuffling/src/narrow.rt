@@ -2,15 +2,16 @@
 //! it swaps.
 
 ghost use Rattle.std.specs.Prelude.{◌≡◌, ℕ, ◌+◌, ◌-◌, ◌<◌, ◌≤◌, ◌^◌, length, slice_index};
-ghost use Rattle.shuffling.specs.inside.Pass.{by_word, Passed};
+ghost use Rattle.shuffling.specs.inside.Pass.{by_word, by_source, Passed};
 
 use crate::lanes::{load, load_turned, mixed, store, turned};
+use crate::round::{bit_at, sixteen_bits};
 use std::simd::u8x16;
 
 /// Swaps sixteen positions with their mirror images where their bits are 1. The lowest bit is that of `first`, and the
 /// items of both were loaded, those of the images in the order of the positions.
 #[inline(always)]
-fn swap_loaded(list: &mut [u8], sum: usize, first: usize, one: u8x16, other: u8x16, bits: u64)
+fn swap_loaded(list: &mut [u8], sum: usize, first: usize, one: u8x16, other: u8x16, bits: u16)
     requires in_list { first + 16 ≤ length list.old }
     requires earlier { sum < first + first }
     requires images { first + 16 ≤ sum + 1 }
@@ -24,36 +25,35 @@ fn swap_loaded(list: &mut [u8], sum: usize, first: usize, one: u8x16, other: u8x
 }
 
 /// Swaps one position with its mirror image where its bit is 1.
-fn swap_one(list: &mut [u8], sum: usize, position: usize, bits: u64)
+fn swap_one(list: &mut [u8], sum: usize, position: usize, source: &[u8; 32])
     requires in_list { position < length list.old }
     requires earlier { sum < position + position }
     requires image { position ≤ sum }
-    ensures { Passed (by_word bits position sum) sum position (position + 1) list.old list.new }
+    ensures { Passed (by_source source.now sum) sum position (position + 1) list.old list.new }
 {
-    if bits % 2 == 1 {
+    if bit_at(source, position as u64) == 1 {
         list.swap(sum - position, position);
     }
 }
 
 /// Swaps positions with their mirror images one by one where their bits are 1.
-fn swap_rest(list: &mut [u8], sum: usize, first: usize, last: usize, word: u64)
+fn swap_each(list: &mut [u8], sum: usize, first: usize, last: usize, source: &[u8; 32])
     requires ordered { first ≤ last }
     requires in_list { last ≤ length list.old }
     requires fits { length list.old ≤ 2 ^ 40 }
     requires earlier { sum < first + first }
     requires images { last ≤ sum + 1 }
-    ensures { Passed (by_word word first sum) sum first last list.old list.new }
+    ensures { Passed (by_source source.now sum) sum first last list.old list.new }
 {
-    let mut bits = word;
     for position in first..last {
-        swap_one(list, sum, position, bits);
-        bits >>= 1;
+        swap_one(list, sum, position, source);
     }
 }
 
 /// Swaps the positions from `first` up to but not `last` of three lists with their mirror images where their bits are 1.
+/// Those before the first multiple of sixteen, and those behind the last, go one by one.
 ///
-/// A position and its mirror image, the earlier one, add up to `sum`. The lowest bit is that of `first`.
+/// A position and its mirror image, the earlier one, add up to `sum`.
 pub fn swap_planes(
     low: &mut [u8],
     middle: &mut [u8],
@@ -61,7 +61,7 @@ pub fn swap_planes(
     sum: usize,
     first: usize,
     last: usize,
-    word: u64,
+    source: &[u8; 32],
 )
     requires ordered { first ≤ last }
     requires in_low { last ≤ length low.old }
@@ -72,14 +72,18 @@ pub fn swap_planes(
     requires fits_high { length high.old ≤ 2 ^ 40 }
     requires earlier { sum < first + first }
     requires images { last ≤ sum + 1 }
-    ensures low { Passed (by_word word first sum) sum first last low.old low.new }
-    ensures middle { Passed (by_word word first sum) sum first last middle.old middle.new }
-    ensures high { Passed (by_word word first sum) sum first last high.old high.new }
+    ensures low { Passed (by_source source.now sum) sum first last low.old low.new }
+    ensures middle { Passed (by_source source.now sum) sum first last middle.old middle.new }
+    ensures high { Passed (by_source source.now sum) sum first last high.old high.new }
 {
-    let mut bits = word;
-    let mut position = first;
-    while position + 16 <= last {
+    let mut position = last.min((first + 15) / 16 * 16);
+    swap_each(low, sum, first, position, source);
+    swap_each(middle, sum, first, position, source);
+    swap_each(high, sum, first, position, source);
+    let end = last - (last - position) % 16;
+    while position < end {
         let images = sum - position - 15;
+        let bits = sixteen_bits(source, position as u64);
         let low_one = load(low, position);
         let low_other = load_turned(low, images);
         let middle_one = load(middle, position);
@@ -89,10 +93,9 @@ pub fn swap_planes(
         swap_loaded(low, sum, position, low_one, low_other, bits);
         swap_loaded(middle, sum, position, middle_one, middle_other, bits);
         swap_loaded(high, sum, position, high_one, high_other, bits);
-        bits >>= 16;
         position += 16;
     }
-    swap_rest(low, sum, position, last, bits);
-    swap_rest(middle, sum, position, last, bits);
-    swap_rest(high, sum, position, last, bits);
+    swap_each(low, sum, position, last, source);
+    swap_each(middle, sum, position, last, source);
+    swap_each(high, sum, position, last, source);
 }

@@ -1,7 +1,7 @@
 //! Items of three bytes each, whose bytes stand in three lists, so that sixteen of them swap at once.
 
 ghost use Rattle.std.specs.Prelude.{◌≡◌, ℕ, ◌+◌, ◌*◌, ◌<◌, ◌≤◌, ◌^◌, List, length, slice_index, drop, IfSome, IsTrue};
-ghost use Rattle.shuffling.specs.inside.Pass.{by_word, Passed};
+ghost use Rattle.shuffling.specs.inside.Pass.{by_source, Passed};
 ghost use Rattle.shuffling.specs.inside.Planes.{with_above, joined};
 
 use crate::narrow::swap_planes;
@@ -99,14 +99,14 @@ impl Planes {
 
     /// Swaps the positions from `first` up to but not `last` with their mirror images where their bits are 1.
     ///
-    /// A position and its mirror image, the earlier one, add up to `sum`. The lowest bit is that of `first`.
-    pub fn swap_where_set(&mut self, sum: usize, first: usize, last: usize, word: u64)
+    /// A position and its mirror image, the earlier one, add up to `sum`.
+    pub fn swap_where_set(&mut self, sum: usize, first: usize, last: usize, source: &[u8; 32])
         requires ordered { first ≤ last }
         requires in_list { last ≤ length self.old }
         requires fits { length self.old ≤ 2 ^ 40 }
         requires earlier { sum < first + first }
         requires images { last ≤ sum + 1 }
-        ensures passed { Passed (by_word word first sum) sum first last self.old self.new }
+        ensures passed { Passed (by_source source.now sum) sum first last self.old self.new }
         ensures length { length self.new ≡ length self.old }
     {
         swap_planes(
@@ -116,7 +116,7 @@ impl Planes {
             sum,
             first,
             last,
-            word,
+            source,
         );
     }
 

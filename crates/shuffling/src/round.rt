@@ -1,6 +1,7 @@
 //! What one round of the shuffle takes from the seed: its pivot, and a bit for each position.
 
-ghost use Rattle.std.specs.Prelude.{◌≡◌, ◌<◌, ◌/◌, ◌^◌};
+ghost use Rattle.std.specs.Prelude.{◌≡◌, ℕ, ◌+◌, ◌<◌, ◌/◌, ◌%◌, ◌^◌};
+ghost use Rattle.std.specs.Int.{bit_at};
 ghost use Rattle.shuffling.specs.Shuffling.{pivot_of, source_of, bit_in};
 
 use hash_tree::Root;
@@ -44,4 +45,13 @@ pub fn bit_at(source: &[u8; 32], position: u64) -> u8
     ensures below { result < 2 }
 {
     (source[(position % 256 / 8) as usize] >> (position % 8)) % 2
+}
+
+/// The bits of sixteen positions, of which the first is a multiple of sixteen. Its bit is the lowest.
+pub fn sixteen_bits(source: &[u8; 32], first: u64) -> u16
+    requires { first % 16 ≡ 0 }
+    ensures { (j : ℕ) → j < 16 → bit_at result j ≡ bit_in source.now (first + j) }
+{
+    let byte = (first % 256 / 8) as usize;
+    u16::from_le_bytes([source[byte], source[byte + 1]])
 }

@@ -2,50 +2,37 @@
 //! whether it swaps.
 
 ghost use Rattle.std.specs.Prelude.{◌≡◌, ℕ, ◌+◌, ◌<◌, ◌≤◌, ◌^◌, length};
-ghost use Rattle.std.specs.Int.{bit_at, trailing_zeros, w64};
-ghost use Rattle.std.specs.List.{SwappedAt};
-ghost use Rattle.shuffling.specs.inside.Pass.{by_word, Passed};
+ghost use Rattle.shuffling.specs.inside.Pass.{by_source, Passed};
 
-/// Two places change their items.
-fn swap_items(list: &mut [u64], one: usize, other: usize)
-    requires one { one < length list.old }
-    requires other { other < length list.old }
-    ensures { SwappedAt list.old list.new one other }
-{
-    let item = list[one];
-    list[one] = list[other];
-    list[other] = item;
-}
+use crate::round::bit_at;
 
-/// The word without its lowest bit that is 1.
-fn without_lowest(bits: u64) -> u64
-    requires { 0 < bits }
-    ensures kept { (offset : ℕ) → trailing_zeros w64 bits < offset → bit_at result offset ≡ bit_at bits offset }
-    ensures gone { (offset : ℕ) → offset ≤ trailing_zeros w64 bits → bit_at result offset ≡ 0 }
-    ensures less { result < bits }
+/// Swaps one position with its mirror image where its bit is 1. Both are written in any case: no branch waits for a bit,
+/// which nothing foretells.
+fn swap_one(list: &mut [u64], sum: usize, position: usize, source: &[u8; 32])
+    requires in_list { position < length list.old }
+    requires earlier { sum < position + position }
+    requires image { position ≤ sum }
+    ensures { Passed (by_source source.now sum) sum position (position + 1) list.old list.new }
 {
-    bits & (bits - 1)
+    let image = sum - position;
+    let (one, other) = (list[position], list[image]);
+    let swaps = bit_at(source, position as u64) == 1;
+    list[position] = if swaps { other } else { one };
+    list[image] = if swaps { one } else { other };
 }
 
 /// Swaps the positions from `first` up to but not `last` with their mirror images where their bits are 1.
 ///
-/// A position and its mirror image, the earlier one, add up to `sum`. The lowest bit is that of `first`.
-pub fn swap_wide(list: &mut [u64], sum: usize, first: usize, last: usize, word: u64)
+/// A position and its mirror image, the earlier one, add up to `sum`.
+pub fn swap_wide(list: &mut [u64], sum: usize, first: usize, last: usize, source: &[u8; 32])
     requires ordered { first ≤ last }
     requires in_list { last ≤ length list.old }
     requires fits { length list.old ≤ 2 ^ 40 }
     requires earlier { sum < first + first }
     requires images { last ≤ sum + 1 }
-    ensures { Passed (by_word word first sum) sum first last list.old list.new }
+    ensures { Passed (by_source source.now sum) sum first last list.old list.new }
 {
-    let mut bits = word;
-    while bits > 0 {
-        let offset = bits.trailing_zeros() as usize;
-        if offset >= last - first {
-            return;
-        }
-        let position = first + offset;
-        swap_items(list, sum - position, position);
-        bits = without_lowest(bits);
+    for position in first..last {
+        swap_one(list, sum, position, source);
     }
 }

@@ -1,46 +1,38 @@
-use Rattle.std.proofs.Common.{◌+◌, ◌-◌, arith}
-use Rattle.shuffling.proofs.Pass.{shift, shift_on}
+use Rattle.std.proofs.Common.{arith}
+use Rattle.shuffling.proofs.Pass.{join_source, join_word}
 use Rattle.shuffling.proofs.narrow.swap_planes.Goals as goal
-
-pub loop-position-init : goal.loop-position-init
-loop-position-init c = record {
-  low = shift c.args.word c.args.sum c.args.first c.args.last c.args.low.now c.requires.ordered;
-  middle = shift c.args.word c.args.sum c.args.first c.args.last c.args.middle.now c.requires.ordered;
-  high = shift c.args.word c.args.sum c.args.first c.args.last c.args.high.now c.requires.ordered;
-}
 
 pub loop-position-preserved : goal.loop-position-preserved
 loop-position-preserved c =
     let loop = c.loop-position in
+    let bits = c.sixteen_bits-bits in
     record {
-      low = shift_on c.args.word c.args.sum c.args.first c.args.last c.args.low.now
-          loop.bits loop.position 16 (loop.position + 16) loop.low c.swap_loaded.new.list c.requires.images
-          (omega arith) (omega arith) loop.invariant.low c.swap_loaded.ensures;
-      middle = shift_on c.args.word c.args.sum c.args.first c.args.last c.args.middle.now
-          loop.bits loop.position 16 (loop.position + 16) loop.middle c.swap_loaded-in-loop-position.new.list c.requires.images
-          (omega arith) (omega arith) loop.invariant.middle c.swap_loaded-in-loop-position.ensures;
-      high = shift_on c.args.word c.args.sum c.args.first c.args.last c.args.high.now
-          loop.bits loop.position 16 (loop.position + 16) loop.high c.swap_loaded-in-loop-position-2.new.list c.requires.images
-          (omega arith) (omega arith) loop.invariant.high c.swap_loaded-in-loop-position-2.ensures;
+      from = omega arith;
+      to = omega (arith, loop.invariant.whole);
+      whole = omega (arith, loop.invariant.whole);
+      aligned = λ less. omega (arith, loop.invariant.aligned (omega arith));
+      low = join_word c.args.source.now c.args.sum c.args.first loop.position bits.result c.args.low.now loop.low c.swap_loaded.new.list
+          loop.invariant.from (omega (arith, loop.invariant.whole)) bits.ensures loop.invariant.low c.swap_loaded.ensures;
+      middle = join_word c.args.source.now c.args.sum c.args.first loop.position bits.result c.args.middle.now loop.middle c.swap_loaded-in-loop-position.new.list
+          loop.invariant.from (omega (arith, loop.invariant.whole)) bits.ensures loop.invariant.middle c.swap_loaded-in-loop-position.ensures;
+      high = join_word c.args.source.now c.args.sum c.args.first loop.position bits.result c.args.high.now loop.high c.swap_loaded-in-loop-position-2.new.list
+          loop.invariant.from (omega (arith, loop.invariant.whole)) bits.ensures loop.invariant.high c.swap_loaded-in-loop-position-2.ensures;
     }
 
 pub returns-clause-low : goal.returns-clause-low
 returns-clause-low c =
     let loop = c.loop-position in
-    (shift_on c.args.word c.args.sum c.args.first c.args.last c.args.low.now
-    loop.bits loop.position (c.args.last - loop.position) c.args.last
-    loop.low c.swap_rest.new.list c.requires.images (omega arith) (omega arith) loop.invariant.low c.swap_rest.ensures).passed
+    join_source c.args.source.now c.args.sum c.args.first loop.position c.args.last c.args.low.now loop.low c.swap_each-4.new.list
+    loop.invariant.from (omega arith) c.requires.images loop.invariant.low c.swap_each-4.ensures
 
 pub returns-clause-middle : goal.returns-clause-middle
 returns-clause-middle c =
     let loop = c.loop-position in
-    (shift_on c.args.word c.args.sum c.args.first c.args.last c.args.middle.now
-    loop.bits loop.position (c.args.last - loop.position) c.args.last
-    loop.middle c.swap_rest-2.new.list c.requires.images (omega arith) (omega arith) loop.invariant.middle c.swap_rest-2.ensures).passed
+    join_source c.args.source.now c.args.sum c.args.first loop.position c.args.last c.args.middle.now loop.middle c.swap_each-5.new.list
+    loop.invariant.from (omega arith) c.requires.images loop.invariant.middle c.swap_each-5.ensures
 
 pub returns-clause-high : goal.returns-clause-high
 returns-clause-high c =
     let loop = c.loop-position in
-    (shift_on c.args.word c.args.sum c.args.first c.args.last c.args.high.now
-    loop.bits loop.position (c.args.last - loop.position) c.args.last
-    loop.high c.swap_rest-3.new.list c.requires.images (omega arith) (omega arith) loop.invariant.high c.swap_rest-3.ensures).passed
+    join_source c.args.source.now c.args.sum c.args.first loop.position c.args.last c.args.high.now loop.high c.swap_each-6.new.list
+    loop.invariant.from (omega arith) c.requires.images loop.invariant.high c.swap_each-6.ensures

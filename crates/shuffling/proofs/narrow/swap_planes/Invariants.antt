@@ -1,13 +1,17 @@
-use Rattle.std.proofs.Common.{◌+◌, ◌-◌}
-use Rattle.shuffling.proofs.Pass.{Shifted}
+use Rattle.std.proofs.Common.{◌≡◌, ◌-◌, ◌%◌, ◌<◌, ◌≤◌}
+use Rattle.shuffling.specs.inside.Pass.{by_source, Passed}
 use Rattle.shuffling.proofs.narrow.swap_planes.Given as goal
 
 abbrev pub invariant-loop-position : goal.invariant-loop-position
 invariant-loop-position l = record {
-  low : Shifted l.word l.sum l.first l.last l.bits l.fn.low l.low l.position;
-  middle : Shifted l.word l.sum l.first l.last l.bits l.fn.middle l.middle l.position;
-  high : Shifted l.word l.sum l.first l.last l.bits l.fn.high l.high l.position;
+  from : l.first ≤ l.position;
+  to : l.position ≤ l.end;
+  whole : (l.end - l.position) % 16 ≡ 0;
+  aligned : l.position < l.end → l.position % 16 ≡ 0;
+  low : Passed (by_source l.source l.sum) l.sum l.first l.position l.fn.low l.low;
+  middle : Passed (by_source l.source l.sum) l.sum l.first l.position l.fn.middle l.middle;
+  high : Passed (by_source l.source l.sum) l.sum l.first l.position l.fn.high l.high;
 }
 
 abbrev pub decreases-loop-position : goal.decreases-loop-position
-decreases-loop-position l = l.last + 1 - l.position
+decreases-loop-position l = l.end - l.position

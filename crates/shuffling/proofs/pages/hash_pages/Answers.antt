@@ -8,4 +8,4 @@ pub returns : goal.returns
 unfolding source_of hash
 returns c k same =
     let page : c.args.page - c.args.page % 8 + k % 8 ≡ k = omega arith in
-    c.hash_sources.ensures (k % 8) (omega arith) ∙ ap (source_of c.args.seed.now c.args.round) page
+    c.hash_sources_in.ensures (k % 8) (omega arith) ∙ ap (source_of c.args.seed.now c.args.round) page

@@ -1,6 +1,6 @@
 use Rattle.std.proofs.Common.{◌≡◌, ℕ, ◌-◌, List, length, drop, length-drop, sym, ap, subst, ◌∙◌, arith}
 use borrow.Rule.Slice.PartMut.{put_mid, same_len_mid}
-use Rattle.shuffling.specs.inside.Pass.{by_word, Passed}
+use Rattle.shuffling.specs.inside.Pass.{by_source, Passed}
 use Rattle.shuffling.specs.inside.Planes.{joined}
 use Rattle.shuffling.proofs.Joined.{behind_is, behind_length, behind_written, joined_length, joined_as_long, joined_passed, joined_written}
 use Rattle.shuffling.proofs.planes.Planes.swap_where_set.Goals as goal
@@ -51,13 +51,13 @@ returns-clause-passed c =
     let second : length new.low ≡ length new.middle = omega (arith, low, part, s.low.ok.0) in
     let third : length new.low ≡ length new.high = omega (arith, low, high, s.low.ok.0, s.high.ok.0, c.self.invariant.1) in
     rw (← c.self.view_is)
-    (subst (λ (list : List ℕ). Passed (by_word c.args.word c.args.first c.args.sum) c.args.sum c.args.first c.args.last (joined s.low.items (drop 2048 s.middle.items) s.high.items) list)
+    (subst (λ (list : List ℕ). Passed (by_source c.args.source.now c.args.sum) c.args.sum c.args.first c.args.last (joined s.low.items (drop 2048 s.middle.items) s.high.items) list)
     (sym (joined_written s.low s.middle s.high new.low written new.high low middle high ∙ ap (λ n. joined new.low n new.high) is_part))
-    (joined_passed (by_word c.args.word c.args.first c.args.sum) c.args.sum c.args.first c.args.last
+    (joined_passed (by_source c.args.source.now c.args.sum) c.args.sum c.args.first c.args.last
     s.low.items (drop 2048 s.middle.items) s.high.items new.low new.middle new.high
     (sym behind) c.self.invariant.1 second third
     (rw c.deref_mut.ensures.value at c.swap_planes.ensures.low)
-    (subst (λ (list : List ℕ). Passed (by_word c.args.word c.args.first c.args.sum) c.args.sum c.args.first c.args.last list new.middle)
+    (subst (λ (list : List ℕ). Passed (by_source c.args.source.now c.args.sum) c.args.sum c.args.first c.args.last list new.middle)
     (behind_is all ∙ ap (drop 2048) c.deref_mut-2.ensures.value) c.swap_planes.ensures.middle)
     (rw c.deref_mut-3.ensures.value at c.swap_planes.ensures.high)))
 

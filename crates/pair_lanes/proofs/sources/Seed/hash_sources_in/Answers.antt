@@ -6,7 +6,7 @@ use Rattle.std.specs.Int.{w32, to_le_bytes}
 use Rattle.sha2.specs.Sha256.{sha256, digest_bytes, compress, initial_hash_256, rounds, schedule}
 use Rattle.pair_lanes.specs.inside.Lanes.{variables, source_block}
 use Rattle.pair_lanes.proofs.Hashes.{hash_of_37}
-use Rattle.pair_lanes.proofs.sources.Seed.hash_sources.Goals as goal
+use Rattle.pair_lanes.proofs.sources.Seed.hash_sources_in.Goals as goal
 
 -- a seed, a round and a page's number have 37 bytes
 hash_of_source : (seed : List ℕ) (round page : ℕ) → length seed ≡ 32 → sha256 (seed ++ round ∷ to_le_bytes w32 page) ≡ digest_bytes (compress initial_hash_256 (source_block seed round page)) 8

@@ -2,7 +2,7 @@
 use Rattle.std.proofs.Common.{◌≡◌, ℕ, ◌+◌, ◌<◌, [], ◌∷◌, ◌++◌, length, slice_index_or}
 use Rattle.std.specs.Int.{w32, to_le_bytes}
 use Rattle.sha2.specs.Sha256.{sha256}
-use Rattle.pair_lanes.proofs.sources.Seed.hash_sources.Given as goal
+use Rattle.pair_lanes.proofs.sources.Seed.hash_sources_in.Given as goal
 
 abbrev pub invariant-hashes : goal.invariant-hashes
 invariant-hashes l = record {
