@@ -461,5 +461,3 @@ module _ (array : PlainArray) (counts : Counts) (tree : IsTree array.nodes) (bel
     weights = λ j f h. weight_made low j counted ranked (omega arith) f h;
     heads = λ j f h. ranked.descendant j (omega arith) h;
   }
-
-pub ruleset settling = (ranked_all)

@@ -1,5 +1,5 @@
 -- What a vote leaves, and that it names at most one validator more as changed.
-use Rattle.std.proofs.Common.{◌≡◌, ℕ, ◌+◌, ◌≤◌, Bool, true, false, cond, [], ◌∷◌, ◌++◌, length, refl, arith, length-append}
+use Rattle.std.proofs.Common.{◌≡◌, ℕ, ◌+◌, ◌≤◌, Bool, true, false, cond, [], ◌∷◌, ◌++◌, length, refl, ap, arith, length-append}
 use Rattle.block_array.specs.declared.node.Message.{Message}
 use Rattle.block_array.specs.PlainArray.{PlainArray}
 use Rattle.block_array.specs.UpdateLatestMessages.{is_news, is_listed, with_changed, voted, update_latest_message}
@@ -32,5 +32,13 @@ module _ (array : PlainArray) (validator : ℕ) (message : Message) where
       by : (b : Bool) → (cond b (voted array validator message) array).balances_set ≡ array.balances_set
       by true = refl
       by false = refl
+
+  pub vote_taken : is_news array validator message.epoch ≡ true → update_latest_message array validator message ≡ voted array validator message
+  unfolding update_latest_message
+  vote_taken news = ap (λ b. cond b (voted array validator message) array) news
+
+  pub vote_passed : is_news array validator message.epoch ≡ false → update_latest_message array validator message ≡ array
+  unfolding update_latest_message
+  vote_passed old = ap (λ b. cond b (voted array validator message) array) old
 
 pub ruleset voting = (vote_changes, vote_nodes, vote_balances)

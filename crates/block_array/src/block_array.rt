@@ -117,7 +117,6 @@ impl BlockArray {
 
     /// Takes a validator's vote for a node, by its target's epoch, where it has none or one of an earlier epoch, and else
     /// changes nothing. Where memory is refused, all is as before.
-    #[tactic(auto, unfolding(crate::specs::UpdateLatestMessages::update_latest_message))]
     pub fn vote(&mut self, validator: u64, node: u32, epoch: u64) -> Result<(), NoMemory>
         requires { node < length self.old.nodes }
         ensures voted { Becomes result self.old self.new (update_latest_message self.old validator (record { epoch = epoch; node = node })) }

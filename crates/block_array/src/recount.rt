@@ -109,7 +109,6 @@ fn goes_in_order(inputs: &Inputs, tally: &Tally) -> bool
 }
 
 /// Counts the boost that is due.
-#[tactic(auto, unfolding(crate::specs::inside::Held::boost_due))]
 fn recount_boost(inputs: &Inputs, tally: &mut Tally)
     requires { tally.old.nodes ≡ length inputs.now.array.nodes }
     ensures { tally.new ≡ record tally.old { boost = boost_due inputs.now.array } }

@@ -219,7 +219,6 @@ fn settle_one<L: Ledger>(
 
 /// Makes the weights of the nodes from the justified one on, and the head, where all that is due is counted. Two visits of
 /// each of these nodes.
-#[tactic(auto, using(crate::proofs::Ranks::settling))]
 pub(crate) fn settle<L: Ledger>(
     inputs: &Inputs,
     tally: &Tally,

@@ -1,11 +1,21 @@
 //! A made-up stepper: a block is a number, which is added to the state's count of deposits.
 
+ghost use Rattle.std.specs.Prelude.{◌≡◌, IfOk};
 ghost use Rattle.layer_tests.specs.Adder.{with_deposits};
 
-use bc_words::{Stop, checked_add};
+use bc_words::{NoMemory, Stop, checked_add};
 use beacon_state::State;
 use state_keeper::Stepper;
 use std::alloc::Global;
+
+/// The state with that count of deposits.
+pub fn counting(state: &State, count: u64) -> Result<State, NoMemory>
+    ensures { IfOk result (λ next. next ≡ record state.now { eth1_deposit_index = count }) }
+{
+    let mut next = state.share()?;
+    next.set_eth1_deposit_index(count);
+    Ok(next)
+}
 
 /// Adds blocks, which are numbers, to a state's count of deposits.
 #[derive(Drop)]
@@ -21,8 +31,6 @@ impl Stepper for Adder {
     #[tactic(auto, unfolding(crate::specs::Adder::with_deposits))]
     fn step(&self, _alloc: Global, state: &State, block: &u64) -> Result<State, Stop> {
         let count = checked_add(state.eth1_deposit_index(), *block)?;
-        let mut next = state.share()?;
-        next.set_eth1_deposit_index(count);
-        Ok(next)
+        Ok(counting(state, count)?)
     }
 }

@@ -2,6 +2,7 @@
 
 ghost use Rattle.std.specs.Prelude.{◌≡◌, IfOk};
 ghost use Rattle.bc_preset.specs.Presets.{IsPreset};
+ghost use Rattle.fork_store.specs.ChainStep.{CanStep};
 ghost use Rattle.spec_state.specs.Genesis.{header_root_of};
 ghost use Rattle.spec_state.specs.Soundness.{IsSound};
 
@@ -91,14 +92,51 @@ fn block_on(alloc: Global, state: &State, slot: u64, state_root: Root) -> Signed
     }
 }
 
-/// The root of the state behind an empty block of a slot, made part by part.
+/// The root of a state once a block of its slot is taken.
+fn root_once_taken(
+    alloc: Global,
+    config: &Config,
+    state: &mut State,
+    block: &BeaconBlock,
+) -> Result<Root, Stop>
+    requires { block.now.slot ≡ state.old.slot }
+{
+    process_block(alloc, state, block, config)?;
+    Ok(state.root())
+}
+
+/// The root of the state behind a block, made part by part.
+fn root_of_parts(
+    alloc: Global,
+    config: &Config,
+    state: &State,
+    block: &BeaconBlock,
+) -> Result<Root, Stop>
+    requires { IsSound state.now }
+{
+    let mut step = process_slots(alloc, state, block.slot, config)?;
+    root_once_taken(alloc, config, &mut step.state, block)
+}
+
+/// The root of the state behind an empty block of a slot.
 fn root_behind(alloc: Global, config: &Config, state: &State, slot: u64) -> Result<Root, Stop>
     requires { IsSound state.now }
 {
     let block = block_on(alloc, state, slot, [0; 32]);
-    let mut step = process_slots(alloc, state, slot, config)?;
-    process_block(alloc, &mut step.state, &block.message, config)?;
-    Ok(step.state.root())
+    root_of_parts(alloc, config, state, &block.message)
+}
+
+/// The root of the state that a step by a block gives.
+fn root_of_step(
+    alloc: Global,
+    config: &Config,
+    state: &State,
+    block: &SignedBeaconBlock,
+) -> Result<Root, Stop>
+    requires { CanStep config.now state.now block.now }
+{
+    let next = ChainStepper::new(config).step(alloc, state, block)?;
+    Ok(next.root())
 }
 
 /// The root of the state that a step by an empty block gives.
@@ -114,19 +152,26 @@ fn step_root(
 {
     assert_ne!(rt; state.root(), [0; 32]);
     let block = block_on(rt.alloc(), state, slot, state_root);
-    let next = ChainStepper::new(config).step(rt.alloc(), state, &block)?;
-    Ok(next.root())
+    root_of_step(rt.alloc(), config, state, &block)
 }
 
-/// A block of slot 0 isn't later, one with a wrong state root is refused, and one with the right root is taken.
-fn steps_hold(rt: &(impl AllocGlobal + Abort), config: &Config, state: &State) -> Result<(), Fail>
-    requires { state.now.preset ≡ config.now.preset }
+/// A block of slot 0 isn't later, and one with a wrong state root is refused.
+fn refusals_hold(rt: &(impl AllocGlobal + Abort), config: &Config, state: &State)
+    requires sound { IsSound state.now }
+    requires preset { state.now.preset ≡ config.now.preset }
 {
-    assert!(rt; is_sound(rt.alloc(), state)?);
     let early = step_root(rt, config, state, 0, [0; 32]);
     assert!(rt; matches!(early, Err(Stop::Refused(Refusal::SlotNotLater))));
     let wrong = step_root(rt, config, state, 1, [0; 32]);
     assert!(rt; matches!(wrong, Err(Stop::Refused(Refusal::StateRoot))));
+}
+
+/// And a block with the right root is taken.
+fn steps_hold(rt: &(impl AllocGlobal + Abort), config: &Config, state: &State) -> Result<(), Fail>
+    requires { state.now.preset ≡ config.now.preset }
+{
+    assert!(rt; is_sound(rt.alloc(), state)?);
+    refusals_hold(rt, config, state);
     let root = root_behind(rt.alloc(), config, state, 1)?;
     assert_eq!(rt; step_root(rt, config, state, 1, root)?, root);
     Ok(())

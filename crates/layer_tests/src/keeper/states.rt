@@ -4,9 +4,9 @@ ghost use Rattle.std.specs.Prelude.{◌≡◌, ◌+◌, ◌-◌, ◌<◌, ◌^�
 ghost use Rattle.bc_words.specs.Outcome.{done};
 ghost use Rattle.layer_tests.specs.Adder.{with_deposits};
 
-use crate::keeper::adder::Adder;
+use crate::keeper::adder::{Adder, counting};
 use bc_preset::Preset;
-use bc_words::{Steps, Stop};
+use bc_words::{NoMemory, Steps, Stop};
 use beacon_state::State;
 use state_keeper::{Keeper, Stepper};
 use std::alloc::{AllocError, Global};
@@ -115,16 +115,15 @@ fn count_at(number: u64) -> u64
 
 /// The state is that of genesis but for its count.
 fn counts(rt: &impl Abort, state: &State, genesis: &State, count: u64) -> Result<(), Fail> {
-    let mut expected = genesis.share()?;
-    expected.set_eth1_deposit_index(count);
-    let answer = same_state(rt, state, &expected);
-    let_go(expected, answer)
+    let expected = counting(genesis, count)?;
+    assert_same(rt, state, &expected);
+    Ok(())
 }
 
-fn same_state(rt: &impl Abort, state: &State, expected: &State) -> Result<(), Fail> {
-    assert_eq!(rt; state.eth1_deposit_index(), expected.eth1_deposit_index());
-    assert_eq!(rt; state.root(), expected.root());
-    Ok(())
+/// Asserts that two states have the same count and the same root.
+fn assert_same(rt: &impl Abort, state: &State, expected: &State) {
+    assert!(rt; state.eth1_deposit_index() == expected.eth1_deposit_index());
+    assert!(rt; state.root() == expected.root());
 }
 
 /// The state behind a block is the one with that count.
@@ -144,7 +143,19 @@ fn state_holds<L: Ledger>(
     let_go(state, answer)
 }
 
-/// The states behind all blocks, each asked for twice: once with neighbours far away, and once in order.
+/// Which block's state is asked for in a round: each one's twice, once with neighbours far away, and once in order.
+fn asked_in(round: u32) -> u32
+    requires { round < 108 }
+    ensures { result < 54 }
+{
+    if round < BLOCKS {
+        17 * round % BLOCKS
+    } else {
+        round - BLOCKS
+    }
+}
+
+/// The states behind all blocks, each asked for twice.
 fn states_hold<L: Ledger>(
     rt: &impl Abort,
     keeper: &mut Keeper<Adder>,
@@ -152,16 +163,20 @@ fn states_hold<L: Ledger>(
     steps: &mut Steps<L>,
 ) -> Result<(), Fail>
     requires { length keeper.old.blocks ≡ 54 }
+    ensures { length keeper.new.blocks ≡ 54 }
 {
-    for round in 0..BLOCKS {
-        state_holds(rt, keeper, genesis, 17 * round % BLOCKS, steps)?;
+    for round in 0..2 * BLOCKS {
+        state_holds(rt, keeper, genesis, asked_in(round), steps)?;
     }
-    for number in 0..BLOCKS {
-        state_holds(rt, keeper, genesis, number, steps)?;
-    }
-    assert_eq!(rt; *keeper.block(43), 43);
-    assert_eq!(rt; *keeper.block(44), 1000);
     Ok(())
+}
+
+/// The last block of the chain and the first one of the fork are those that were added.
+fn ends_hold(rt: &impl Abort, keeper: &Keeper<Adder>)
+    requires { length keeper.now.blocks ≡ 54 }
+{
+    assert!(rt; *keeper.block(43) == 43);
+    assert!(rt; *keeper.block(44) == 1000);
 }
 
 /// A chain and a fork behind genesis, and all their states.
@@ -174,26 +189,38 @@ fn blocks_hold<L: Ledger>(
     requires { length keeper.old.blocks ≡ 1 }
 {
     add_blocks(rt.alloc(), keeper, steps)?;
-    states_hold(rt, keeper, genesis, steps)
+    states_hold(rt, keeper, genesis, steps)?;
+    ends_hold(rt, keeper);
+    Ok(())
 }
 
+/// A keeper of genesis alone.
+fn keeper_of(alloc: Global, genesis: &State) -> Result<Keeper<Adder>, NoMemory>
+    ensures { IfOk result (λ keeper. length keeper.blocks ≡ 1) }
+{
+    Keeper::new(alloc, Adder {}, 0, genesis.share()?)
+}
+
+/// The same with these steps.
 fn chain_holds<L: Ledger>(
     rt: &(impl AllocGlobal + Abort),
+    keeper: &mut Keeper<Adder>,
     genesis: &State,
     blank: Blank,
 ) -> Result<(), Fail>
     requires name { blank.name ≡ L.name }
     requires parts { blank.parts ≡ L.parts }
     requires some { 0 < blank.parts }
+    requires genesis { length keeper.old.blocks ≡ 1 }
 {
     let mut steps = Steps::<L>::new(blank);
-    let mut keeper = Keeper::new(rt.alloc(), Adder {}, 0, genesis.share()?)?;
-    blocks_hold(rt, &mut keeper, genesis, &mut steps)
+    blocks_hold(rt, keeper, genesis, &mut steps)
 }
 
-/// The same with a count of steps of its own.
+/// The same with a keeper and a count of steps of its own.
 fn counted_chain_holds(rt: &(impl AllocGlobal + Abort), genesis: &State) -> Result<(), Fail> {
-    chain_holds::<Brand>(rt, genesis, Blank::new(1))
+    let mut keeper = keeper_of(rt.alloc(), genesis)?;
+    chain_holds::<Brand>(rt, &mut keeper, genesis, Blank::new(1))
 }
 
 #[test]

@@ -1,8 +1,8 @@
-use Rattle.std.proofs.Common.{◌≡◌, ◌-◌, length, subst, ap, ◌∙◌, refl, arith}
+use Rattle.std.proofs.Common.{◌≡◌, suc, ◌+◌, ◌-◌, length, subst, ap, ◌∙◌, refl, arith}
 use Rattle.std.specs.List.{All}
 use Rattle.block_array.specs.inside.Counts.{all_of, IsBelow}
 use Rattle.block_array.specs.inside.Ranks.{AreFresh, IsRanked}
-use Rattle.block_array.proofs.Ranks.{fresh_all, ranked_none}
+use Rattle.block_array.proofs.Ranks.{fresh_all, ranked_none, ranked_all}
 use Rattle.block_array.proofs.settle.settle.Goals as goal
 
 pub loop-done-init : goal.loop-done-init
@@ -18,3 +18,30 @@ loop-done-init g c =
       room = refl;
       steps = omega arith;
     }
+
+pub settle_one-requires-clause-ranked : goal.settle_one-requires-clause-ranked
+settle_one-requires-clause-ranked g c =
+    let more = c.loop-done-test.true in
+    let one : length c.nodes-count.result.now - c.loop-done.done ≡ suc (length c.nodes-count.result.now - 1 - c.loop-done.done) = omega arith in
+    subst (λ n. IsRanked c.args.inputs.now.array c.args.tally.now c.loop-done.ranks.items n) one c.loop-done.invariant.ranked
+
+pub loop-done-preserved : goal.loop-done-preserved
+loop-done-preserved g c =
+    let one : length c.nodes-count.result.now - 1 - c.loop-done.done ≡ length c.nodes-count.result.now - (c.loop-done.done + 1) = omega arith in
+    let so_far = c.loop-done.invariant.steps in
+    let visit = c.settle_one.ensures.steps in
+    record {
+      ranked = subst (λ n. IsRanked c.args.inputs.now.array c.args.tally.now c.settle_one.new.ranks.items n) one c.settle_one.ensures.ranked;
+      room = c.settle_one.ensures.room ∙ c.loop-done.invariant.room;
+      steps = omega arith;
+    }
+
+pub returns-clause-made : goal.returns-clause-made
+returns-clause-made g c =
+    let same : length c.nodes-count.result.now ≡ length c.args.inputs.now.array.nodes = ap length c.nodes-count.ensures.same in
+    let from : c.justified_node-first.result ≡ c.args.inputs.now.array.justified_node = c.justified_node-first.ensures in
+    let inside = c.nodes-count.ensures.plain.justified in
+    let past = c.loop-done-test.false in
+    let end = c.loop-done.auto.done-end in
+    let low : length c.nodes-count.result.now - c.loop-done.done ≡ c.args.inputs.now.array.justified_node = omega arith in
+    ranked_all c.args.inputs.now.array c.args.tally.now c.nodes-count.ensures.plain.tree (subst (λ n. All (IsBelow n) (all_of c.args.tally.now)) c.requires.counted.nodes c.bounds.ensures.below) c.loop-done.ranks.items (length c.nodes-count.result.now - c.loop-done.done) low c.requires.counted c.loop-done.invariant.ranked

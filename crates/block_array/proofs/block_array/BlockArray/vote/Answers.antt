@@ -1,7 +1,9 @@
-use Rattle.std.proofs.Common.{◌≡◌, vec_capacity, ap, ◌∙◌, refl, arith}
-use Rattle.block_array.specs.UpdateLatestMessages.{voted}
+use Rattle.std.proofs.Common.{◌≡◌, vec_capacity, sym, subst, ap, ◌∙◌, refl, arith}
+use Rattle.block_array.specs.PlainArray.{PlainArray}
+use Rattle.block_array.specs.UpdateLatestMessages.{voted, update_latest_message}
 use Rattle.block_array.specs.inside.Held.{Held}
 use Rattle.block_array.specs.inside.Counts.{Counts}
+use Rattle.block_array.proofs.Votes.{vote_taken, vote_passed}
 use Rattle.block_array.proofs.Whole.{kept_vote, kept_rooms}
 use Rattle.block_array.proofs.block_array.BlockArray.vote.Goals as goal
 
@@ -13,3 +15,21 @@ invariant_of-self-2 c =
     c.note.new.inputs.array c.args.validator (record { epoch = c.args.epoch; node = c.args.node }) c.note.new.tally
     (c.note.ensures.array ∙ ap (λ (h : Held). voted h.array c.args.validator (record { epoch = c.args.epoch; node = c.args.node })) c.in_ok-room_for_vote.ensures.inputs)
     c.note.ensures.noted c.note.ensures.node_room c.note.ensures.validator_room
+
+pub returns-then-not-is_news-clause-voted : goal.returns-then-not-is_news-clause-voted
+returns-then-not-is_news-clause-voted c =
+    subst (λ (a : PlainArray). a ≡ update_latest_message a c.args.validator (record { epoch = c.args.epoch; node = c.args.node })) c.self.view_is
+    (sym (vote_passed c.self.inside.inputs.array c.args.validator (record { epoch = c.args.epoch; node = c.args.node }) (sym c.is_news.ensures ∙ c.if-not-is_news.true)))
+
+pub returns-then-not-is_news-clause-spare : goal.returns-then-not-is_news-clause-spare
+returns-then-not-is_news-clause-spare c = λ _. refl
+
+pub returns-clause-voted : goal.returns-clause-voted
+returns-clause-voted c =
+    c.note.ensures.array
+    ∙ ap (λ (h : Held). voted h.array c.args.validator (record { epoch = c.args.epoch; node = c.args.node })) c.in_ok-room_for_vote.ensures.inputs
+    ∙ sym (vote_taken c.self.inside.inputs.array c.args.validator (record { epoch = c.args.epoch; node = c.args.node }) (sym c.is_news.ensures ∙ c.if-not-is_news.false))
+    ∙ ap (λ (a : PlainArray). update_latest_message a c.args.validator (record { epoch = c.args.epoch; node = c.args.node })) c.self.view_is
+
+pub returns-clause-spare : goal.returns-clause-spare
+returns-clause-spare c = λ _. refl

@@ -3,6 +3,3 @@ use Rattle.layer_tests.proofs.keeper.states.states_hold.Given as goal
 
 abbrev pub invariant-loop-round : goal.invariant-loop-round
 invariant-loop-round g l = length l.keeper.blocks ≡ 54
-
-abbrev pub invariant-loop-number : goal.invariant-loop-number
-invariant-loop-number g l = length l.keeper.blocks ≡ 54
