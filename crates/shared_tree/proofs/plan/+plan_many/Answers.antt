@@ -1,5 +1,6 @@
 -- A plan with changes is that of its halves with theirs.
 use Rattle.std.proofs.Common.{◌≡◌, ℕ, suc, ◌+◌, ◌-◌, ◌*◌, ◌<◌, ◌≤◌, ◌^◌, Bool, List, ◌++◌, length, refl, sym, ap, subst, ◌∙◌, arith}
+use Rattle.std.proofs.Math.Pow.{pow_mono}
 use Rattle.shared_tree.specs.Lists.{AreChanges}
 use Rattle.shared_tree.specs.inside.Puts.{before, changed_in, Reaches}
 use Rattle.shared_tree.proofs.Many.{always, unreached, before_all, changed_in_none, leaf_changed, half_facts, right_changes, left_changes, many_halves, before_before, one_fewer, reached_below, work_one}
@@ -101,3 +102,15 @@ returns-clause-nodes g t c =
     let right = c.in_ok-right.ensures.nodes in
     let left = c.in_ok-left.ensures.nodes in
     if_ok c.pair.result (λ p is. let one : p.1 ≡ suc (c.in_ok-left.left.1 + c.in_ok-right.right.1) = ap (λ (q : (ℕ × List _) × ℕ). q.1) is in omega arith) c.pair.ensures
+
+pub returns-then-not-reaches-clause-nodes : goal.returns-then-not-reaches-clause-nodes
+returns-then-not-reaches-clause-nodes g t c =
+    let one : 2 ^ 0 ≤ 2 ^ c.args.depth = pow_mono {i = 0} {j = c.args.depth} (omega arith) in
+    let none : c.made.result.1 ≡ 0 = ap (λ (p : (ℕ × List _) × ℕ). p.1) c.made.ensures in
+    omega arith
+
+pub returns-then-depth-eq0-clause-nodes : goal.returns-then-depth-eq0-clause-nodes
+returns-then-depth-eq0-clause-nodes g t c =
+    let one : 2 ^ 0 ≤ 2 ^ c.args.depth = pow_mono {i = 0} {j = c.args.depth} (omega arith) in
+    let none : c.made-in-Some.result.1 ≡ 0 = ap (λ (p : (ℕ × List _) × ℕ). p.1) c.made-in-Some.ensures in
+    omega arith

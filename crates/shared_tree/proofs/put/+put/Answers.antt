@@ -2,7 +2,7 @@
 use Rattle.std.proofs.Common.{◌≡◌, ℕ, suc, ◌-◌, ◌^◌, List, length, ap, subst, ◌∙◌, arith, length-append}
 use Rattle.std.specs.Prelude.{IfOk}
 use Rattle.shared_tree.proofs.Pairs.{place_left, put_into_left, put_into_right, put_into_bare}
-use Rattle.shared_tree.proofs.Many.{half_facts}
+use Rattle.shared_tree.proofs.Many.{always, half_facts}
 use Rattle.shared_tree.proofs.put.+put.Goals as goal
 
 pub returns-in_default-clause-put : goal.returns-in_default-clause-put
@@ -62,3 +62,23 @@ pub returns-clause-put : goal.returns-clause-put
 returns-clause-put g t c =
     let both = put_into_right c.args.node.now c.in-Some.left.now c.in-Some.right.now c.in_ok-right.right c.in_ok-share-2.field-0 c.args.depth c.half_width-half.result c.args.at c.args.item c.in-Some.ensures.halves c.in-Some.ensures.whole c.requires.same c.half_width-half.ensures.lower c.half_width-half.ensures.half c.if-at-half.false c.requires.room c.requires.place c.in_ok-right.ensures.put c.in_ok-share-2.ensures in
     subst (λ (v : ℕ × List _). IfOk c.pair_step-2.result (λ new. new ≡ v)) both.1 c.pair_step-2.ensures.pair
+
+pub returns-then-at-half-clause-steps : goal.returns-then-at-half-clause-steps
+returns-then-at-half-clause-steps g t c =
+    let deep : c.args.depth ≡ suc c.in-Some.left.now.0 = c.requires.same ∙ ap (λ (v : ℕ × List _). v.0) c.in-Some.ensures.whole in
+    always c.pair_step-then-at-half.result (omega (arith, c.in_ok-left.ensures.steps, c.pair_step-then-at-half.ensures.steps))
+
+pub returns-then-at-half-clause-at_most : goal.returns-then-at-half-clause-at_most
+returns-then-at-half-clause-at_most g t c =
+    let deep : c.args.depth ≡ suc c.in-Some.left.now.0 = c.requires.same ∙ ap (λ (v : ℕ × List _). v.0) c.in-Some.ensures.whole in
+    omega (arith, c.in_ok-left.ensures.at_most, c.pair_step-then-at-half.ensures.steps)
+
+pub returns-clause-steps : goal.returns-clause-steps
+returns-clause-steps g t c =
+    let deep : c.args.depth ≡ suc c.in-Some.left.now.0 = c.requires.same ∙ ap (λ (v : ℕ × List _). v.0) c.in-Some.ensures.whole in
+    always c.pair_step-2.result (omega (arith, c.in_ok-right.ensures.steps, c.pair_step-2.ensures.steps))
+
+pub returns-clause-at_most : goal.returns-clause-at_most
+returns-clause-at_most g t c =
+    let deep : c.args.depth ≡ suc c.in-Some.left.now.0 = c.requires.same ∙ ap (λ (v : ℕ × List _). v.0) c.in-Some.ensures.whole in
+    omega (arith, c.in_ok-right.ensures.at_most, c.pair_step-2.ensures.steps)

@@ -29,3 +29,12 @@ returns-clause-grows g c = record {
 
 pub returns-clause-within : goal.returns-clause-within
 returns-clause-within g c = λ less. absurd (omega (arith, c.if-at-leaves_of.false, c.leaves_of.ensures.leaves))
+
+pub returns-in_err-right-clause-within : goal.returns-in_err-right-clause-within
+returns-in_err-right-clause-within g c = λ less. absurd (omega (arith, c.if-at-leaves_of.false, c.leaves_of.ensures.leaves))
+
+pub returns-in_err-share-clause-within : goal.returns-in_err-share-clause-within
+returns-in_err-share-clause-within g c = λ less. absurd (omega (arith, c.if-at-leaves_of.false, c.leaves_of.ensures.leaves))
+
+pub returns-in_err-whole-clause-within : goal.returns-in_err-whole-clause-within
+returns-in_err-whole-clause-within g c = λ less. absurd (omega (arith, c.if-at-leaves_of.false, c.leaves_of.ensures.leaves))

@@ -1,0 +1,8 @@
+-- The root is that of the halves in this order.
+use Rattle.shared_tree.proofs.node.Node.pair.Goals as goal
+
+pub rooted-requires-clause-halves : goal.rooted-requires-clause-halves
+rooted-requires-clause-halves g c = c.requires
+
+pub returns : goal.returns
+returns g c = c.rooted.ensures
