@@ -2,7 +2,7 @@
 
 ghost use Rattle.std.specs.Prelude.{◌≡◌, IfOk};
 ghost use Rattle.bc_preset.specs.Presets.{IsPreset};
-ghost use Rattle.fork_store.specs.ChainStep.{CanStep};
+ghost use Rattle.store_parts.specs.ChainStep.{CanStep};
 ghost use Rattle.spec_state.specs.Genesis.{header_root_of};
 ghost use Rattle.spec_state.specs.Soundness.{IsSound};
 
