@@ -6,3 +6,6 @@ rooted-requires-clause-halves g c = c.requires
 
 pub returns : goal.returns
 returns g c = c.rooted.ensures
+
+pub rooted-requires-clause-root : goal.rooted-requires-clause-root
+rooted-requires-clause-root g c = cc
