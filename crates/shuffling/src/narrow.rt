@@ -50,6 +50,35 @@ fn swap_each(list: &mut [u8], sum: usize, first: usize, last: usize, source: &[u
     }
 }
 
+/// Swaps positions of three lists one by one, likewise.
+#[inline(always)]
+fn swap_three(
+    low: &mut [u8],
+    middle: &mut [u8],
+    high: &mut [u8],
+    sum: usize,
+    first: usize,
+    last: usize,
+    source: &[u8; 32],
+)
+    requires ordered { first ≤ last }
+    requires in_low { last ≤ length low.old }
+    requires in_middle { last ≤ length middle.old }
+    requires in_high { last ≤ length high.old }
+    requires fits_low { length low.old ≤ 2 ^ 40 }
+    requires fits_middle { length middle.old ≤ 2 ^ 40 }
+    requires fits_high { length high.old ≤ 2 ^ 40 }
+    requires earlier { sum < first + first }
+    requires images { last ≤ sum + 1 }
+    ensures low { Passed (by_source source.now sum) sum first last low.old low.new }
+    ensures middle { Passed (by_source source.now sum) sum first last middle.old middle.new }
+    ensures high { Passed (by_source source.now sum) sum first last high.old high.new }
+{
+    swap_each(low, sum, first, last, source);
+    swap_each(middle, sum, first, last, source);
+    swap_each(high, sum, first, last, source);
+}
+
 /// Swaps the positions from `first` up to but not `last` of three lists with their mirror images where their bits are 1.
 /// Those before the first multiple of sixteen, and those behind the last, go one by one.
 ///
@@ -77,9 +106,7 @@ pub fn swap_planes(
     ensures high { Passed (by_source source.now sum) sum first last high.old high.new }
 {
     let mut position = last.min((first + 15) / 16 * 16);
-    swap_each(low, sum, first, position, source);
-    swap_each(middle, sum, first, position, source);
-    swap_each(high, sum, first, position, source);
+    swap_three(low, middle, high, sum, first, position, source);
     let end = last - (last - position) % 16;
     while position < end {
         let images = sum - position - 15;
@@ -95,7 +122,5 @@ pub fn swap_planes(
         swap_loaded(high, sum, position, high_one, high_other, bits);
         position += 16;
     }
-    swap_each(low, sum, position, last, source);
-    swap_each(middle, sum, position, last, source);
-    swap_each(high, sum, position, last, source);
+    swap_three(low, middle, high, sum, position, last, source);
 }

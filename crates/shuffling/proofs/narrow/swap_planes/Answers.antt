@@ -22,17 +22,17 @@ loop-position-preserved c =
 pub returns-clause-low : goal.returns-clause-low
 returns-clause-low c =
     let loop = c.loop-position in
-    join_source c.args.source.now c.args.sum c.args.first loop.position c.args.last c.args.low.now loop.low c.swap_each-4.new.list
-    loop.invariant.from (omega arith) c.requires.images loop.invariant.low c.swap_each-4.ensures
+    join_source c.args.source.now c.args.sum c.args.first loop.position c.args.last c.args.low.now loop.low c.swap_three-2.new.low
+    loop.invariant.from (omega arith) c.requires.images loop.invariant.low c.swap_three-2.ensures.low
 
 pub returns-clause-middle : goal.returns-clause-middle
 returns-clause-middle c =
     let loop = c.loop-position in
-    join_source c.args.source.now c.args.sum c.args.first loop.position c.args.last c.args.middle.now loop.middle c.swap_each-5.new.list
-    loop.invariant.from (omega arith) c.requires.images loop.invariant.middle c.swap_each-5.ensures
+    join_source c.args.source.now c.args.sum c.args.first loop.position c.args.last c.args.middle.now loop.middle c.swap_three-2.new.middle
+    loop.invariant.from (omega arith) c.requires.images loop.invariant.middle c.swap_three-2.ensures.middle
 
 pub returns-clause-high : goal.returns-clause-high
 returns-clause-high c =
     let loop = c.loop-position in
-    join_source c.args.source.now c.args.sum c.args.first loop.position c.args.last c.args.high.now loop.high c.swap_each-6.new.list
-    loop.invariant.from (omega arith) c.requires.images loop.invariant.high c.swap_each-6.ensures
+    join_source c.args.source.now c.args.sum c.args.first loop.position c.args.last c.args.high.now loop.high c.swap_three-2.new.high
+    loop.invariant.from (omega arith) c.requires.images loop.invariant.high c.swap_three-2.ensures.high
