@@ -136,6 +136,8 @@ pub(crate) fn join_step<T: Leaf + Drop, L: Ledger>(
     let roots = roots_of(&nodes, alloc)?;
     let mut above = vec![in alloc; [0u8; 32]; nodes.len() / 2]?;
     layer_step(&roots, &mut above, steps);
+    // The nodes above are made in what the roots took.
+    drop(roots);
     join(nodes, &above, alloc)
 }
 
