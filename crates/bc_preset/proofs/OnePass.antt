@@ -12,7 +12,7 @@ use Rattle.bc_preset.specs.Keys.{row_of}
 use Rattle.bc_preset.specs.Numbers.{number_of}
 use Rattle.bc_preset.specs.Lines.{Line, skipped, other, setting, faulty, line_of}
 use Rattle.bc_preset.specs.Configs.{◌then_read◌, or_fault, preset_named, sets, is_value, bad_value, line_fault, first_fault, unless, checked, first_some, number_from, preset_from, values_of, all_in_range, config_of}
-use Rattle.bc_preset.specs.inside.OnePass.{is_set, set_key, after_line, after_lines, all_set, one_pass}
+use Rattle.bc_preset.specs.inside.OnePass.{is_set, with_number, set_key, after_line, after_lines, all_set, one_pass}
 
 -- the values that lines give
 abbrev settings_of : List Line → Settings
@@ -115,7 +115,7 @@ value_or None fault f = refl
 value_or (Some x) fault f = refl
 
 set_key_is : (s : Settings) (number : ℕ) (key : Key) (text : List ℕ) → set_key s number key text ≡ unless (with_value s key text) (cond (is_value key text) None (Some (bad_value number key)))
-unfolding set_key with_value
+unfolding set_key with_number with_value
 set_key_is s number PresetBase text = value_or (preset_named text) (BadPreset number) (λ o. record s { preset_base = o })
 set_key_is s number SecondsPerSlot text = value_or (number_of text) (BadNumber number) (λ o. record s { seconds_per_slot = o })
 set_key_is s number MinValidatorWithdrawabilityDelay text = value_or (number_of text) (BadNumber number) (λ o. record s { min_validator_withdrawability_delay = o })
@@ -124,6 +124,11 @@ set_key_is s number EjectionBalance text = value_or (number_of text) (BadNumber 
 set_key_is s number MinPerEpochChurnLimit text = value_or (number_of text) (BadNumber number) (λ o. record s { min_per_epoch_churn_limit = o })
 set_key_is s number ChurnLimitQuotient text = value_or (number_of text) (BadNumber number) (λ o. record s { churn_limit_quotient = o })
 set_key_is s number ProposerScoreBoost text = value_or (number_of text) (BadNumber number) (λ o. record s { proposer_score_boost = o })
+
+pub set_number : (s : Settings) (line : ℕ) (key : Key) (text : List ℕ) → (key ≡ PresetBase → ⊥) → set_key s line key text ≡ (or_fault (BadNumber line) (number_of text) then_read (λ value. Ok (with_number s key value)))
+unfolding set_key
+set_number s line PresetBase text h = absurd (h refl)
+set_number s line key text h = refl
 
 settings_push : (all : List Line) (key : Key) (text : List ℕ) → is_set (settings_of all) key ≡ false → settings_of (all ++ setting key text ∷ []) ≡ with_value (settings_of all) key text
 unfolding is_set with_value

@@ -1,6 +1,6 @@
 //! The configuration of a network, read from the bytes of its file.
 
-ghost use Rattle.std.specs.Prelude.{◌≡◌, ◌<◌, ◌≤◌, ◌^◌, true, IfOk, OnOk};
+ghost use Rattle.std.specs.Prelude.{◌≡◌, ◌<◌, ◌≤◌, ◌^◌, IfOk};
 ghost use Rattle.bc_preset.specs.Presets.{IsPreset};
 ghost use Rattle.bc_preset.specs.laws.Bounds.{HasPresetBounds};
 
@@ -63,30 +63,31 @@ impl Settings {
         ensures exact { result ≡ all_set self.now }
         ensures preset { IfOk result (λ v. IsPreset v.preset) }
     {
-        let name = self
-            .preset_base
-            .ok_or(ConfigFault::Missing(Key::PresetBase))?;
-        let seconds_per_slot = self
-            .seconds_per_slot
-            .ok_or(ConfigFault::Missing(Key::SecondsPerSlot))?;
-        let min_validator_withdrawability_delay = self.min_validator_withdrawability_delay.ok_or(
-            ConfigFault::Missing(Key::MinValidatorWithdrawabilityDelay),
-        )?;
-        let shard_committee_period = self
-            .shard_committee_period
-            .ok_or(ConfigFault::Missing(Key::ShardCommitteePeriod))?;
-        let ejection_balance = self
-            .ejection_balance
-            .ok_or(ConfigFault::Missing(Key::EjectionBalance))?;
-        let min_per_epoch_churn_limit = self
-            .min_per_epoch_churn_limit
-            .ok_or(ConfigFault::Missing(Key::MinPerEpochChurnLimit))?;
-        let churn_limit_quotient = self
-            .churn_limit_quotient
-            .ok_or(ConfigFault::Missing(Key::ChurnLimitQuotient))?;
-        let proposer_score_boost = self
-            .proposer_score_boost
-            .ok_or(ConfigFault::Missing(Key::ProposerScoreBoost))?;
+        let Some(name) = self.preset_base else {
+            return Err(ConfigFault::Missing(Key::PresetBase));
+        };
+        let Some(seconds_per_slot) = self.seconds_per_slot else {
+            return Err(ConfigFault::Missing(Key::SecondsPerSlot));
+        };
+        let Some(min_validator_withdrawability_delay) = self.min_validator_withdrawability_delay
+        else {
+            return Err(ConfigFault::Missing(Key::MinValidatorWithdrawabilityDelay));
+        };
+        let Some(shard_committee_period) = self.shard_committee_period else {
+            return Err(ConfigFault::Missing(Key::ShardCommitteePeriod));
+        };
+        let Some(ejection_balance) = self.ejection_balance else {
+            return Err(ConfigFault::Missing(Key::EjectionBalance));
+        };
+        let Some(min_per_epoch_churn_limit) = self.min_per_epoch_churn_limit else {
+            return Err(ConfigFault::Missing(Key::MinPerEpochChurnLimit));
+        };
+        let Some(churn_limit_quotient) = self.churn_limit_quotient else {
+            return Err(ConfigFault::Missing(Key::ChurnLimitQuotient));
+        };
+        let Some(proposer_score_boost) = self.proposer_score_boost else {
+            return Err(ConfigFault::Missing(Key::ProposerScoreBoost));
+        };
         Ok(ConfigValues {
             preset: name.preset(),
             seconds_per_slot,
@@ -100,39 +101,36 @@ impl Settings {
     }
 }
 
-impl Key {
-    ghost use Rattle.bc_preset.specs.Keys.{allows};
-    ghost use Rattle.bc_preset.specs.Configs.{in_range};
-
-    #[tactic(auto, unfolding(crate::specs::Configs::in_range))]
-    fn check(self, value: u64) -> Result<u64, ConfigFault>
-        ensures exact { result ≡ in_range self value }
-        ensures allowed { OnOk result (allows self value ≡ true) }
-    {
-        if self.allows(value) {
-            Ok(value)
-        } else {
-            Err(ConfigFault::OutOfRange(self))
-        }
-    }
-}
-
 impl ConfigValues {
     ghost use Rattle.bc_preset.specs.Configs.{all_in_range};
 
     /// The configuration with these values, or the first key of the table whose value is out of its range.
-    #[tactic(auto, unfolding(crate::specs::Configs::all_in_range))]
+    #[tactic(auto, unfolding(crate::specs::Configs::all_in_range, crate::specs::Configs::in_range))]
     fn all_in_range(self) -> Result<Config, ConfigFault>
         requires { IsPreset self.preset }
         ensures { result ≡ all_in_range self }
     {
-        Key::SecondsPerSlot.check(self.seconds_per_slot)?;
-        Key::MinValidatorWithdrawabilityDelay.check(self.min_validator_withdrawability_delay)?;
-        Key::ShardCommitteePeriod.check(self.shard_committee_period)?;
-        Key::EjectionBalance.check(self.ejection_balance)?;
-        Key::MinPerEpochChurnLimit.check(self.min_per_epoch_churn_limit)?;
-        Key::ChurnLimitQuotient.check(self.churn_limit_quotient)?;
-        Key::ProposerScoreBoost.check(self.proposer_score_boost)?;
+        if !Key::SecondsPerSlot.allows(self.seconds_per_slot) {
+            return Err(ConfigFault::OutOfRange(Key::SecondsPerSlot));
+        }
+        if !Key::MinValidatorWithdrawabilityDelay.allows(self.min_validator_withdrawability_delay) {
+            return Err(ConfigFault::OutOfRange(Key::MinValidatorWithdrawabilityDelay));
+        }
+        if !Key::ShardCommitteePeriod.allows(self.shard_committee_period) {
+            return Err(ConfigFault::OutOfRange(Key::ShardCommitteePeriod));
+        }
+        if !Key::EjectionBalance.allows(self.ejection_balance) {
+            return Err(ConfigFault::OutOfRange(Key::EjectionBalance));
+        }
+        if !Key::MinPerEpochChurnLimit.allows(self.min_per_epoch_churn_limit) {
+            return Err(ConfigFault::OutOfRange(Key::MinPerEpochChurnLimit));
+        }
+        if !Key::ChurnLimitQuotient.allows(self.churn_limit_quotient) {
+            return Err(ConfigFault::OutOfRange(Key::ChurnLimitQuotient));
+        }
+        if !Key::ProposerScoreBoost.allows(self.proposer_score_boost) {
+            return Err(ConfigFault::OutOfRange(Key::ProposerScoreBoost));
+        }
         Ok(Config { values: self })
     }
 }

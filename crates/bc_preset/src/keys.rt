@@ -1,9 +1,7 @@
 //! The keys of a configuration that are used here, with their names and ranges.
 
-ghost use Rattle.std.specs.Prelude.{◌≡◌, Some};
+ghost use Rattle.std.specs.Prelude.{◌≡◌};
 ghost use Rattle.bc_preset.specs.Keys.{name_of, expected_of, key_named, allows};
-
-use std::fmt;
 
 /// A key of the configuration, in the order of the table. Every other key of a file is passed over.
 #[derive(Clone, Copy, Debug, PartialEq, Eq)]
@@ -97,13 +95,5 @@ impl Key {
             }
         }
         None
-    }
-}
-
-impl fmt::Display for Key {
-    ghost output = { λ key. Some (name_of key) };
-
-    fn fmt<W: fmt::Write>(&self, f: &mut fmt::Formatter<W>) -> fmt::Result {
-        write!(f, "{}", self.name())
     }
 }

@@ -7,7 +7,7 @@ ghost use Rattle.bc_preset.specs.Presets.{IsPreset};
 ghost use Rattle.bc_preset.specs.Numbers.{number_of};
 ghost use Rattle.bc_preset.specs.Lines.{line_of};
 ghost use Rattle.bc_preset.specs.Configs.{or_fault, preset_named, preset_of};
-ghost use Rattle.bc_preset.specs.inside.OnePass.{nothing_set, is_set, set_key, after_line, after_lines};
+ghost use Rattle.bc_preset.specs.inside.OnePass.{nothing_set, is_set, with_number, set_key, after_line, after_lines};
 
 use crate::faults::ConfigFault;
 use crate::keys::Key;
@@ -110,29 +110,39 @@ impl Settings {
         }
     }
 
-    /// Sets the key to the value that the line's text writes.
-    #[tactic(auto, unfolding(crate::specs::inside::OnePass::set_key))]
-    fn set_key(self, line: u64, key: Key, text: &[u8]) -> Result<Settings, ConfigFault>
-        ensures { result ≡ set_key self line key text.now }
+    /// Sets a key that has numbers to this one.
+    #[tactic(auto, unfolding(crate::specs::inside::OnePass::with_number))]
+    fn with_number(self, key: Key, value: u64) -> Settings
+        ensures { result ≡ with_number self key value }
     {
         let mut settings = self;
         match key {
-            Key::PresetBase => settings.preset_base = Some(preset_in(line, text)?),
-            Key::SecondsPerSlot => settings.seconds_per_slot = Some(number_in(line, text)?),
+            Key::PresetBase => {}
+            Key::SecondsPerSlot => settings.seconds_per_slot = Some(value),
             Key::MinValidatorWithdrawabilityDelay => {
-                settings.min_validator_withdrawability_delay = Some(number_in(line, text)?);
+                settings.min_validator_withdrawability_delay = Some(value);
             }
-            Key::ShardCommitteePeriod => settings.shard_committee_period = Some(number_in(
-                line, text,
-            )?),
-            Key::EjectionBalance => settings.ejection_balance = Some(number_in(line, text)?),
-            Key::MinPerEpochChurnLimit => settings.min_per_epoch_churn_limit = Some(number_in(
-                line, text,
-            )?),
-            Key::ChurnLimitQuotient => settings.churn_limit_quotient = Some(number_in(line, text)?),
-            Key::ProposerScoreBoost => settings.proposer_score_boost = Some(number_in(line, text)?),
+            Key::ShardCommitteePeriod => settings.shard_committee_period = Some(value),
+            Key::EjectionBalance => settings.ejection_balance = Some(value),
+            Key::MinPerEpochChurnLimit => settings.min_per_epoch_churn_limit = Some(value),
+            Key::ChurnLimitQuotient => settings.churn_limit_quotient = Some(value),
+            Key::ProposerScoreBoost => settings.proposer_score_boost = Some(value),
         }
-        Ok(settings)
+        settings
+    }
+
+    /// Sets the key to the value that the line's text writes.
+    #[tactic(auto, unfolding(crate::specs::inside::OnePass::set_key), using(crate::proofs::OnePass::set_number))]
+    fn set_key(self, line: u64, key: Key, text: &[u8]) -> Result<Settings, ConfigFault>
+        ensures { result ≡ set_key self line key text.now }
+    {
+        match key {
+            Key::PresetBase => Ok(Settings {
+                preset_base: Some(preset_in(line, text)?),
+                ..self
+            }),
+            _ => Ok(self.with_number(key, number_in(line, text)?)),
+        }
     }
 
     #[tactic(auto, unfolding(crate::specs::inside::OnePass::after_line))]

@@ -36,22 +36,25 @@ is_set s MinPerEpochChurnLimit = is_some s.min_per_epoch_churn_limit
 is_set s ChurnLimitQuotient = is_some s.churn_limit_quotient
 is_set s ProposerScoreBoost = is_some s.proposer_score_boost
 
--- the settings with the number that the text of this line writes
-abbrev pub with_number : ℕ → List ℕ → (ℕ → Settings) → Result Settings ConfigFault
-with_number line text settings = or_fault (BadNumber line) (number_of text) then_read λ value. Ok (settings value)
+-- the settings with this number as the value of a key that has numbers
+unfoldable pub with_number : Settings → Key → ℕ → Settings
+with_number s PresetBase value = s
+with_number s SecondsPerSlot value = record s { seconds_per_slot = Some value }
+with_number s MinValidatorWithdrawabilityDelay value = record s { min_validator_withdrawability_delay = Some value }
+with_number s ShardCommitteePeriod value = record s { shard_committee_period = Some value }
+with_number s EjectionBalance value = record s { ejection_balance = Some value }
+with_number s MinPerEpochChurnLimit value = record s { min_per_epoch_churn_limit = Some value }
+with_number s ChurnLimitQuotient value = record s { churn_limit_quotient = Some value }
+with_number s ProposerScoreBoost value = record s { proposer_score_boost = Some value }
 
 -- the settings with this key set to the value that the text of this line writes
 unfoldable pub set_key : Settings → ℕ → Key → List ℕ → Result Settings ConfigFault
 set_key s line PresetBase text =
     or_fault (BadPreset line) (preset_named text) then_read λ name.
     Ok (record s { preset_base = Some name })
-set_key s line SecondsPerSlot text = with_number line text (λ value. record s { seconds_per_slot = Some value })
-set_key s line MinValidatorWithdrawabilityDelay text = with_number line text (λ value. record s { min_validator_withdrawability_delay = Some value })
-set_key s line ShardCommitteePeriod text = with_number line text (λ value. record s { shard_committee_period = Some value })
-set_key s line EjectionBalance text = with_number line text (λ value. record s { ejection_balance = Some value })
-set_key s line MinPerEpochChurnLimit text = with_number line text (λ value. record s { min_per_epoch_churn_limit = Some value })
-set_key s line ChurnLimitQuotient text = with_number line text (λ value. record s { churn_limit_quotient = Some value })
-set_key s line ProposerScoreBoost text = with_number line text (λ value. record s { proposer_score_boost = Some value })
+set_key s line key text =
+    or_fault (BadNumber line) (number_of text) then_read λ value.
+    Ok (with_number s key value)
 
 -- the settings behind a line, whose number counts from 1
 unfoldable pub after_line : Settings → ℕ → Line → Result Settings ConfigFault
