@@ -1,11 +1,11 @@
 -- Calls to the operating system meet what a shelf says.
-use Rattle.std.proofs.Common.{◌≡◌, ◌≤◌, ◌<◌, ℕ, zero, suc, List, [], ◌∷◌, length, map, set, get_or, Option, Result, Ok, Err, refl, sym, ap, ◌∙◌, arith, inl, inr}
+use Rattle.std.proofs.Common.{◌≡◌, ◌≤◌, ◌<◌, ℕ, zero, suc, List, [], ◌∷◌, ◌++◌, length, map, set, get_or, Option, Result, Ok, Err, refl, sym, ap, ◌∙◌, arith, inl, inr}
 use Rattle.std.proofs.Math.Nat.{eq-or-lt_of_le}
 use Rattle.bc_outside.specs.declared.trouble.Trouble.{Trouble}
 use Rattle.bc_outside.specs.declared.trouble.Trouble.TheVariants.{Failed, NoMemory}
 use Rattle.bc_outside.specs.declared.faults.FaultCounts.{FaultCounts}
 use Rattle.std.specs.Prelude.{IfOk, OnErr, take}
-use Rattle.bc_outside.specs.Told.{Agrees, more_of}
+use Rattle.bc_outside.specs.Told.{Agrees, more_of, opened_file}
 use Rattle.bc_outside.specs.Calls.{FailsOnlyBy, Rose, ShelfKeeps, Reads, meets_end}
 use Rattle.bc_outside.proofs.Taking.{set_more}
 use Rattle.bc_outside.specs.inside.Tries.{Tries, all_faults}
@@ -70,3 +70,7 @@ disk_reads file piece piece_then (Err trouble) old new f f_then h e is asked wit
 pub length_handed : (files : List DiskFile) → length (map (λ f. f.handed) files) ≡ length files
 length_handed [] = refl
 length_handed (f ∷ files) = ap suc (length_handed files)
+
+pub handed_push : (files : List DiskFile) (f : DiskFile) (given name : List ℕ) → f.handed ≡ opened_file given → given ≡ name → map (λ x. x.handed) (files ++ f ∷ []) ≡ map (λ x. x.handed) files ++ opened_file name ∷ []
+handed_push [] f given name h e = ap (λ g. g ∷ []) (h ∙ ap opened_file e)
+handed_push (g ∷ files) f given name h e = ap (λ gs. g.handed ∷ gs) (handed_push files f given name h e)

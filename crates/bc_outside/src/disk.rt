@@ -24,7 +24,7 @@ use std::snapshot::Snapshot;
 #[derive(Drop)]
 struct DiskFile<F: Read + Drop> {
     reader: F,
-    name: AskedName,
+    name: Snapshot<AskedName>,
     bytes: Vec<Snapshot<u8>>,
     ended: bool,
     grew: bool,
@@ -36,15 +36,15 @@ impl<F: Read + Drop> Model for DiskFile<F> {
     ghost Value = { DiskFile };
 
     ghost view = { λ file. record {
-      handed = record { name = file.name; bytes = map (λ s. s.value) file.bytes.items; ended = file.ended; grew = file.grew };
+      handed = record { name = file.name.value; bytes = map (λ s. s.value) file.bytes.items; ended = file.ended; grew = file.grew };
       left = F.remaining file.reader;
     } };
 }
 
 impl<F: Read + Drop> DiskFile<F> {
     // A file that was just opened.
-    fn new(alloc: Global, reader: F, name: AskedName, place: usize) -> Self
-        ensures { result.handed ≡ opened_file name }
+    fn new(alloc: Global, reader: F, name: Snapshot<AskedName>, place: usize) -> Self
+        ensures { result.handed ≡ opened_file name.value }
     {
         DiskFile {
             reader,
@@ -125,14 +125,18 @@ impl<'a, R: Files> DiskShelf<'a, R> {
 
     /// The last fault: the name of the file that it fell on, and its cause.
     pub fn last_fault(&self) -> Option<(&[u8], &Error)> {
-        let name = self.asked.get(self.last)?;
-        let error = self.cause.as_ref()?;
-        Some((name.as_bytes(), error))
+        match (self.asked.get(self.last), &self.cause) {
+            (Some(name), Some(error)) => Some((name.as_bytes(), error)),
+            _ => None,
+        }
     }
 
     /// How many bytes were handed out of the file with this number, where it was opened.
     pub fn handed_out(&self, file: usize) -> Option<usize> {
-        Some(self.opened.get(file)?.handed_out())
+        match self.opened.get(file) {
+            Some(opened) => Some(opened.handed_out()),
+            None => None,
+        }
     }
 
     // Opens a file, for which there is room.
@@ -144,12 +148,12 @@ impl<'a, R: Files> DiskShelf<'a, R> {
         self.opened.reserve(1)?;
         let number = self.opened.len() as u32;
         let place = self.asked.len();
-        let kept = ask(self.alloc, &mut self.asked, name)?;
+        let asked = ask(self.alloc, &mut self.asked, name)?;
         self.last = place;
         let Ok(reader) = patience::open(self.files, name, &mut self.faults, &mut self.cause) else {
             return Err(Trouble::Failed);
         };
-        let file = DiskFile::new(self.alloc, reader, kept, place);
+        let file = DiskFile::new(self.alloc, reader, asked, place);
         self.opened.push_reserved(file);
         Ok(number)
     }

@@ -44,11 +44,4 @@ impl FaultCounts {
         }
         interrupted
     }
-
-    /// Counts a call that failed without an error.
-    pub fn count_other(&mut self)
-        ensures { self.new ≡ failed_otherwise self.old }
-    {
-        self.others = self.others.saturating_add(1);
-    }
 }

@@ -1,19 +1,19 @@
 //! A shelf whose files lie in memory. It tells everything, and fails where it is told to.
 
 ghost use Rattle.std.specs.Prelude.{◌≡◌, ◌<◌, ◌≤◌, min, ◌+◌, ◌^◌, ◌++◌, ◌||◌, List, [], ◌∷◌, true, false, length, map, take, drop};
-ghost use Rattle.std.specs.Prelude.{Some, IfSome, option_map, string_bytes, IfOk, IfErr, IsErr};
+ghost use Rattle.std.specs.Prelude.{Some, None, IfSome, ◌⊎◌, option_map, string_bytes};
 ghost use Rattle.bc_outside.specs.Told.{with_more};
 ghost use Rattle.bc_outside.specs.Calls.{FailsOnlyBy, Opens, Reads, ShelfKeeps, meets_end};
-ghost use Rattle.bc_outside.specs.declared.trouble.Trouble.TheVariants.{Failed, NoMemory};
 ghost use Rattle.bc_outside.specs.Memory.{NamedFile, OpenedFile, MemoryFiles, counted, is_failing, is_listed, held_in, handed_of};
 ghost use Rattle.bc_outside.specs.Memory.{left_in, with_taken, told_by, unopened, OpensIn, ReadsIn};
 ghost use Rattle.bc_outside.specs.inside.Held.{AreHeld};
-ghost use Rattle.bc_outside.specs.inside.Shelving.{with_refused, with_admitted, HandsOut};
+ghost use Rattle.bc_outside.specs.inside.Shelving.{HandsOut};
 
-use crate::names::AskedName;
+use crate::names::{AskedName, ask};
 use crate::{Shelf, Trouble};
-use std::alloc::{AllocError, Global};
+use std::alloc::Global;
 use std::marker::Model;
+use std::snapshot::Snapshot;
 
 /// A file under a name.
 #[derive(Drop)]
@@ -52,7 +52,7 @@ impl MemoryFile {
 // A file that was opened, with its place.
 #[derive(Drop)]
 struct OpenFile {
-    name: AskedName,
+    name: Snapshot<AskedName>,
     bytes: Vec<u8>,
     taken: usize,
     ended: bool,
@@ -61,21 +61,21 @@ struct OpenFile {
 impl Model for OpenFile {
     ghost Value = { OpenedFile };
 
-    ghost view = { λ file. record { name = file.name; bytes = file.bytes.items; taken = file.taken; ended = file.ended } };
+    ghost view = { λ file. record { name = file.name.value; bytes = file.bytes.items; taken = file.taken; ended = file.ended } };
 
     ghost invariant = { λ file. (file.taken ≤ length file.bytes.items) × (file.ended ≡ true → file.taken ≡ length file.bytes.items) };
 }
 
 impl OpenFile {
-    fn new(alloc: Global, name: &str, bytes: &[u8]) -> Result<Self, AllocError>
-        ensures { IfOk result (λ file. file ≡ record { name = name.now; bytes = bytes.now; taken = 0; ended = false }) }
+    fn new(name: Snapshot<AskedName>, bytes: Vec<u8>) -> Self
+        ensures { result ≡ record { name = name.value; bytes = bytes.items; taken = 0; ended = false } }
     {
-        Ok(OpenFile {
-            name: AskedName::new(alloc, name)?,
-            bytes: Vec::from_slice(alloc, bytes)?,
+        OpenFile {
+            name,
+            bytes,
             taken: 0,
             ended: false,
-        })
+        }
     }
 
     // Takes the next bytes into the front of a piece, at most `greatest`.
@@ -209,30 +209,25 @@ impl MemoryShelf {
 
     // Asks for a name that can't be opened.
     fn refuse(&mut self, name: &str) -> Result<u32, Trouble>
-        ensures failed { IfErr result (λ trouble. trouble ≡ Failed → self.new ≡ with_refused self.old name.now) }
-        ensures memory { IfErr result (λ trouble. trouble ≡ NoMemory → self.new ≡ self.old) }
-        ensures err { IsErr result }
+        requires { (is_failing self.old.failing self.old.calls ≡ true) ⊎ (held_in self.old.files name.now ≡ None) }
+        ensures exact { OpensIn name.now result self.old self.new }
     {
-        self.asked.push(AskedName::new(self.alloc, name)?)?;
-        self.calls = self.calls.saturating_add(1);
-        self.faults = self.faults.saturating_add(1);
+        ask(self.alloc, &mut self.asked, name)?;
+        self.count_fault();
         Err(Trouble::Failed)
     }
 
     // Opens a file with these bytes.
-    fn admit(&mut self, name: &str, file: OpenFile) -> Result<u32, Trouble>
+    fn admit(&mut self, name: &str, bytes: Vec<u8>) -> Result<u32, Trouble>
         requires room { length self.old.opened < 2 ^ 32 }
-        requires held { held_in self.old.files file.name ≡ Some file.bytes }
-        requires start { file.ended ≡ false }
-        ensures ok { IfOk result (λ n. (n ≡ length self.old.opened) × (self.new ≡ with_admitted self.old name.now file)) }
-        ensures err { IfErr result (λ trouble. (trouble ≡ NoMemory) × (self.new ≡ self.old)) }
+        requires works { is_failing self.old.failing self.old.calls ≡ false }
+        requires held { held_in self.old.files name.now ≡ Some bytes.items }
+        ensures exact { OpensIn name.now result self.old self.new }
     {
-        self.asked.reserve(1)?;
         self.opened.reserve(1)?;
-        let asked = AskedName::new(self.alloc, name)?;
         let number = self.opened.len() as u32;
-        self.asked.push_reserved(asked);
-        self.opened.push_reserved(file);
+        let asked = ask(self.alloc, &mut self.asked, name)?;
+        self.opened.push_reserved(OpenFile::new(asked, bytes));
         self.calls = self.calls.saturating_add(1);
         Ok(number)
     }
@@ -250,8 +245,8 @@ impl MemoryShelf {
         }
         match find(&self.files, name) {
             Some(bytes) => {
-                let file = OpenFile::new(self.alloc, name, bytes)?;
-                self.admit(name, file)
+                let copy = Vec::from_slice(self.alloc, bytes)?;
+                self.admit(name, copy)
             }
             None => self.refuse(name),
         }

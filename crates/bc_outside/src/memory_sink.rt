@@ -58,20 +58,6 @@ impl MemorySink {
         &self.written
     }
 
-    /// How many faults it has counted.
-    pub fn faults(&self) -> u64
-        ensures { result ≡ self.now.faults }
-    {
-        self.faults
-    }
-
-    /// How often it was called.
-    pub fn calls(&self) -> u64
-        ensures { result ≡ self.now.calls }
-    {
-        self.calls
-    }
-
     // Writes from the front of a piece.
     fn write_some(&mut self, piece: &[u8]) -> Result<usize, Trouble>
         ensures exact { WritesIn piece.now result self.old self.new }

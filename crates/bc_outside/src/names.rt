@@ -4,6 +4,7 @@ ghost use Rattle.std.specs.Prelude.{◌≡◌, ◌++◌, ℕ, List, [], ◌∷�
 
 use std::alloc::{AllocError, Global};
 use std::marker::Model;
+use std::snapshot::Snapshot;
 
 /// The name of a file that was asked for.
 #[derive(Drop)]
@@ -34,13 +35,18 @@ impl AskedName {
     }
 }
 
-/// Keeps a name behind those that were asked for before, and gives it once more.
-pub fn ask(alloc: Global, asked: &mut Vec<AskedName>, name: &str) -> Result<AskedName, AllocError>
-    ensures given { IfOk result (λ given. given ≡ name.now) }
+/// Keeps a name behind those that were asked for before, and shows it to contracts.
+pub fn ask(
+    alloc: Global,
+    asked: &mut Vec<AskedName>,
+    name: &str,
+) -> Result<Snapshot<AskedName>, AllocError>
+    ensures given { IfOk result (λ given. given.value ≡ name.now) }
     ensures kept { OnOk result (asked.new.items ≡ asked.old.items ++ (name.now ∷ [])) }
     ensures unless { OnErr result (asked.new.items ≡ asked.old.items) }
 {
-    let given = AskedName::new(alloc, name)?;
-    asked.push(AskedName::new(alloc, name)?)?;
+    let copy = AskedName::new(alloc, name)?;
+    let given = Snapshot::of(&copy);
+    asked.push(copy)?;
     Ok(given)
 }

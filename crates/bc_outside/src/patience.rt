@@ -1,9 +1,9 @@
 //! Calls to the operating system, made again where they were interrupted.
 
-ghost use Rattle.std.specs.Prelude.{◌≡◌, ◌<◌, ◌≤◌, length, IfOk, IfErr};
+ghost use Rattle.std.specs.Prelude.{◌≡◌, ◌≤◌, true, false, length, IfOk, IfErr};
 ghost use Rattle.std.specs.Io.KnownBytes.{ReadConsumes, WriteAppends};
 ghost use Rattle.bc_outside.specs.declared.trouble.Trouble.TheVariants.{Failed};
-ghost use Rattle.bc_outside.specs.inside.Tries.{Tries};
+ghost use Rattle.bc_outside.specs.inside.Tries.{Tries, failed_otherwise, interrupted_by};
 
 use crate::Trouble;
 use crate::faults::FaultCounts;
@@ -13,6 +13,16 @@ use std::rt::Files;
 
 /// How often a call is made while it is interrupted.
 const PATIENCE: u32 = 1_000;
+
+// Counts a call that failed, keeps its cause, and says whether it was interrupted, so that it is made again.
+fn is_again(error: Error, faults: &mut FaultCounts, cause: &mut Option<Error>) -> bool
+    ensures interrupted { result ≡ true → faults.new ≡ interrupted_by 1 faults.old }
+    ensures otherwise { result ≡ false → faults.new ≡ failed_otherwise faults.old }
+{
+    let again = faults.count(&error);
+    *cause = Some(error);
+    again
+}
 
 /// Opens a file to be read, and keeps the last cause why it didn't.
 pub fn open<R: Files>(
@@ -29,9 +39,7 @@ pub fn open<R: Files>(
         match fs::open(files, name) {
             Ok(file) => return Ok(file),
             Err(error) => {
-                let again = faults.count(&error);
-                *cause = Some(error);
-                if !again {
+                if !is_again(error, faults, cause) {
                     return Err(Trouble::Failed);
                 }
             }
@@ -56,15 +64,25 @@ pub fn read<R: Read>(
         match reader.read(into) {
             Ok(n) => return Ok(n),
             Err(error) => {
-                let again = faults.count(&error);
-                *cause = Some(error);
-                if !again {
+                if !is_again(error, faults, cause) {
                     return Err(Trouble::Failed);
                 }
             }
         }
     }
     Err(Trouble::Failed)
+}
+
+// Writes once. A writer that takes nothing has failed, with that as its cause.
+fn write_some<W: Write>(writer: &mut W, piece: &[u8]) -> Result<usize, Error>
+    ensures some { IfOk result (λ n. 1 ≤ n) }
+    ensures within { IfOk result (λ n. n ≤ length piece.now) }
+    ensures bytes { WriteAppends (W.contents writer.old) (W.contents writer.new) result piece.now }
+{
+    match writer.write(piece) {
+        Ok(0) => Err(Error::from(ErrorKind::WriteZero)),
+        written => written,
+    }
 }
 
 /// Writes once, from the front of a piece, and keeps the last cause why it didn't. A writer that takes nothing has
@@ -82,17 +100,10 @@ pub fn write<W: Write>(
 {
     let _ = faults.interrupted();
     for _ in 0..PATIENCE {
-        match writer.write(piece) {
-            Ok(0) => {
-                faults.count_other();
-                *cause = Some(Error::from(ErrorKind::WriteZero));
-                return Err(Trouble::Failed);
-            }
+        match write_some(writer, piece) {
             Ok(taken) => return Ok(taken),
             Err(error) => {
-                let again = faults.count(&error);
-                *cause = Some(error);
-                if !again {
+                if !is_again(error, faults, cause) {
                     return Err(Trouble::Failed);
                 }
             }

@@ -37,6 +37,31 @@ fn buffer_of(alloc: Global, len: usize) -> Result<Vec<u8>, AllocError>
     vec![in alloc; 0u8; len]
 }
 
+// Reads a file piece by piece, up to its end or the limit.
+fn read_pieces<F: Shelf>(
+    shelf: &mut F,
+    file: u32,
+    limit: usize,
+    piece: &mut [u8],
+    bytes: &mut Vec<u8>,
+) -> Result<(), Trouble>
+    requires file { file < length (F.told shelf.old).files }
+    requires some { 0 < length piece.old }
+    requires none { bytes.old.items ≡ [] }
+    ensures reads { ReadsUpTo (λ _. bytes.new.items) limit file result (F.told shelf.old) (F.told shelf.new) }
+    ensures causes { HasCause result (F.told shelf.old).faults (F.told shelf.new).faults }
+    ensures keeps { ShelfKeeps [] (F.told shelf.old) (F.told shelf.new) }
+{
+    while bytes.len() < limit {
+        let want = (limit - bytes.len()).min(piece.len());
+        let n = read_more(shelf, file, &mut piece[..want], bytes)?;
+        if n == 0 {
+            return Ok(());
+        }
+    }
+    Ok(())
+}
+
 /// Reads a file from the place where it stands, up to its end or the limit. A caller that allows n bytes passes
 /// n + 1, to see that there are more.
 pub fn read_at_most<F: Shelf>(
@@ -50,16 +75,12 @@ pub fn read_at_most<F: Shelf>(
     ensures causes { HasCause result (F.told shelf.old).faults (F.told shelf.new).faults }
     ensures keeps { ShelfKeeps [] (F.told shelf.old) (F.told shelf.new) }
 {
+    let mut piece = buffer_of(alloc, PIECE)?;
     let mut bytes = Vec::new(alloc);
-    let mut buffer = buffer_of(alloc, PIECE)?;
-    while bytes.len() < limit {
-        let want = (limit - bytes.len()).min(PIECE);
-        let n = read_more(shelf, file, &mut buffer[..want], &mut bytes)?;
-        if n == 0 {
-            return Ok(bytes);
-        }
+    match read_pieces(shelf, file, limit, &mut piece, &mut bytes) {
+        Ok(()) => Ok(bytes),
+        Err(trouble) => Err(trouble),
     }
-    Ok(bytes)
 }
 
 /// Writes all of the bytes.

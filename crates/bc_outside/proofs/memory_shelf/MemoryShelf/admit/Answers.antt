@@ -5,4 +5,4 @@ use Rattle.bc_outside.proofs.memory_shelf.MemoryShelf.admit.Goals as goal
 pub invariant_of-self-2 : goal.invariant_of-self-2
 invariant_of-self-2 c =
     let held = rw (← c.self.view_is) at c.requires.held in
-    (c.self.invariant.0, rw (c.push_reserved-2.ensures.items, c.reserve-2.ensures.items) (held_append c.self.inside.files.items c.self.inside.opened.items (_ ∷ []) c.self.invariant.1 (held, λ ended. absurd cc, tt)))
+    (c.self.invariant.0, rw (c.push_reserved.ensures.items, c.reserve.ensures.items, c.new.ensures, c.in_ok-asked.ensures.given) (held_append c.self.inside.files.items c.self.inside.opened.items (_ ∷ []) c.self.invariant.1 (held, λ ended. absurd cc, tt)))

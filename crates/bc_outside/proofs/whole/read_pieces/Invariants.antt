@@ -1,11 +1,11 @@
 use Rattle.std.proofs.Common.{◌≡◌, ◌≤◌, ◌-◌, false, [], length}
 use Rattle.bc_outside.specs.Calls.{ShelfKeeps, Takes}
-use Rattle.bc_outside.proofs.whole.read_at_most.Given as goal
+use Rattle.bc_outside.proofs.whole.read_pieces.Given as goal
 
 abbrev pub invariant-loop-bytes : goal.invariant-loop-bytes
 invariant-loop-bytes g l = record {
   within : length l.bytes.items ≤ l.limit;
-  room : length l.buffer.items ≡ 65536;
+  room : length l.piece ≡ length l.initial.piece;
   taken : Takes l.file l.bytes.items false (g.F.Shelf.told l.initial.shelf) (g.F.Shelf.told l.shelf);
   keeps : ShelfKeeps [] (g.F.Shelf.told l.initial.shelf) (g.F.Shelf.told l.shelf);
 }
