@@ -1,5 +1,5 @@
 -- What `next` answers, by what was taken and found.
-use Rattle.std.proofs.Common.{◌≡◌, ◌≤◌, ◌<◌, ℕ, ◌+◌, Bool, true, false, List, [], ◌++◌, take, drop, Option, Some, None, Result, Ok, Err, refl, ap, ◌∙◌, append_assoc, arith}
+use Rattle.std.proofs.Common.{◌≡◌, ◌≤◌, ◌<◌, ℕ, ◌+◌, Bool, true, false, List, [], ◌++◌, take, drop, Option, Some, None, Result, Ok, Err, refl, ap, ◌∙◌, append_assoc, arith, inl, inr}
 use Rattle.std.specs.Str.{bytes_eq}
 use Rattle.bc_outside.specs.Told.{ShelfTold}
 use Rattle.bc_outside.specs.declared.trouble.Trouble.{Trouble}
@@ -13,8 +13,8 @@ use Rattle.record_file.specs.declared.fault.FrameStop.TheVariants.{Fault, ReadFa
 use Rattle.record_file.specs.declared.found.Found.TheVariants as found
 use Rattle.record_file.specs.declared.place.Place.TheVariants.{AtMagic, AtFrame, Stopped}
 use Rattle.record_file.specs.Record.{magic, most_events}
-use Rattle.record_file.specs.Stops.{stop_of}
-use Rattle.record_file.specs.Frames.{Reading, events_at, coming, Comes, Gives, Nexts}
+use Rattle.record_file.specs.Stops.{StopsBy, stop_of}
+use Rattle.record_file.specs.Frames.{Reading, events_at, coming, Comes, Gives, Nexts, Moves}
 use Rattle.record_file.specs.inside.Found.{is_short}
 use Rattle.record_file.specs.inside.Fetched.{Fetched, Shows, Finds, Fills, Begins}
 use Rattle.record_file.proofs.Coming.{comes_as, ended_comes, fault_comes, short_comes, frame_comes, magic_comes, no_magic_comes, short_magic_comes, long_enough}
@@ -113,3 +113,16 @@ next_after result old mid new s t u same (e, is_at, (first, taken, comes)) n = r
 pub next_stopped : (file events : ℕ) (reason : RecordFault) (buffered : List ℕ) (s : ShelfTold) → Nexts (Err (Fault reason)) (record { file = file; events = events; place = Stopped reason; buffered = buffered }) (record { file = file; events = events; place = Stopped reason; buffered = buffered }) s s
 unfolding events_at
 next_stopped file events reason buffered s = record { bytes = []; met = false; taken = takes_none file s; gives = λ behind can. refl }
+
+pub moves_after : (result : Result (Option Event) FrameStop) (old mid new : Reading) → mid.events ≡ old.events → Moves result mid new → Moves result old new
+moves_after (Ok (Some event)) old mid new e m = (m.0 ∙ ap (λ n. n + 1) e, m.1, m.2, m.3)
+moves_after (Ok None) old mid new e m = (m.0 ∙ e, m.1)
+moves_after (Err (Fault reason)) old mid new e m = (m.0 ∙ e, m.1)
+moves_after (Err ReadFault) old mid new e m = m ∙ e
+moves_after (Err NoMemory) old mid new e m = m ∙ e
+
+pub stops_after : (result : Result (Option Event) FrameStop) (old mid new : ℕ) → old ≤ mid → StopsBy result mid new → StopsBy result old new
+stops_after (Ok event) old mid new le s = omega (arith, le, s)
+stops_after (Err (Fault reason)) old mid new le s = omega (arith, le, s)
+stops_after (Err ReadFault) old mid new le s = (omega (arith, le, s.0), elim s.1 [ inl rose ↦ inl (omega arith) | inr last ↦ inr last ])
+stops_after (Err NoMemory) old mid new le s = omega (arith, le, s)

@@ -31,7 +31,7 @@ pub enum RecordFault {
 #[derive(Clone, Copy, Debug, PartialEq, Eq, Error)]
 pub enum FrameStop {
     /// The record is faulty.
-    #[error("{0}")]
+    #[error(transparent)]
     Fault(RecordFault),
     /// The shelf failed, and counted a fault.
     #[error("the record could not be read")]

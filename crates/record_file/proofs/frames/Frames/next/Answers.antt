@@ -1,7 +1,7 @@
 use Rattle.std.proofs.Common.{[]}
 use Rattle.bc_outside.proofs.Keeping.{keeps_none, keeps_then}
 use Rattle.bc_outside.proofs.Keeping.{takes_length}
-use Rattle.record_file.proofs.Nexting.{next_after, next_stopped}
+use Rattle.record_file.proofs.Nexting.{next_after, next_stopped, moves_after, stops_after}
 use Rattle.record_file.proofs.frames.Frames.next.Goals as goal
 
 pub returns-in-Stopped-clause-nexts : goal.returns-in-Stopped-clause-nexts
@@ -18,3 +18,9 @@ returns-in_ok-read_magic-in-AtMagic-clause-nexts g c = next_after c.read_frame.r
 
 pub returns-in_ok-read_magic-in-AtMagic-clause-keeps : goal.returns-in_ok-read_magic-in-AtMagic-clause-keeps
 returns-in_ok-read_magic-in-AtMagic-clause-keeps g c = keeps_then [] [] c.read_magic.ensures.keeps c.read_frame.ensures.keeps
+
+pub returns-in_ok-read_magic-in-AtMagic-clause-moves : goal.returns-in_ok-read_magic-in-AtMagic-clause-moves
+returns-in_ok-read_magic-in-AtMagic-clause-moves g c = moves_after c.read_frame.result c.args.self.now c.read_magic.new.self c.read_frame.new.self c.in_ok-read_magic-in-AtMagic.ensures.begins.0 c.read_frame.ensures.moves
+
+pub returns-in_ok-read_magic-in-AtMagic-clause-causes : goal.returns-in_ok-read_magic-in-AtMagic-clause-causes
+returns-in_ok-read_magic-in-AtMagic-clause-causes g c = stops_after c.read_frame.result _ _ _ c.in_ok-read_magic-in-AtMagic.ensures.causes c.read_frame.ensures.causes
