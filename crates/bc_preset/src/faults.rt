@@ -1,7 +1,6 @@
 //! What can be wrong with a configuration.
 
 use crate::keys::Key;
-use std::fmt;
 use thiserror::Error;
 
 /// The first thing that is wrong with a configuration, in this order: its length, then line by line, then the keys
@@ -24,22 +23,9 @@ pub enum ConfigFault {
     #[error("line {0}: expected the name of a preset, mainnet or minimal")]
     BadPreset(u64),
     /// No line sets this key.
-    #[error(fmt = write_missing)]
+    #[error("{} is missing: expected {}", .0.name(), .0.expected())]
     Missing(Key),
     /// The value of this key is outside its range.
-    #[error(fmt = write_out_of_range)]
+    #[error("{} is out of range: expected {}", .0.name(), .0.expected())]
     OutOfRange(Key),
-}
-
-/// What is wrong with a key, and what stands behind it in a configuration.
-fn write_key<W: fmt::Write>(key: Key, what: &str, f: &mut fmt::Formatter<W>) -> fmt::Result {
-    write!(f, "{} is {what}: expected {}", key.name(), key.expected())
-}
-
-fn write_missing<W: fmt::Write>(key: &Key, f: &mut fmt::Formatter<W>) -> fmt::Result {
-    write_key(*key, "missing", f)
-}
-
-fn write_out_of_range<W: fmt::Write>(key: &Key, f: &mut fmt::Formatter<W>) -> fmt::Result {
-    write_key(*key, "out of range", f)
 }
