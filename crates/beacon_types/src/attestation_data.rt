@@ -13,7 +13,7 @@ use ssz_codec::{
 use std::alloc::Global;
 
 /// The vote of an attestation (beacon-chain.md, "AttestationData").
-#[derive(Clone, Copy, Debug, PartialEq, Eq)]
+#[derive(Clone, Copy, PartialEq, Eq)]
 pub struct AttestationData {
     /// The slot that it votes in.
     pub slot: u64,
