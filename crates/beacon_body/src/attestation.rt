@@ -81,12 +81,14 @@ impl Ssz for Attestation {
 
 impl VariableSsz for Attestation {
     fn copy(&self) -> Result<Attestation, NoMemory> {
-        let aggregation_bits = self.aggregation_bits.copy()?;
-        Ok(Attestation {
-            aggregation_bits,
-            content: self.content,
-            signature: self.signature,
-        })
+        match self.aggregation_bits.copy() {
+            Ok(aggregation_bits) => Ok(Attestation {
+                aggregation_bits,
+                content: self.content,
+                signature: self.signature,
+            }),
+            Err(refused) => Err(refused),
+        }
     }
 
     ghost is_variable = { refl };
