@@ -50,7 +50,6 @@ impl Ssz for Attestation {
         Field::Variable
     }
 
-    #[tactic(auto, using(ssz_codec::proofs::Fieldwise::three_read, ssz_codec::proofs::Fieldwise::three_unread))]
     fn parse(alloc: Global, bytes: &[u8]) -> Result<Attestation, SszFault> {
         read_container!(
             alloc,

@@ -42,7 +42,6 @@ impl Ssz for AttestationData {
         Field::Fixed(128)
     }
 
-    #[tactic(auto, using(ssz_codec::proofs::Fieldwise::five_read, ssz_codec::proofs::Fieldwise::five_unread))]
     fn parse(alloc: Global, bytes: &[u8]) -> Result<AttestationData, SszFault> {
         read_container!(
             alloc,
