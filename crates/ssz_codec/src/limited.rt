@@ -1,7 +1,7 @@
 //! Lists whose type says how many values they may have, so that a container with such a field reads, writes and has its
 //! root as any other.
 
-ghost use Rattle.std.specs.Prelude.{◌≡◌, ℕ, ◌==◌, ◌≤◌, ◌<◌, ◌^◌, ◌∷◌, ◌++◌, [], length, refl, OnOk, OnErr, IfOk, IsTrue, ◌↔◌};
+ghost use Rattle.std.specs.Prelude.{◌≡◌, ℕ, ◌≤◌, ◌<◌, ◌^◌, ◌∷◌, ◌++◌, [], length, refl, OnOk, OnErr, IfOk, IsTrue, ◌↔◌};
 ghost use Rattle.ssz_codec.specs.Layout.{field_length};
 ghost use Rattle.ssz_codec.specs.Lists.{list_codec};
 ghost use Rattle.ssz_codec.specs.laws.Lists.{list_lawful};

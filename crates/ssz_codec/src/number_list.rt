@@ -1,7 +1,7 @@
 //! Lists of numbers whose type says how many there may be. Bytes come from containers, which are read, written and rooted
 //! with such a field as with any other.
 
-ghost use Rattle.std.specs.Prelude.{◌≡◌, ◌==◌, ◌≤◌, ◌++◌, length, refl, IfOk, IsTrue, ◌↔◌};
+ghost use Rattle.std.specs.Prelude.{◌≡◌, ◌≤◌, ◌++◌, length, refl, IfOk, IsTrue, ◌↔◌};
 ghost use Rattle.ssz_codec.specs.Basic.{uint64};
 ghost use Rattle.ssz_codec.specs.Lists.{list_codec};
 ghost use Rattle.ssz_codec.specs.laws.Basic.{uint64_lawful, uint64_is_fixed};

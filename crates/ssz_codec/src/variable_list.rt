@@ -1,12 +1,12 @@
 //! Lists of values of variable size whose type says how many there may be, as blocks have of attestations. Bytes come
 //! from containers, which are read, written and rooted with such a field as with any other.
 
-ghost use Rattle.std.specs.Prelude.{◌≡◌, ◌==◌, ◌≤◌, ◌*◌, ◌^◌, ◌++◌, length, map, replicate, take, refl, OnOk, OnErr, IfOk, IsTrue, ◌↔◌};
+ghost use Rattle.std.specs.Prelude.{◌≡◌, ◌≤◌, ◌*◌, ◌^◌, ◌++◌, length, map, replicate, take, refl, OnOk, OnErr, IfOk, IsTrue, ◌↔◌};
 ghost use Rattle.ssz_codec.specs.declared.layout.Field.TheVariants.{Variable};
 ghost use Rattle.ssz_codec.specs.Layout.{joined};
 ghost use Rattle.ssz_codec.specs.Lists.{variable_list_codec};
 ghost use Rattle.ssz_codec.specs.laws.Lists.{variable_list_lawful};
-ghost use Rattle.ssz_codec.specs.inside.Halves.{nothing_written, with_variable_parts};
+ghost use Rattle.ssz_codec.specs.inside.Halves.{with_variable_parts};
 
 use crate::fault::SszFault;
 use crate::items::Items;

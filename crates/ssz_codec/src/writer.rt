@@ -1,7 +1,7 @@
 //! Bytes that are being written: the writers of containers put their fields here, and what is finished goes to files
 //! and hashes.
 
-ghost use Rattle.std.specs.Prelude.{◌≡◌, ◌<◌, ◌^◌, [], ◌++◌, ◌==◌, length, take, OnOk, OnErr};
+ghost use Rattle.std.specs.Prelude.{◌≡◌, ◌<◌, ◌^◌, [], ◌++◌, length, take, OnOk, OnErr};
 ghost use Rattle.hash_tree.specs.Merkle.{u64_bytes, bool_bytes};
 ghost use Rattle.ssz_codec.specs.Layout.{offset_bytes};
 
