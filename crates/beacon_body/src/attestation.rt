@@ -50,7 +50,6 @@ impl Ssz for Attestation {
         Field::Variable
     }
 
-    #[tactic(auto, using(ssz_codec::proofs::Fieldwise::three_read, ssz_codec::proofs::Fieldwise::three_unread))]
     fn parse(alloc: Global, bytes: &[u8]) -> Result<Attestation, SszFault> {
         read_container!(
             alloc,
@@ -81,12 +80,14 @@ impl Ssz for Attestation {
 
 impl VariableSsz for Attestation {
     fn copy(&self) -> Result<Attestation, NoMemory> {
-        let aggregation_bits = self.aggregation_bits.copy()?;
-        Ok(Attestation {
-            aggregation_bits,
-            content: self.content,
-            signature: self.signature,
-        })
+        match self.aggregation_bits.copy() {
+            Ok(aggregation_bits) => Ok(Attestation {
+                aggregation_bits,
+                content: self.content,
+                signature: self.signature,
+            }),
+            Err(refused) => Err(refused),
+        }
     }
 
     ghost is_variable = { refl };

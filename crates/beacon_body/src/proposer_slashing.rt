@@ -14,7 +14,7 @@ use ssz_codec::{
 use std::alloc::Global;
 
 /// Two headers for which their proposer is slashed (beacon-chain.md, "ProposerSlashing").
-#[derive(Clone, Copy, Debug, PartialEq, Eq)]
+#[derive(Clone, Copy, PartialEq, Eq)]
 pub struct ProposerSlashing {
     /// One header.
     pub signed_header_1: SignedBeaconBlockHeader,

@@ -13,7 +13,7 @@ use ssz_codec::{
 use std::alloc::Global;
 
 /// The vote of an attestation (beacon-chain.md, "AttestationData").
-#[derive(Clone, Copy, Debug, PartialEq, Eq)]
+#[derive(Clone, Copy, PartialEq, Eq)]
 pub struct AttestationData {
     /// The slot that it votes in.
     pub slot: u64,
@@ -42,7 +42,6 @@ impl Ssz for AttestationData {
         Field::Fixed(128)
     }
 
-    #[tactic(auto, using(ssz_codec::proofs::Fieldwise::five_read, ssz_codec::proofs::Fieldwise::five_unread))]
     fn parse(alloc: Global, bytes: &[u8]) -> Result<AttestationData, SszFault> {
         read_container!(
             alloc,

@@ -12,7 +12,7 @@ use ssz_codec::{
 use std::alloc::Global;
 
 /// A block, its body by root alone (beacon-chain.md, "BeaconBlockHeader").
-#[derive(Clone, Copy, Debug, PartialEq, Eq)]
+#[derive(Clone, Copy, PartialEq, Eq)]
 pub struct BeaconBlockHeader {
     /// The slot of the block.
     pub slot: u64,

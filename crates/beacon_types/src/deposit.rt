@@ -43,11 +43,13 @@ impl Deposit {
     pub fn copy(&self) -> Result<Deposit, NoMemory>
         ensures { IfOk result (λ copy. copy ≡ self.now) }
     {
-        let proof = self.proof.copy()?;
-        Ok(Deposit {
-            proof,
-            content: self.content,
-        })
+        match self.proof.copy() {
+            Ok(proof) => Ok(Deposit {
+                proof,
+                content: self.content,
+            }),
+            Err(refused) => Err(refused),
+        }
     }
 
     /// Whether it is the same deposit.

@@ -12,7 +12,7 @@ use ssz_codec::{
 use std::alloc::Global;
 
 /// A deposit (beacon-chain.md, "DepositData").
-#[derive(Clone, Copy, Debug, PartialEq, Eq)]
+#[derive(Clone, Copy, PartialEq, Eq)]
 pub struct DepositData {
     /// Its key.
     pub pubkey: [u8; 48],

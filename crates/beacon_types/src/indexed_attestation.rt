@@ -9,7 +9,7 @@ use crate::limits::CommitteeLimit;
 use bc_words::NoMemory;
 use hash_tree::{Leaf, Root};
 use ssz_codec::{
-    Field, NumberList, Offset, Ssz, SszFault, VariableSsz, Writer, read_container,
+    Field, ListValue, NumberList, Offset, Ssz, SszFault, VariableSsz, Writer, read_container,
     root_of_container, write_pieces,
 };
 use std::alloc::Global;
@@ -54,7 +54,6 @@ impl Ssz for IndexedAttestation {
         Field::Variable
     }
 
-    #[tactic(auto, using(ssz_codec::proofs::Fieldwise::three_read, ssz_codec::proofs::Fieldwise::three_unread))]
     fn parse(alloc: Global, bytes: &[u8]) -> Result<IndexedAttestation, SszFault> {
         read_container!(
             alloc,
@@ -85,13 +84,25 @@ impl Ssz for IndexedAttestation {
 
 impl VariableSsz for IndexedAttestation {
     fn copy(&self) -> Result<IndexedAttestation, NoMemory> {
-        let attesting_indices = self.attesting_indices.copy()?;
-        Ok(IndexedAttestation {
-            attesting_indices,
-            content: self.content,
-            signature: self.signature,
-        })
+        match self.attesting_indices.copy() {
+            Ok(attesting_indices) => Ok(IndexedAttestation {
+                attesting_indices,
+                content: self.content,
+                signature: self.signature,
+            }),
+            Err(refused) => Err(refused),
+        }
     }
 
     ghost is_variable = { refl };
+}
+
+impl ListValue for IndexedAttestation {
+    fn copied(&self) -> Result<IndexedAttestation, NoMemory> {
+        self.copy()
+    }
+
+    fn same(&self, other: &IndexedAttestation) -> bool {
+        self.equals(other)
+    }
 }

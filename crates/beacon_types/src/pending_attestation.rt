@@ -1,6 +1,6 @@
 //! An attestation that waits in the state for the end of its epoch.
 
-ghost use Rattle.std.specs.Prelude.{◌≡◌, ◌==◌, ◌≤◌, length, slice_get, refl, IfOk, IsTrue, ◌↔◌};
+ghost use Rattle.std.specs.Prelude.{◌≡◌, ◌≤◌, length, slice_get, refl, IfOk, IsTrue, ◌↔◌};
 ghost use Rattle.beacon_types.specs.Limits.{max_validators_per_committee};
 ghost use Rattle.beacon_types.specs.Containers.{aggregation_bits_codec, pending_attestation_codec};
 ghost use Rattle.beacon_types.specs.laws.Containers.{aggregation_bits_lawful, pending_attestation_lawful};
@@ -59,13 +59,6 @@ impl AggregationBits {
         self.bits.len()
     }
 
-    /// Whether there is no bit.
-    pub fn is_empty(&self) -> bool
-        ensures { result ≡ (length self.now == 0) }
-    {
-        self.bits.is_empty()
-    }
-
     /// The bit at an index. None exactly where the index is not below the length.
     pub fn get(&self, index: u64) -> Option<bool>
         ensures { result ≡ slice_get self.now index }
@@ -80,8 +73,10 @@ impl AggregationBits {
         ensures { IfOk result (λ bits. bits ≡ self.now) }
     {
         let _len = self.len();
-        let bits = self.bits.copy()?;
-        Ok(AggregationBits { bits })
+        match self.bits.copy() {
+            Ok(bits) => Ok(AggregationBits { bits }),
+            Err(refused) => Err(refused),
+        }
     }
 
     /// Whether these are the same bits.
@@ -108,8 +103,10 @@ impl Ssz for AggregationBits {
     }
 
     fn parse(alloc: Global, bytes: &[u8]) -> Result<AggregationBits, SszFault> {
-        let bits = BitList::read(alloc, bytes, MAX_VALIDATORS_PER_COMMITTEE)?;
-        Ok(AggregationBits { bits })
+        match BitList::read(alloc, bytes, MAX_VALIDATORS_PER_COMMITTEE) {
+            Ok(bits) => Ok(AggregationBits { bits }),
+            Err(fault) => Err(fault),
+        }
     }
 
     fn append_to(&self, out: &mut Writer) -> Result<(), NoMemory> {
@@ -139,13 +136,15 @@ impl PendingAttestation {
     pub fn copy(&self) -> Result<PendingAttestation, NoMemory>
         ensures { IfOk result (λ copy. copy ≡ self.now) }
     {
-        let aggregation_bits = self.aggregation_bits.copy()?;
-        Ok(PendingAttestation {
-            aggregation_bits,
-            content: self.content,
-            inclusion_delay: self.inclusion_delay,
-            proposer_index: self.proposer_index,
-        })
+        match self.aggregation_bits.copy() {
+            Ok(aggregation_bits) => Ok(PendingAttestation {
+                aggregation_bits,
+                content: self.content,
+                inclusion_delay: self.inclusion_delay,
+                proposer_index: self.proposer_index,
+            }),
+            Err(refused) => Err(refused),
+        }
     }
 
     /// Whether it is the same attestation.
@@ -180,7 +179,6 @@ impl Ssz for PendingAttestation {
         Field::Variable
     }
 
-    #[tactic(auto, using(ssz_codec::proofs::Fieldwise::four_read, ssz_codec::proofs::Fieldwise::four_unread))]
     fn parse(alloc: Global, bytes: &[u8]) -> Result<PendingAttestation, SszFault> {
         read_container!(
             alloc,

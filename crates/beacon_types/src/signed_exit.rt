@@ -14,7 +14,7 @@ use ssz_codec::{
 use std::alloc::Global;
 
 /// An exit that was signed (beacon-chain.md, "SignedVoluntaryExit").
-#[derive(Clone, Copy, Debug, PartialEq, Eq)]
+#[derive(Clone, Copy, PartialEq, Eq)]
 pub struct SignedVoluntaryExit {
     /// The exit.
     pub message: VoluntaryExit,

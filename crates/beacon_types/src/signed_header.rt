@@ -13,7 +13,7 @@ use ssz_codec::{
 use std::alloc::Global;
 
 /// A header that was signed (beacon-chain.md, "SignedBeaconBlockHeader").
-#[derive(Clone, Copy, Debug, PartialEq, Eq)]
+#[derive(Clone, Copy, PartialEq, Eq)]
 pub struct SignedBeaconBlockHeader {
     /// The header.
     pub message: BeaconBlockHeader,

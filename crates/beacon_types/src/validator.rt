@@ -62,7 +62,6 @@ impl Ssz for Validator {
         Field::Fixed(121)
     }
 
-    #[tactic(auto, using(ssz_codec::proofs::Fieldwise::eight_read, ssz_codec::proofs::Fieldwise::eight_unread))]
     fn parse(alloc: Global, bytes: &[u8]) -> Result<Validator, SszFault> {
         read_container!(
             alloc,

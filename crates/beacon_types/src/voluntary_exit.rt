@@ -12,7 +12,7 @@ use ssz_codec::{
 use std::alloc::Global;
 
 /// A validator that wants to exit (beacon-chain.md, "VoluntaryExit").
-#[derive(Clone, Copy, Debug, PartialEq, Eq)]
+#[derive(Clone, Copy, PartialEq, Eq)]
 pub struct VoluntaryExit {
     /// The epoch from which it may.
     pub epoch: u64,

@@ -3,10 +3,9 @@
 use Rattle.std.proofs.Common.{◌≡◌, ℕ, List, [], ◌∷◌, ◌++◌, Option, Some, None, length, take, drop, refl, sym, ap, ◌∙◌, append_assoc}
 use Rattle.std.proofs.lemmas.List.{take-append-drop}
 use Rattle.std.proofs.Math.Seq.{take-append_seam}
-use Rattle.ssz_codec.specs.declared.layout.Field.{Field}
 use Rattle.ssz_codec.specs.declared.fault.SszFault.{SszFault}
 use Rattle.ssz_codec.specs.declared.fault.SszFault.TheVariants.{NotAWriting, NoMemory}
-use Rattle.ssz_codec.specs.Layout.{◌and_then◌, cut}
+use Rattle.ssz_codec.specs.Layout.{◌and_then◌}
 use Rattle.ssz_codec.specs.Codec.{Codec}
 use Rattle.ssz_codec.specs.Containers.{deserialize_next, all_read}
 use Rattle.ssz_codec.specs.Reads.{Fails}

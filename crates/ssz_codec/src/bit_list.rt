@@ -54,6 +54,17 @@ fn with_bit(byte: u8, used: u64, bit: bool) -> u8
     if bit { byte + (1 << used) } else { byte }
 }
 
+/// Bytes, and one more behind them. Where memory is refused, a part of them may stand there.
+fn put_ended(front: &[u8], last: u8, out: &mut Writer) -> Result<(), NoMemory>
+    ensures ok { OnOk result (out.new ≡ out.old ++ (front.now ++ last ∷ [])) }
+    ensures err { OnErr result (take (length out.old) out.new ≡ out.old) }
+{
+    match out.put_bytes(front) {
+        Ok(()) => out.put_bytes(&[last]),
+        Err(refused) => Err(refused),
+    }
+}
+
 impl BitList {
     /// No bit.
     pub fn new(alloc: Global) -> BitList
@@ -73,9 +84,13 @@ impl BitList {
     {
         let used = self.len % 8;
         if used == 0 {
-            self.bytes.push(with_bit(0, 0, bit))?;
-            self.len += 1;
-            return Ok(());
+            return match self.bytes.push(with_bit(0, 0, bit)) {
+                Ok(()) => {
+                    self.len += 1;
+                    Ok(())
+                }
+                Err(_refused) => Err(NoMemory),
+            };
         }
         let last = self.bytes.len() - 1;
         let byte = self.bytes[last];
@@ -89,13 +104,6 @@ impl BitList {
         ensures { result ≡ length self.now }
     {
         self.len
-    }
-
-    /// Whether there is no bit.
-    pub fn is_empty(&self) -> bool
-        ensures { result ≡ (length self.now == 0) }
-    {
-        self.len == 0
     }
 
     /// The bit at an index. None exactly where the index is not below the length.
@@ -113,11 +121,13 @@ impl BitList {
     pub fn copy(&self) -> Result<BitList, NoMemory>
         ensures { IfOk result (λ bits. bits ≡ self.now) }
     {
-        let bytes = Vec::from_slice(*self.bytes.allocator(), &self.bytes)?;
-        Ok(BitList {
-            bytes,
-            len: self.len,
-        })
+        match Vec::from_slice(*self.bytes.allocator(), &self.bytes) {
+            Ok(bytes) => Ok(BitList {
+                bytes,
+                len: self.len,
+            }),
+            Err(_refused) => Err(NoMemory),
+        }
     }
 
     /// Whether these are the same bits.
@@ -134,16 +144,12 @@ impl BitList {
     {
         let used = self.len % 8;
         if used == 0 {
-            out.put_bytes(&self.bytes)?;
-            out.put_bytes(&[1])?;
-            return Ok(());
+            return put_ended(&self.bytes, 1, out);
         }
-        let Some((last, front)) = self.bytes.split_last() else {
-            unreachable!()
-        };
-        out.put_bytes(front)?;
-        out.put_bytes(&[*last + (1 << used)])?;
-        Ok(())
+        match self.bytes.split_last() {
+            Some((last, front)) => put_ended(front, *last + (1 << used), out),
+            None => unreachable!(),
+        }
     }
 
     /// The writing, behind what is written already. Where memory is refused, the writer is as before.
@@ -166,8 +172,10 @@ impl BitList {
         ensures { IfOk result (λ bytes. bytes.items ≡ bit_list_bytes self.now) }
     {
         let mut out = Writer::new(alloc);
-        self.write_to(&mut out)?;
-        Ok(out.finish())
+        match self.write_to(&mut out) {
+            Ok(()) => Ok(out.finish()),
+            Err(refused) => Err(refused),
+        }
     }
 
     /// The root, as a list of at most so many bits (simple-serialize.md, "Merkleization").
@@ -209,8 +217,10 @@ impl BitList {
         if limit < 8 * whole + u64::from(place) {
             return Err(SszFault::NotAWriting);
         }
-        let bits = before_delimiter(alloc, front, last, place)?;
-        Ok(bits)
+        match before_delimiter(alloc, front, last, place) {
+            Ok(bits) => Ok(bits),
+            Err(_refused) => Err(SszFault::NoMemory),
+        }
     }
 }
 

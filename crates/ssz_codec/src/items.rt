@@ -1,6 +1,6 @@
 //! A list of values, which contracts see as the list alone.
 
-ghost use Rattle.std.specs.Prelude.{◌≡◌, ◌==◌, [], ◌∷◌, ◌++◌, length, slice_get, OnOk, OnErr, IfOk};
+ghost use Rattle.std.specs.Prelude.{◌≡◌, [], ◌∷◌, ◌++◌, length, slice_get, OnOk, OnErr, IfOk};
 ghost use Rattle.std.specs.Option.{option_map};
 
 use bc_words::NoMemory;
@@ -52,13 +52,6 @@ impl<T> Items<T> {
         self.values.len()
     }
 
-    /// Whether there is none.
-    pub fn is_empty(&self) -> bool
-        ensures { result ≡ (length self.now == 0) }
-    {
-        self.values.is_empty()
-    }
-
     /// All of them.
     pub fn as_slice(&self) -> &[T]
         ensures { result.now ≡ self.now }
@@ -80,8 +73,10 @@ impl<T: Drop> Items<T> {
         ensures ok { OnOk result (self.new ≡ self.old ++ value ∷ []) }
         ensures err { OnErr result (self.new ≡ self.old) }
     {
-        self.values.push(value)?;
-        Ok(())
+        match self.values.push(value) {
+            Ok(()) => Ok(()),
+            Err(_refused) => Err(NoMemory),
+        }
     }
 }
 
@@ -90,7 +85,9 @@ impl<T: Copy> Items<T> {
     pub fn copy(&self) -> Result<Items<T>, NoMemory>
         ensures { IfOk result (λ items. items ≡ self.now) }
     {
-        let values = Vec::from_slice(*self.values.allocator(), self.values.as_slice())?;
-        Ok(Items { values })
+        match Vec::from_slice(*self.values.allocator(), &self.values) {
+            Ok(values) => Ok(Items { values }),
+            Err(_refused) => Err(NoMemory),
+        }
     }
 }

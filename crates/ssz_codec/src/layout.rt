@@ -8,7 +8,7 @@ ghost use Rattle.ssz_codec.specs.inside.Cutting.{GivesParts};
 use crate::fault::SszFault;
 
 /// How a field stands in the fixed part of its container (simple-serialize.md, "Serialization").
-#[derive(Clone, Copy, Debug, PartialEq, Eq)]
+#[derive(Clone, Copy)]
 pub enum Field {
     /// By its own bytes, so many.
     Fixed(usize),

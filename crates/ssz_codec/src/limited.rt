@@ -1,7 +1,7 @@
 //! Lists whose type says how many values they may have, so that a container with such a field reads, writes and has its
 //! root as any other.
 
-ghost use Rattle.std.specs.Prelude.{◌≡◌, ℕ, ◌==◌, ◌≤◌, ◌<◌, ◌^◌, ◌∷◌, ◌++◌, [], length, refl, OnOk, OnErr, IfOk, IsTrue, ◌↔◌};
+ghost use Rattle.std.specs.Prelude.{◌≡◌, ℕ, ◌≤◌, ◌<◌, ◌^◌, ◌∷◌, ◌++◌, [], length, refl, OnOk, OnErr, IfOk, IsTrue, ◌↔◌};
 ghost use Rattle.ssz_codec.specs.Layout.{field_length};
 ghost use Rattle.ssz_codec.specs.Lists.{list_codec};
 ghost use Rattle.ssz_codec.specs.laws.Lists.{list_lawful};
@@ -87,13 +87,6 @@ impl<T: FixedSsz, L: ListLimit> LimitedList<T, L> {
     {
         self.values.len() as u64
     }
-
-    /// Whether there is none.
-    pub fn is_empty(&self) -> bool
-        ensures { result ≡ (length self.now == 0) }
-    {
-        self.values.is_empty()
-    }
 }
 
 impl<T: FixedSsz + ListValue, L: ListLimit> LimitedList<T, L> {
@@ -102,11 +95,13 @@ impl<T: FixedSsz + ListValue, L: ListLimit> LimitedList<T, L> {
         ensures { IfOk result (λ copy. copy ≡ self.now) }
     {
         let _len = self.len();
-        let values = copy_all(alloc, self.values.as_slice())?;
-        Ok(LimitedList {
-            values,
-            limit: PhantomData,
-        })
+        match copy_all(alloc, self.values.as_slice()) {
+            Ok(values) => Ok(LimitedList {
+                values,
+                limit: PhantomData,
+            }),
+            Err(refused) => Err(refused),
+        }
     }
 
     /// Whether these are the same values.
@@ -134,11 +129,13 @@ impl<T: FixedSsz, L: ListLimit> Ssz for LimitedList<T, L> {
     }
 
     fn parse(alloc: Global, bytes: &[u8]) -> Result<LimitedList<T, L>, SszFault> {
-        let values = read_list(alloc, bytes, size_of::<T>(), L::LIMIT)?;
-        Ok(LimitedList {
-            values,
-            limit: PhantomData,
-        })
+        match read_list(alloc, bytes, size_of::<T>(), L::LIMIT) {
+            Ok(values) => Ok(LimitedList {
+                values,
+                limit: PhantomData,
+            }),
+            Err(fault) => Err(fault),
+        }
     }
 
     fn append_to(&self, out: &mut Writer) -> Result<(), NoMemory> {

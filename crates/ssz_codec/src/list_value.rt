@@ -1,7 +1,7 @@
 //! What a list needs of its values to be copied and compared. The lists with a limit in their type use it; values come
 //! from blocks and states.
 
-ghost use Rattle.std.specs.Prelude.{◌≡◌, IfOk, IsTrue, ◌↔◌};
+ghost use Rattle.std.specs.Prelude.{◌≡◌, ◌++◌, ◌∷◌, [], OnOk, IfOk, IsTrue, ◌↔◌};
 
 use crate::items::Items;
 use bc_words::NoMemory;
@@ -28,15 +28,35 @@ impl ListValue for [u8; 32] {
     }
 }
 
+/// One more copy behind the others.
+fn push_copy<T: ListValue>(value: &T, copies: &mut Items<T>) -> Result<(), NoMemory>
+    ensures { OnOk result (copies.new ≡ copies.old ++ value.now ∷ []) }
+{
+    match value.copied() {
+        Ok(copy) => copies.push(copy),
+        Err(refused) => Err(refused),
+    }
+}
+
+/// Copies of these values behind the others.
+fn push_copies<T: ListValue>(values: &[T], copies: &mut Items<T>) -> Result<(), NoMemory>
+    ensures { OnOk result (copies.new ≡ copies.old ++ values.now) }
+{
+    for value in values {
+        push_copy(value, copies)?;
+    }
+    Ok(())
+}
+
 /// The same values once more.
 pub(crate) fn copy_all<T: ListValue>(alloc: Global, values: &[T]) -> Result<Items<T>, NoMemory>
     ensures { IfOk result (λ copies. copies ≡ values.now) }
 {
-    let mut copies = Vec::with_capacity(alloc, values.len())?;
-    for value in values {
-        copies.push(value.copied()?)?;
+    let mut copies = Items::new(alloc);
+    match push_copies(values, &mut copies) {
+        Ok(()) => Ok(copies),
+        Err(refused) => Err(refused),
     }
-    Ok(Items::from_vec(copies))
 }
 
 /// Whether these are the same values.

@@ -78,9 +78,13 @@ fn cut_list(alloc: Global, bytes: &[u8], count: usize) -> Result<Vec<&[u8]>, Ssz
     ensures { MatchResult result (λ parts. cut (replicate count Variable) bytes.now ≡ Some (map (λ part. part.now) parts.items)) (λ e. Fails e (cut (replicate count Variable) bytes.now)) }
 {
     let fields = vec![in alloc; Field::Variable; count]?;
-    let mut parts = vec![in alloc; bytes; count]?;
-    layout::cut(bytes, &fields, &mut parts)?;
-    Ok(parts)
+    match vec![in alloc; bytes; count] {
+        Ok(mut parts) => match layout::cut(bytes, &fields, &mut parts) {
+            Ok(()) => Ok(parts),
+            Err(fault) => Err(fault),
+        },
+        Err(_refused) => Err(SszFault::NoMemory),
+    }
 }
 
 /// Reads a list of values of variable size, at most `limit` of them.
@@ -104,8 +108,10 @@ pub fn read_variable_list<T: Ssz>(
     if count > bytes.len() / 4 {
         return Err(SszFault::NotAWriting);
     }
-    let parts = cut_list(alloc, bytes, count)?;
-    read_parts(alloc, &parts)
+    match cut_list(alloc, bytes, count) {
+        Ok(parts) => read_parts(alloc, &parts),
+        Err(fault) => Err(fault),
+    }
 }
 
 /// Writes values one after another. Where memory is refused, some of them may stand there.

@@ -1,7 +1,7 @@
 //! Lists of numbers whose type says how many there may be. Bytes come from containers, which are read, written and rooted
 //! with such a field as with any other.
 
-ghost use Rattle.std.specs.Prelude.{◌≡◌, ◌==◌, ◌≤◌, ◌++◌, length, refl, IfOk, IsTrue, ◌↔◌};
+ghost use Rattle.std.specs.Prelude.{◌≡◌, ◌≤◌, ◌++◌, length, refl, IfOk, IsTrue, ◌↔◌};
 ghost use Rattle.ssz_codec.specs.Basic.{uint64};
 ghost use Rattle.ssz_codec.specs.Lists.{list_codec};
 ghost use Rattle.ssz_codec.specs.laws.Basic.{uint64_lawful, uint64_is_fixed};
@@ -66,23 +66,18 @@ impl<L: ListLimit> NumberList<L> {
         self.numbers.len() as u64
     }
 
-    /// Whether there is none.
-    pub fn is_empty(&self) -> bool
-        ensures { result ≡ (length self.now == 0) }
-    {
-        self.numbers.is_empty()
-    }
-
     /// The same numbers once more.
     pub fn copy(&self) -> Result<NumberList<L>, NoMemory>
         ensures { IfOk result (λ copy. copy ≡ self.now) }
     {
         let _len = self.len();
-        let numbers = self.numbers.copy()?;
-        Ok(NumberList {
-            numbers,
-            limit: PhantomData,
-        })
+        match self.numbers.copy() {
+            Ok(numbers) => Ok(NumberList {
+                numbers,
+                limit: PhantomData,
+            }),
+            Err(refused) => Err(refused),
+        }
     }
 
     /// Whether these are the same numbers.
@@ -110,11 +105,13 @@ impl<L: ListLimit> Ssz for NumberList<L> {
     }
 
     fn parse(alloc: Global, bytes: &[u8]) -> Result<NumberList<L>, SszFault> {
-        let numbers = read_list(alloc, bytes, 8, L::LIMIT)?;
-        Ok(NumberList {
-            numbers,
-            limit: PhantomData,
-        })
+        match read_list(alloc, bytes, 8, L::LIMIT) {
+            Ok(numbers) => Ok(NumberList {
+                numbers,
+                limit: PhantomData,
+            }),
+            Err(fault) => Err(fault),
+        }
     }
 
     fn append_to(&self, out: &mut Writer) -> Result<(), NoMemory> {

@@ -65,8 +65,10 @@ impl PartsWriter {
     pub fn add_variable<T: Ssz>(&mut self, value: &T) -> Result<(), NoMemory>
         ensures { OnOk result (self.new ≡ with_part Variable (T.codec.serialize value.now) self.old) }
     {
-        self.put_offset()?;
-        value.write_to(&mut self.variable)
+        match self.put_offset() {
+            Ok(()) => value.write_to(&mut self.variable),
+            Err(refused) => Err(refused),
+        }
     }
 
     /// The next field.
@@ -90,8 +92,10 @@ impl PartsWriter {
     pub fn add_items<T: Ssz>(&mut self, values: &[T]) -> Result<(), NoMemory>
         ensures { OnOk result (self.new ≡ with_variable (flat_map T.codec.serialize values.now) self.old) }
     {
-        self.put_offset()?;
-        append_items(values, &mut self.variable)
+        match self.put_offset() {
+            Ok(()) => append_items(values, &mut self.variable),
+            Err(refused) => Err(refused),
+        }
     }
 
     /// A list of values of variable size.
@@ -99,8 +103,10 @@ impl PartsWriter {
         requires { length values.now ≤ 2 ^ 40 }
         ensures { OnOk result (self.new ≡ with_variable (joined (replicate (length values.now) Variable) (map T.codec.serialize values.now)) self.old) }
     {
-        self.put_offset()?;
-        append_list(values, &mut self.variable)
+        match self.put_offset() {
+            Ok(()) => append_list(values, &mut self.variable),
+            Err(refused) => Err(refused),
+        }
     }
 
     /// All that is written goes behind these bytes. Where memory is refused, a part of it may stand there.
@@ -108,8 +114,10 @@ impl PartsWriter {
         ensures ok { OnOk result (out.new ≡ out.old ++ whole_of self.now) }
         ensures err { OnErr result (take (length out.old) out.new ≡ out.old) }
     {
-        out.put_bytes(self.fixed.as_slice())?;
-        out.put_bytes(self.variable.as_slice())
+        match out.put_bytes(self.fixed.as_slice()) {
+            Ok(()) => out.put_bytes(self.variable.as_slice()),
+            Err(refused) => Err(refused),
+        }
     }
 
     /// All that is written, in one piece.
@@ -121,8 +129,10 @@ impl PartsWriter {
             variable,
             start: _,
         } = self;
-        fixed.put_bytes(variable.as_slice())?;
-        Ok(fixed.finish())
+        match fixed.put_bytes(variable.as_slice()) {
+            Ok(()) => Ok(fixed.finish()),
+            Err(refused) => Err(refused),
+        }
     }
 }
 
@@ -150,8 +160,10 @@ impl<'a, T: Ssz, R: FieldRow> FieldRow for (&'a T, R) {
     ghost adding = { λ row halves. R.adding row.1 (with_part T.codec.field (T.codec.serialize row.0.now) halves) };
 
     fn add_to(&self, parts: &mut PartsWriter) -> Result<(), NoMemory> {
-        parts.add(self.0)?;
-        self.1.add_to(parts)
+        match parts.add(self.0) {
+            Ok(()) => self.1.add_to(parts),
+            Err(refused) => Err(refused),
+        }
     }
 }
 
@@ -165,6 +177,8 @@ pub fn append_fields<R: FieldRow>(
     ensures err { OnErr result (take (length out.old) out.new ≡ out.old) }
 {
     let mut parts = PartsWriter::beside(out, fixed_length);
-    fields.add_to(&mut parts)?;
-    parts.append_to(out)
+    match fields.add_to(&mut parts) {
+        Ok(()) => parts.append_to(out),
+        Err(refused) => Err(refused),
+    }
 }

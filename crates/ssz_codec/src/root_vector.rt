@@ -73,11 +73,13 @@ impl<L: VectorLength> RootVector<L> {
         ensures { IfOk result (λ copy. copy ≡ self.now) }
     {
         let _all = self.as_slice();
-        let values = self.values.copy()?;
-        Ok(RootVector {
-            values,
-            count: PhantomData,
-        })
+        match self.values.copy() {
+            Ok(values) => Ok(RootVector {
+                values,
+                count: PhantomData,
+            }),
+            Err(refused) => Err(refused),
+        }
     }
 
     /// Whether these are the same roots.
@@ -105,11 +107,13 @@ impl<L: VectorLength> Ssz for RootVector<L> {
     }
 
     fn parse(alloc: Global, bytes: &[u8]) -> Result<RootVector<L>, SszFault> {
-        let values = read_items(alloc, bytes, 32, L::LENGTH as usize)?;
-        Ok(RootVector {
-            values,
-            count: PhantomData,
-        })
+        match read_items(alloc, bytes, 32, L::LENGTH as usize) {
+            Ok(values) => Ok(RootVector {
+                values,
+                count: PhantomData,
+            }),
+            Err(fault) => Err(fault),
+        }
     }
 
     fn append_to(&self, out: &mut Writer) -> Result<(), NoMemory> {

@@ -40,9 +40,14 @@ impl<A: Ssz, R: Row> Row for (A, R) {
     fn read_parts(alloc: Global, parts: &[&[u8]]) -> Result<(A, R), SszFault> {
         match parts {
             [part, more @ ..] => {
-                let value = A::parse(alloc, part)?;
-                let rest = R::read_parts(alloc, more)?;
-                Ok((value, rest))
+                let value = match A::parse(alloc, part) {
+                    Ok(value) => value,
+                    Err(fault) => return Err(fault),
+                };
+                match R::read_parts(alloc, more) {
+                    Ok(rest) => Ok((value, rest)),
+                    Err(fault) => Err(fault),
+                }
             }
             [] => Err(SszFault::NotAWriting),
         }
@@ -60,8 +65,10 @@ pub fn read_row<'a, R: Row>(
     requires room { fixed_length fields.now < 2 ^ 32 }
     ensures { ReadsAs result (cut_of fields.now bytes.now and_then R.reading) }
 {
-    cut(bytes, fields, parts)?;
-    R::read_parts(alloc, parts)
+    match cut(bytes, fields, parts) {
+        Ok(()) => R::read_parts(alloc, parts),
+        Err(fault) => Err(fault),
+    }
 }
 
 /// What is written into the fixed part of a container, or behind it.
@@ -119,7 +126,9 @@ impl<P: Piece, R: Pieces> Pieces for (P, R) {
 
     #[tactic(auto, using(crate::proofs::Fieldwise::front_stays))]
     fn put_all(&self, out: &mut Writer) -> Result<(), NoMemory> {
-        self.0.put(out)?;
-        self.1.put_all(out)
+        match self.0.put(out) {
+            Ok(()) => self.1.put_all(out),
+            Err(refused) => Err(refused),
+        }
     }
 }

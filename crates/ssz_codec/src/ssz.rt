@@ -59,8 +59,10 @@ pub trait Ssz: Drop + Leaf {
         ensures { IfOk result (λ bytes. bytes.items ≡ codec.serialize self.now) }
     {
         let mut out = Writer::new(alloc);
-        self.write_to(&mut out)?;
-        Ok(out.finish())
+        match self.write_to(&mut out) {
+            Ok(()) => Ok(out.finish()),
+            Err(refused) => Err(refused),
+        }
     }
 
     /// Bytes read as exactly the value whose writing they are.

@@ -1,20 +1,20 @@
 //! Lists of values of variable size whose type says how many there may be, as blocks have of attestations. Bytes come
 //! from containers, which are read, written and rooted with such a field as with any other.
 
-ghost use Rattle.std.specs.Prelude.{◌≡◌, ◌==◌, ◌≤◌, ◌*◌, ◌^◌, ◌++◌, length, map, replicate, take, refl, OnOk, OnErr, IfOk, IsTrue, ◌↔◌};
+ghost use Rattle.std.specs.Prelude.{◌≡◌, ◌≤◌, ◌*◌, ◌^◌, ◌++◌, length, map, replicate, take, refl, OnOk, OnErr, IfOk, IsTrue, ◌↔◌};
 ghost use Rattle.ssz_codec.specs.declared.layout.Field.TheVariants.{Variable};
 ghost use Rattle.ssz_codec.specs.Layout.{joined};
 ghost use Rattle.ssz_codec.specs.Lists.{variable_list_codec};
 ghost use Rattle.ssz_codec.specs.laws.Lists.{variable_list_lawful};
-ghost use Rattle.ssz_codec.specs.inside.Halves.{nothing_written, with_variable_parts};
+ghost use Rattle.ssz_codec.specs.inside.Halves.{with_variable_parts};
 
 use crate::fault::SszFault;
 use crate::items::Items;
 use crate::layout::Field;
 use crate::limited::ListLimit;
-use crate::list_value::{ListValue, all_equal};
+use crate::list_value::{ListValue, all_equal, copy_all};
 use crate::lists::read_variable_list;
-use crate::parts_writer::PartsWriter;
+use crate::parts_writer::{FieldRow, PartsWriter, append_fields};
 use crate::roots::variable_list_root;
 use crate::ssz::Ssz;
 use crate::writer::Writer;
@@ -78,28 +78,23 @@ impl<T: VariableSsz, L: ListLimit> VariableList<T, L> {
     {
         self.values.len() as u64
     }
+}
 
-    /// Whether there is none.
-    pub fn is_empty(&self) -> bool
-        ensures { result ≡ (length self.now == 0) }
-    {
-        self.values.is_empty()
-    }
-
+impl<T: VariableSsz + ListValue, L: ListLimit> VariableList<T, L> {
     /// The same values once more.
     pub fn copy(&self, alloc: Global) -> Result<VariableList<T, L>, NoMemory>
         ensures { IfOk result (λ copy. copy ≡ self.now) }
     {
         let _len = self.len();
-        let values = copy_all(alloc, self.values.as_slice())?;
-        Ok(VariableList {
-            values,
-            limit: PhantomData,
-        })
+        match copy_all(alloc, self.values.as_slice()) {
+            Ok(values) => Ok(VariableList {
+                values,
+                limit: PhantomData,
+            }),
+            Err(refused) => Err(refused),
+        }
     }
-}
 
-impl<T: VariableSsz + ListValue, L: ListLimit> VariableList<T, L> {
     /// Whether these are the same values.
     pub fn equals(&self, other: &VariableList<T, L>) -> bool
         ensures { IsTrue result ↔ (self.now ≡ other.now) }
@@ -108,27 +103,28 @@ impl<T: VariableSsz + ListValue, L: ListLimit> VariableList<T, L> {
     }
 }
 
-/// The same values once more.
-fn copy_all<T: VariableSsz>(alloc: Global, values: &[T]) -> Result<Items<T>, NoMemory>
-    ensures { IfOk result (λ copies. copies ≡ values.now) }
-{
-    let mut copies = Vec::with_capacity(alloc, values.len())?;
-    for value in values {
-        copies.push(value.copy()?)?;
-    }
-    Ok(Items::from_vec(copies))
-}
-
 /// The offsets and the writings of the values.
-fn write_parts<T: Ssz>(alloc: Global, values: &[T]) -> Result<PartsWriter, NoMemory>
-    requires { length values.now ≤ 2 ^ 40 }
-    ensures { IfOk result (λ parts. parts ≡ with_variable_parts (map T.codec.serialize values.now) (nothing_written (4 * length values.now))) }
+fn write_parts<T: Ssz>(values: &[T], parts: &mut PartsWriter) -> Result<(), NoMemory>
+    ensures { OnOk result (parts.new ≡ with_variable_parts (map T.codec.serialize values.now) parts.old) }
 {
-    let mut parts = PartsWriter::new(alloc, 4 * values.len() as u64);
     for value in values {
         parts.add_variable(value)?;
     }
-    Ok(parts)
+    Ok(())
+}
+
+/// The values of a list, each of which is a variable part of it.
+#[derive(Drop)]
+struct ListParts<'a, T: Ssz> {
+    values: &'a [T],
+}
+
+impl<'a, T: Ssz> FieldRow for ListParts<'a, T> {
+    ghost adding = { λ list. with_variable_parts (map T.codec.serialize list.values.now) };
+
+    fn add_to(&self, parts: &mut PartsWriter) -> Result<(), NoMemory> {
+        write_parts(self.values, parts)
+    }
 }
 
 /// Writes a list of values of variable size. Where memory is refused, a part of it may stand there.
@@ -138,8 +134,7 @@ pub(crate) fn append_list<T: Ssz>(values: &[T], out: &mut Writer) -> Result<(), 
     ensures ok { OnOk result (out.new ≡ out.old ++ joined (replicate (length values.now) Variable) (map T.codec.serialize values.now)) }
     ensures err { OnErr result (take (length out.old) out.new ≡ out.old) }
 {
-    let parts = write_parts(out.alloc(), values)?;
-    parts.append_to(out)
+    append_fields(&ListParts { values }, 4 * values.len() as u64, out)
 }
 
 impl<T: VariableSsz, L: ListLimit> Leaf for VariableList<T, L> {
@@ -159,11 +154,13 @@ impl<T: VariableSsz, L: ListLimit> Ssz for VariableList<T, L> {
     }
 
     fn parse(alloc: Global, bytes: &[u8]) -> Result<VariableList<T, L>, SszFault> {
-        let values = read_variable_list(alloc, bytes, L::LIMIT)?;
-        Ok(VariableList {
-            values,
-            limit: PhantomData,
-        })
+        match read_variable_list(alloc, bytes, L::LIMIT) {
+            Ok(values) => Ok(VariableList {
+                values,
+                limit: PhantomData,
+            }),
+            Err(fault) => Err(fault),
+        }
     }
 
     fn append_to(&self, out: &mut Writer) -> Result<(), NoMemory> {

@@ -1,7 +1,7 @@
 //! Bytes that are being written: the writers of containers put their fields here, and what is finished goes to files
 //! and hashes.
 
-ghost use Rattle.std.specs.Prelude.{◌≡◌, ◌<◌, ◌^◌, [], ◌++◌, ◌==◌, length, take, OnOk, OnErr};
+ghost use Rattle.std.specs.Prelude.{◌≡◌, ◌<◌, ◌^◌, [], ◌++◌, length, take, OnOk, OnErr};
 ghost use Rattle.hash_tree.specs.Merkle.{u64_bytes, bool_bytes};
 ghost use Rattle.ssz_codec.specs.Layout.{offset_bytes};
 
@@ -65,8 +65,10 @@ impl Writer {
         ensures ok { OnOk result (self.new ≡ self.old ++ bytes.now) }
         ensures err { OnErr result (self.new ≡ self.old) }
     {
-        self.bytes.extend_from_slice(bytes)?;
-        Ok(())
+        match self.bytes.extend_from_slice(bytes) {
+            Ok(()) => Ok(()),
+            Err(_refused) => Err(NoMemory),
+        }
     }
 
     /// What is written.
@@ -86,13 +88,6 @@ impl Writer {
         ensures { result ≡ length self.now }
     {
         self.bytes.len()
-    }
-
-    /// Whether nothing is written.
-    pub fn is_empty(&self) -> bool
-        ensures { result ≡ (length self.now == 0) }
-    {
-        self.bytes.is_empty()
     }
 
     /// Takes away what was written behind so many bytes.

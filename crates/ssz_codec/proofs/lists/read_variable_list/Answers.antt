@@ -1,5 +1,4 @@
 use Rattle.std.proofs.Common.{◌/◌, map, Some, subst, ap, ◌∙◌, sym, arith}
-use Rattle.std.proofs.lemmas.Result.{err_from_is_err_and}
 use Rattle.std.proofs.lemmas.Bool.{eqb-true, eqb-false}
 use Rattle.ssz_codec.specs.Lists.{parse_parts}
 use Rattle.ssz_codec.specs.Reads.{ReadsAs}
@@ -23,13 +22,12 @@ returns-then-count-bytes g c =
     let over = c.if-count-bytes.true in
     list_over g.T.Ssz.codec.deserialize c.args.limit (c.offset_at-count.result / 4) c.args.bytes.now (eqb-false _ _ (sym c.is_empty.ensures ∙ c.if-is_empty.false)) (ap (λ n. n / 4) c.offset_at-count.ensures.value) (omega arith)
 
-pub returns-in_err-parts : goal.returns-in_err-parts
-returns-in_err-parts g c =
-    let p = err_from_is_err_and c.from_residual.result c.from_residual.ensures.1 in
-    rw (p.1, p.2) (list_uncut c.in_err-parts.field-0.0 g.T.Ssz.codec.deserialize c.args.limit (c.offset_at-count.result / 4) c.args.bytes.now (eqb-false _ _ (sym c.is_empty.ensures ∙ c.if-is_empty.false)) (ap (λ n. n / 4) c.offset_at-count.ensures.value) c.if-count-limit.false c.in_err-parts.ensures)
+pub returns-in-Err : goal.returns-in-Err
+returns-in-Err g c =
+    list_uncut c.in-Err.fault g.T.Ssz.codec.deserialize c.args.limit (c.offset_at-count.result / 4) c.args.bytes.now (eqb-false _ _ (sym c.is_empty.ensures ∙ c.if-is_empty.false)) (ap (λ n. n / 4) c.offset_at-count.ensures.value) c.if-count-limit.false c.in-Err.ensures
 
-pub returns : goal.returns
-returns g c =
+pub returns-in-Ok : goal.returns-in-Ok
+returns-in-Ok g c =
     let parse = g.T.Ssz.codec.deserialize in
-    let e = list_cut parse c.args.limit (c.offset_at-count.result / 4) c.args.bytes.now _ (eqb-false _ _ (sym c.is_empty.ensures ∙ c.if-is_empty.false)) (ap (λ n. n / 4) c.offset_at-count.ensures.value) c.if-count-limit.false c.in_ok-parts.ensures in
+    let e = list_cut parse c.args.limit (c.offset_at-count.result / 4) c.args.bytes.now _ (eqb-false _ _ (sym c.is_empty.ensures ∙ c.if-is_empty.false)) (ap (λ n. n / 4) c.offset_at-count.ensures.value) c.if-count-limit.false c.in-Ok.ensures in
     subst (λ o. ReadsAs c.read_parts.result o) (ap (λ ps. parse_parts parse (map (λ part. part.now) ps)) c.deref.ensures.value ∙ sym e) c.read_parts.ensures

@@ -2,4 +2,4 @@ use Rattle.beacon_types.proofs.pending_attestation.AggregationBitsSsz.parse.Goal
 
 -- what was read is within the limit
 pub invariant_of-result : goal.invariant_of-result
-invariant_of-result c = c.in_ok-bits.ensures.reads.0
+invariant_of-result c = c.in-Ok.ensures.reads.0

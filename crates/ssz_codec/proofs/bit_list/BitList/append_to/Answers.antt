@@ -1,4 +1,4 @@
-use Rattle.std.proofs.Common.{◌+◌, ◌*◌, ◌%◌, ◌^◌, ◌<◌, ◌++◌, ◌∷◌, [], ap, sym, subst, ◌∙◌, append_assoc, arith}
+use Rattle.std.proofs.Common.{◌+◌, ◌%◌, ◌^◌, ◌<◌, ◌++◌, ◌∷◌, [], ap, sym, subst, ◌∙◌, arith}
 use Rattle.ssz_codec.specs.BitLists.{bit_list_bytes}
 use Rattle.ssz_codec.proofs.HeldBits.{whole_writing, part_writing, shifted_one, under_byte}
 use Rattle.ssz_codec.proofs.bit_list.BitList.append_to.Goals as goal
@@ -6,11 +6,8 @@ use Rattle.ssz_codec.proofs.bit_list.BitList.append_to.Goals as goal
 pub returns-then-used-eq0-clause-ok : goal.returns-then-used-eq0-clause-ok
 returns-then-used-eq0-clause-ok c =
     let b = c.self.inside in
-    let out = c.args.out.now in
-    c.in_ok-put_bytes-2.ensures.ok
-    ∙ ap (λ t. t ++ 1 ∷ []) (c.in_ok-put_bytes.ensures.ok ∙ ap (λ t. out ++ t) c.deref.ensures.value)
-    ∙ append_assoc out b.bytes.items (1 ∷ [])
-    ∙ ap (λ t. out ++ t) (sym (whole_writing b c.self.invariant c.if-used-eq0.true) ∙ ap bit_list_bytes c.self.view_is)
+    let e = sym (whole_writing b c.self.invariant c.if-used-eq0.true) ∙ ap bit_list_bytes c.self.view_is in
+    rw (← e, ← c.deref.ensures.value) c.put_ended.ensures.ok
 
 pub overflow_add-last : goal.overflow_add-last
 overflow_add-last c =
@@ -22,13 +19,9 @@ overflow_add-last c =
 pub returns-clause-ok : goal.returns-clause-ok
 returns-clause-ok c =
     let b = c.self.inside in
-    let out = c.args.out.now in
     let used = b.len % 8 in
     let front = c.in-Some.front.now in
     let last = c.in-Some.last.now in
     let h = part_writing b front last c.self.invariant (sym c.deref-2.ensures.value ∙ c.in-Some.ensures.cases.0) (omega arith) in
-    c.in_ok-put_bytes-4.ensures.ok
-    ∙ ap (λ t. t ++ (last + 1 * 2 ^ used % 256) ∷ []) c.in_ok-put_bytes-3.ensures.ok
-    ∙ append_assoc out front ((last + 1 * 2 ^ used % 256) ∷ [])
-    ∙ ap (λ m. out ++ (front ++ (last + m) ∷ [])) (shifted_one used (omega arith))
-    ∙ ap (λ t. out ++ t) (sym h.1 ∙ ap bit_list_bytes c.self.view_is)
+    let e = ap (λ m. front ++ (last + m) ∷ []) (shifted_one used (omega arith)) ∙ (sym h.1 ∙ ap bit_list_bytes c.self.view_is) in
+    rw (← e) c.put_ended-in-Some.ensures.ok

@@ -17,6 +17,6 @@ pub returns-then-limit-whole-2 : goal.returns-then-limit-whole-2
 returns-then-limit-whole-2 c =
     reads_too_long c.args.limit c.in-Some.last.now c.ilog2-place.result c.args.bytes.now c.in-Some.front.now c.in-Some.ensures.cases.0 c.ilog2-place.ensures.bound c.ilog2-place.ensures.power_le c.ilog2-place.ensures.next_power_gt (omega arith)
 
-pub returns : goal.returns
-returns c =
-    reads_bits c.args.limit c.in-Some.last.now c.ilog2-place.result c.args.bytes.now c.in-Some.front.now c.in-Some.ensures.cases.0 c.ilog2-place.ensures.bound c.ilog2-place.ensures.power_le c.ilog2-place.ensures.next_power_gt (omega arith) ∙ ap (λ (b : List Bool). Some b) (sym c.in_ok-bits.ensures)
+pub returns-in-Ok : goal.returns-in-Ok
+returns-in-Ok c =
+    reads_bits c.args.limit c.in-Some.last.now c.ilog2-place.result c.args.bytes.now c.in-Some.front.now c.in-Some.ensures.cases.0 c.ilog2-place.ensures.bound c.ilog2-place.ensures.power_le c.ilog2-place.ensures.next_power_gt (omega arith) ∙ ap (λ (b : List Bool). Some b) (sym c.in-Ok.ensures)

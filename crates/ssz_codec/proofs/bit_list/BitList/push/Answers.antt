@@ -18,13 +18,13 @@ set_last xs n x len = sym (take_all (n + 1) (set xs n x) (omega (arith, len, len
 some_bytes : (b : Inside) (n : ℕ) → IsHeld b → (b.len % 8 ≡ 0 → ⊥) → n ≡ length b.bytes.items → length b.bytes.items ≡ (n - 1) + 1
 some_bytes b n h used is = omega (arith, held_len b h, used, is)
 
-pub invariant_of-self-then-used-eq0 : goal.invariant_of-self-then-used-eq0
-invariant_of-self-then-used-eq0 c =
-    first_held c.self.inside (record { bytes = c.push.new.self; len = c.self.inside.len + 1 }) c.args.bit c.self.invariant c.if-used-eq0.true refl (c.in_ok-push.ensures.items ∙ ap (λ n. c.self.inside.bytes.items ++ n ∷ []) (c.with_bit.ensures ∙ (omega arith)))
+pub invariant_of-self : goal.invariant_of-self
+invariant_of-self c =
+    first_held c.self.inside (record { bytes = c.push.new.self; len = c.self.inside.len + 1 }) c.args.bit c.self.invariant c.if-used-eq0.true refl (c.in-Ok.ensures.items ∙ ap (λ n. c.self.inside.bytes.items ++ n ∷ []) (c.with_bit.ensures ∙ (omega arith)))
 
-pub returns-then-used-eq0-clause-ok : goal.returns-then-used-eq0-clause-ok
-returns-then-used-eq0-clause-ok c =
-    first_pushed c.self.inside (record { bytes = c.push.new.self; len = c.self.inside.len + 1 }) c.args.bit c.self.invariant c.if-used-eq0.true refl (c.in_ok-push.ensures.items ∙ ap (λ n. c.self.inside.bytes.items ++ n ∷ []) (c.with_bit.ensures ∙ (omega arith)))
+pub returns-in-Ok-clause-ok : goal.returns-in-Ok-clause-ok
+returns-in-Ok-clause-ok c =
+    first_pushed c.self.inside (record { bytes = c.push.new.self; len = c.self.inside.len + 1 }) c.args.bit c.self.invariant c.if-used-eq0.true refl (c.in-Ok.ensures.items ∙ ap (λ n. c.self.inside.bytes.items ++ n ∷ []) (c.with_bit.ensures ∙ (omega arith)))
     ∙ ap (λ bits. bits ++ c.args.bit ∷ []) c.self.view_is
 
 pub with_bit-requires-2-clause-low : goal.with_bit-requires-2-clause-low

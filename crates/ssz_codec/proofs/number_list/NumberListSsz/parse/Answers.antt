@@ -8,5 +8,5 @@ use Rattle.ssz_codec.proofs.number_list.NumberListSsz.parse.Goals as goal
 -- what was read is within the limit
 pub invariant_of-result : goal.invariant_of-result
 invariant_of-result g c =
-    let e = subst (λ n. parse_list uint64.deserialize 8 n c.args.bytes.now ≡ Some c.in_ok-numbers.numbers) c.LIMIT.ensures c.in_ok-numbers.ensures in
-    ((list_lawful uint64 g.L.ListLimit.LIMIT uint64_is_fixed uint64_lawful).sound c.args.bytes.now c.in_ok-numbers.numbers (λ i. (c.type_inv.bytes i).fits) e).0.0
+    let e = subst (λ n. parse_list uint64.deserialize 8 n c.args.bytes.now ≡ Some c.in-Ok.numbers) c.LIMIT.ensures c.in-Ok.ensures in
+    ((list_lawful uint64 g.L.ListLimit.LIMIT uint64_is_fixed uint64_lawful).sound c.args.bytes.now c.in-Ok.numbers (λ i. (c.type_inv.bytes i).fits) e).0.0

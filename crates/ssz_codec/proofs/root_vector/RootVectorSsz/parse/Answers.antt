@@ -8,5 +8,5 @@ use Rattle.ssz_codec.proofs.root_vector.RootVectorSsz.parse.Goals as goal
 -- what was read has the length
 pub invariant_of-result : goal.invariant_of-result
 invariant_of-result g c =
-    let e = subst (λ n. parse_items bytes32.deserialize 32 n c.args.bytes.now ≡ Some c.in_ok-values.values) c.LENGTH.ensures c.in_ok-values.ensures in
-    ((vector_lawful bytes32 g.L.VectorLength.LENGTH bytes32_is_fixed bytes32_lawful).sound c.args.bytes.now c.in_ok-values.values (λ i. (c.type_inv.bytes i).fits) e).0.0
+    let e = subst (λ n. parse_items bytes32.deserialize 32 n c.args.bytes.now ≡ Some c.in-Ok.values) c.LENGTH.ensures c.in-Ok.ensures in
+    ((vector_lawful bytes32 g.L.VectorLength.LENGTH bytes32_is_fixed bytes32_lawful).sound c.args.bytes.now c.in-Ok.values (λ i. (c.type_inv.bytes i).fits) e).0.0
