@@ -33,13 +33,6 @@ grown_within low depth at grown g order room =
       | inr behind ↦ let more : grown ≡ low + 1 = g.grows behind in let less : low < depth = below_depth low depth at behind room in omega arith
     ]
 
-pub steps_within : (low depth at now start : ℕ) → low ≤ depth → at < 2 ^ depth → now ≤ start + low + 1 → (at < 2 ^ low → now ≤ start + low) → now ≤ start + depth
-steps_within low depth at now start order room more less =
-    elim (cases_lt at (2 ^ low)) as (λ _. now ≤ start + depth) [
-      | inl inside ↦ let few : now ≤ start + low = less inside in omega arith
-      | inr behind ↦ let deeper : low < depth = below_depth low depth at behind room in omega arith
-    ]
-
 -- a tree after an item is put into it
 pub tree_after : {A : Type 0} (root_of : A → List ℕ) (node new : ℕ × List A) (low grown depth len next at : ℕ) (item : A) (old_top top sub : List ℕ) → IsTree root_of node low depth len old_top → new ≡ (grown, put_at node.1 at item) → Grows low at grown → at < 2 ^ depth → at ≤ len → next ≡ max len (at + 1) → sub ≡ merkle_root new.0 (map root_of new.1) → Lifts grown depth sub top → IsTree root_of new grown depth next top
 tree_after root_of node new low grown depth len next at item old_top top sub h is g room place next_is sub_is lifts =

@@ -1,12 +1,13 @@
 -- The root of two halves is that of their items, and what is put into a half is put into the whole.
-use Rattle.std.proofs.Common.{◌≡◌, ℕ, zero, suc, ◌+◌, ◌-◌, ◌<◌, ◌≤◌, ◌^◌, List, [], ◌∷◌, ◌++◌, length, map, take, drop, max, refl, sym, ap, subst, ◌∙◌, arith, inl, inr, length-append}
+use Rattle.std.proofs.Common.{◌≡◌, ◌≢◌, ℕ, zero, suc, ◌+◌, ◌-◌, ◌<◌, ◌≤◌, ◌^◌, List, [], ◌∷◌, ◌++◌, length, map, take, drop, max, refl, sym, ap, subst, ◌∙◌, arith, inl, inr, length-append}
 use Rattle.std.proofs.lemmas.List.{append-nil, take_all, drop_all, length-map, map-append}
 use Rattle.hash_tree.specs.Merkle.{hash, merkle_root}
 use Rattle.hash_tree.proofs.Halves.{merkle_root-halves}
 use Rattle.std.proofs.Math.Pow.{pow_mono}
 use Rattle.std.proofs.lemmas.Bool.{cases_lt}
-use Rattle.shared_tree.specs.inside.Nodes.{AreHalves}
-use Rattle.shared_tree.specs.inside.Puts.{put_at}
+use Rattle.std.specs.Prelude.{Result, Ok, Err, IfOk, OnOk}
+use Rattle.shared_tree.specs.inside.Nodes.{AreHalves, AreMade, IsPairOf}
+use Rattle.shared_tree.specs.inside.Puts.{put_at, Grows}
 use Rattle.shared_tree.proofs.Puts.{put_left, put_right, put_push, length_put}
 
 module _ {A : Type 0} where
@@ -156,3 +157,43 @@ grown node shared right depth at item same fits full place shared_is right_is =
           ∙ (ap (λ (items : List _). (suc node.0, items)) (sym (put_push node.1 at item (omega arith)))
           ∙ ap (λ (d : ℕ). (d, put_at node.1 at item)) (omega arith))),
     )
+
+-- two halves that were made, and their pair
+module _ {A E : Type 0} {P Q : ℕ × List A → Type 0} where
+  pub both_made : (left right : Result (ℕ × List A) E) → IfOk left P → IfOk right Q → ((l r : ℕ × List A) → P l → Q r → AreHalves l r) → AreMade AreHalves left right
+  both_made (Ok l) (Ok r) p q both = both l r p q
+  both_made (Ok l) (Err e) p q both = tt
+  both_made (Err e) right p q both = tt
+
+  pub pair_made : (left right whole : Result (ℕ × List A) E) (value : ℕ × List A) → IfOk left P → IfOk right Q → IfOk whole (IsPairOf left right) → ((l r : ℕ × List A) → P l → Q r → ◌≡◌ {A = ℕ × List A} (suc l.0, l.1 ++ r.1) value) → IfOk whole (λ new. new ≡ value)
+  pair_made left right (Err e) value p q is both = tt
+  pair_made (Ok l) (Ok r) (Ok new) value p q is both = is ∙ both l r p q
+  pair_made (Ok l) (Err e) (Ok new) value p q is both = absurd is
+  pair_made (Err e) right (Ok new) value p q is both = absurd is
+
+pub pair_counted : {A E P Q R : Type 0} (left right whole : Result (ℕ × List A) E) → OnOk left P → IfOk whole (IsPairOf left right) → OnOk whole Q → (P → Q → R) → OnOk whole R
+pair_counted left right (Err e) p is q both = tt
+pair_counted (Ok l) (Ok r) (Ok new) p is q both = both p q
+pair_counted (Ok l) (Err e) (Ok new) p is q both = absurd is
+pair_counted (Err e) right (Ok new) p is q both = absurd is
+
+pub pair_counted_right : {A E P Q R : Type 0} (left right whole : Result (ℕ × List A) E) → OnOk right P → IfOk whole (IsPairOf left right) → OnOk whole Q → (P → Q → R) → OnOk whole R
+pair_counted_right left right (Err e) p is q both = tt
+pair_counted_right (Ok l) (Ok r) (Ok new) p is q both = both p q
+pair_counted_right (Ok l) (Err e) (Ok new) p is q both = absurd is
+pair_counted_right (Err e) right (Ok new) p is q both = absurd is
+
+-- a tree that stays as deep has room at the place, and another one is full
+pub stays_low : (depth at grown : ℕ) → Grows depth at grown → grown ≡ depth → at < 2 ^ depth
+stays_low depth at grown g same =
+    elim (cases_lt at (2 ^ depth)) as (λ _. at < 2 ^ depth) [
+      | inl low ↦ low
+      | inr high ↦ let more : grown ≡ depth + 1 = g.grows high in absurd (omega arith)
+    ]
+
+pub grows_high : (depth at grown : ℕ) → Grows depth at grown → grown ≢ depth → (2 ^ depth ≤ at) × (grown ≡ depth + 1)
+grows_high depth at grown g other =
+    elim (cases_lt at (2 ^ depth)) as (λ _. (2 ^ depth ≤ at) × (grown ≡ depth + 1)) [
+      | inl low ↦ absurd (other (g.stays low))
+      | inr high ↦ (high, g.grows high)
+    ]

@@ -1,6 +1,6 @@
 -- Plans that are opened one after another, and spots that are filled.
 use Rattle.std.proofs.Common.{◌≡◌, ℕ, zero, suc, ◌+◌, ◌-◌, ◌*◌, List, [], ◌∷◌, ◌++◌, length, refl, sym, ap, ap₂, subst, ◌∙◌, arith, length-append}
-use Rattle.std.specs.Prelude.{Option, Some, None, Result, Ok, Err, IfOk}
+use Rattle.std.specs.Prelude.{Option, Some, None, Result, Ok, Err, IfOk, OnOk}
 use Rattle.std.proofs.lemmas.List.{append-nil, append_assoc}
 use Rattle.shared_tree.specs.inside.Layers.{paired, ArePaired}
 use Rattle.shared_tree.specs.inside.Nodes.{AreHalves}
@@ -10,6 +10,10 @@ use Rattle.shared_tree.proofs.Climbs.{length_paired}
 pub if_ok : {X E : Type 0} {P Q : X → Type 0} (r : Result X E) → ((x : X) → P x → Q x) → IfOk r P → IfOk r Q
 if_ok (Ok x) f p = f x p
 if_ok (Err e) f p = tt
+
+pub when_ok : {X E P Q : Type 0} (r : Result X E) → (P → Q) → OnOk r P → OnOk r Q
+when_ok (Ok x) f p = f p
+when_ok (Err e) f p = tt
 
 module _ {A : Type 0} where
   -- the spot of a node, and one without

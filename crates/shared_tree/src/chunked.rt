@@ -11,6 +11,7 @@ ghost use Rattle.shared_tree.specs.inside.Fours.{packed, numbers_in};
 
 use crate::four::{Four, chunk_at};
 use crate::put::reaches;
+use crate::taking::next_of;
 use crate::tree::Tree;
 use bc_words::NoMemory;
 use std::alloc::Global;
@@ -75,13 +76,9 @@ pub(crate) fn chunk_changes(
     let mut low = 0u64;
     let mut rest = changes.into_iter();
     'numbers: for k in 0..count {
-        match rest.next() {
-            Some((at, number)) => {
-                add_number(tree, &mut chunks, at, number)?;
-                low = at + 1;
-            }
-            None => unreachable!(),
-        }
+        let (at, number) = next_of(&mut rest);
+        add_number(tree, &mut chunks, at, number)?;
+        low = at + 1;
     }
     Ok(chunks)
 }

@@ -9,6 +9,7 @@ ghost use Rattle.pair_lanes.specs.Pairs.{parents};
 ghost use Rattle.shared_tree.specs.inside.Layers.{leaves, held, paired, node_roots, IsLayer, ArePaired};
 
 use crate::node::Node;
+use crate::taking::next_of;
 use crate::work::layer_step;
 use bc_words::{NoMemory, Steps};
 use hash_tree::{Leaf, Root};
@@ -32,10 +33,7 @@ fn take_items<T: Drop>(
 {
     let mut batch = Vec::with_capacity(alloc, count)?;
     'items: for k in 0..count {
-        match rest.next() {
-            Some(item) => batch.push(item)?,
-            None => unreachable!(),
-        }
+        batch.push(next_of(rest))?;
     }
     Ok(batch)
 }
@@ -52,10 +50,7 @@ fn add_leaves<T: Leaf + Drop>(
 {
     let mut rest = items.into_iter();
     'leaves: for k in 0..roots.len() {
-        match rest.next() {
-            Some(item) => nodes.push(Node::known(item, roots[k], alloc)?)?,
-            None => unreachable!(),
-        }
+        nodes.push(Node::known(next_of(&mut rest), roots[k], alloc)?)?;
     }
     Ok(())
 }
@@ -114,10 +109,9 @@ fn join<T: Leaf + Drop>(
     let mut joined = Vec::with_capacity(alloc, above.len())?;
     let mut rest = nodes.into_iter();
     'pairs: for k in 0..above.len() {
-        match (rest.next(), rest.next()) {
-            (Some(left), Some(right)) => joined.push(Node::rooted(left, right, above[k], alloc)?)?,
-            _ => unreachable!(),
-        }
+        let left = next_of(&mut rest);
+        let right = next_of(&mut rest);
+        joined.push(Node::rooted(left, right, above[k], alloc)?)?;
     }
     Ok(joined)
 }

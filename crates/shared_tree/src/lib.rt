@@ -19,6 +19,7 @@ mod plan;
 mod put;
 mod several;
 mod shared_list;
+mod taking;
 mod tree;
 mod work;
 

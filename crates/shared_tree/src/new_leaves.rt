@@ -2,11 +2,12 @@
 //!
 //! Changes come from `put`, and their leaves go to `plan`. Roots are made side by side, as those of the leaves in `layers` are.
 
-ghost use Rattle.std.specs.Prelude.{◌≡◌, ◌≤◌, ◌++◌, length, map, zip, IfOk, OnOk};
+ghost use Rattle.std.specs.Prelude.{◌≡◌, ◌≤◌, ◌∷◌, ◌++◌, [], length, map, zip, IfOk, OnOk};
 ghost use Rattle.std.specs.Vec.Iter.{into_iter_items};
 
 use crate::layers::BATCH;
 use crate::node::NewLeaf;
+use crate::taking::next_of;
 use bc_words::NoMemory;
 use hash_tree::{Leaf, Root};
 use std::alloc::Global;
@@ -26,36 +27,44 @@ fn split_changes<T: Drop>(
     let mut places = Vec::with_capacity(alloc, count)?;
     let mut items = Vec::with_capacity(alloc, count)?;
     'changes: for k in 0..count {
-        match rest.next() {
-            Some((at, item)) => {
-                places.push(at)?;
-                items.push(item)?;
-            }
-            None => unreachable!(),
-        }
+        let (at, item) = next_of(rest);
+        places.push(at)?;
+        items.push(item)?;
     }
     Ok((places, items))
+}
+
+/// Puts the leaf of an item, whose root is known, behind the others, with its place.
+fn push_known<T: Leaf + Drop>(
+    leaves: &mut Vec<(u64, NewLeaf<T>)>,
+    at: u64,
+    item: T,
+    root: Root,
+    alloc: Global,
+) -> Result<(), NoMemory>
+    requires { root ≡ T.root_of item }
+    ensures { OnOk result (leaves.new.items ≡ leaves.old.items ++ (at, item) ∷ []) }
+{
+    let leaf = NewLeaf::known(item, root, alloc)?;
+    leaves.push((at, leaf))?;
+    Ok(())
 }
 
 /// Puts the leaves of the items, whose roots are known, behind the others, each with its place.
 fn add_known<T: Leaf + Drop>(
     leaves: &mut Vec<(u64, NewLeaf<T>)>,
-    places: Vec<u64>,
+    places: &[u64],
     items: Vec<T>,
     roots: &[Root],
     alloc: Global,
 ) -> Result<(), NoMemory>
-    requires places { length places.items ≡ length items.items }
+    requires places { length places.now ≡ length items.items }
     requires roots { roots.now ≡ map T.root_of items.items }
-    ensures { OnOk result (leaves.new.items ≡ leaves.old.items ++ zip places.items items.items) }
+    ensures { OnOk result (leaves.new.items ≡ leaves.old.items ++ zip places.now items.items) }
 {
-    let mut rest_places = places.into_iter();
     let mut rest = items.into_iter();
     'leaves: for k in 0..roots.len() {
-        match (rest_places.next(), rest.next()) {
-            (Some(at), Some(item)) => leaves.push((at, NewLeaf::known(item, roots[k], alloc)?))?,
-            _ => unreachable!(),
-        }
+        push_known(leaves, places[k], next_of(&mut rest), roots[k], alloc)?;
     }
     Ok(())
 }
@@ -63,12 +72,12 @@ fn add_known<T: Leaf + Drop>(
 /// Puts the leaves of the items behind the others, each with its place. Roots are made side by side.
 fn add_changes<T: Leaf + Drop>(
     leaves: &mut Vec<(u64, NewLeaf<T>)>,
-    places: Vec<u64>,
+    places: &[u64],
     items: Vec<T>,
     alloc: Global,
 ) -> Result<(), NoMemory>
-    requires { length places.items ≡ length items.items }
-    ensures { OnOk result (leaves.new.items ≡ leaves.old.items ++ zip places.items items.items) }
+    requires { length places.now ≡ length items.items }
+    ensures { OnOk result (leaves.new.items ≡ leaves.old.items ++ zip places.now items.items) }
 {
     let mut roots = vec![in alloc; [0u8; 32]; items.len()]?;
     T::write_roots(&items, &mut roots);
@@ -88,7 +97,7 @@ pub(crate) fn new_leaves<T: Leaf + Drop>(
     'batches: while left > 0 {
         let count = left.min(BATCH);
         let (places, items) = split_changes(&mut rest, count, alloc)?;
-        add_changes(&mut leaves, places, items, alloc)?;
+        add_changes(&mut leaves, &places, items, alloc)?;
         left -= count;
     }
     Ok(leaves)

@@ -179,9 +179,7 @@ impl<T: Leaf + Drop> Node<T> {
         requires root { root ≡ hash (merkle_root left.0 (map T.root_of left.1) ++ merkle_root right.0 (map T.root_of right.1)) }
         ensures { IfOk result (λ node. node ≡ (suc left.0, left.1 ++ right.1)) }
     {
-        let mut leaves = Vec::with_capacity(alloc, LEAVES)?;
-        gather(&left, &mut leaves)?;
-        gather(&right, &mut leaves)?;
+        let leaves = leaves_of(&left, &right, alloc)?;
         let broad = Rc::new(
             alloc,
             Broad {
@@ -240,6 +238,32 @@ fn is_high<T: Leaf + Drop>(node: &Node<T>, levels: u32) -> bool {
     }
 }
 
+/// The leaves of two nodes.
+fn leaves_of<T: Leaf + Drop>(
+    left: &Node<T>,
+    right: &Node<T>,
+    alloc: Global,
+) -> Result<Vec<Rc<Item<T>>>, NoMemory>
+    ensures { IfOk result (λ leaves. map (λ leaf. leaf.value.item) leaves.items ≡ left.now.1 ++ right.now.1) }
+{
+    let mut leaves = Vec::with_capacity(alloc, LEAVES)?;
+    gather(left, &mut leaves)?;
+    gather(right, &mut leaves)?;
+    Ok(leaves)
+}
+
+/// Puts a node that has no halves behind the leaves, if it is one.
+fn push_leaf<T: Leaf + Drop>(node: &Node<T>, leaves: &mut Vec<Rc<Item<T>>>) -> Result<(), NoMemory>
+    requires { 0 < node.now.0 → node.now.1 ≡ [] }
+    ensures { OnOk result (map (λ leaf. leaf.value.item) leaves.new.items ≡ map (λ leaf. leaf.value.item) leaves.old.items ++ node.now.1) }
+{
+    if let Kind::Item(leaf) = &node.kind {
+        let leaf = leaf.clone()?;
+        leaves.push(leaf)?;
+    }
+    Ok(())
+}
+
 /// Puts the leaves of a node behind the others.
 fn gather<T: Leaf + Drop>(node: &Node<T>, leaves: &mut Vec<Rc<Item<T>>>) -> Result<(), NoMemory>
     ensures { OnOk result (map (λ leaf. leaf.value.item) leaves.new.items ≡ map (λ leaf. leaf.value.item) leaves.old.items ++ node.now.1) }
@@ -249,10 +273,7 @@ fn gather<T: Leaf + Drop>(node: &Node<T>, leaves: &mut Vec<Rc<Item<T>>>) -> Resu
             gather(left, leaves)?;
             gather(right, leaves)
         }
-        None => match &node.kind {
-            Kind::Item(leaf) => Ok(leaves.push(leaf.clone()?)?),
-            _ => Ok(()),
-        },
+        None => push_leaf(node, leaves),
     }
 }
 

@@ -12,6 +12,7 @@ use crate::layers::layered;
 use crate::node::{Node, half_width};
 use crate::plan::plan_all;
 use crate::several::{settle_apart, settle_one};
+use crate::taking::next_of;
 use crate::work::pair_step;
 use bc_words::{NoMemory, Steps};
 use hash_tree::Leaf;
@@ -36,8 +37,8 @@ fn sprout<T: Leaf + Drop, L: Ledger>(
     if depth == 0 {
         return Node::item(item, alloc);
     }
-    let left = sprout(item, depth - 1, alloc, steps)?;
-    pair_step(left, Node::absent(depth - 1), alloc, steps)
+    let left = sprout(item, depth - 1, alloc, steps);
+    pair_step(left, Ok(Node::absent(depth - 1)), alloc, steps)
 }
 
 /// The tree with the item at a place: in the place of the one that is there, or behind the last. A step for each level.
@@ -63,40 +64,49 @@ pub(crate) fn put<T: Leaf + Drop, L: Ledger>(
     };
     let half = half_width(depth);
     if at < half {
-        let left = put(left, depth - 1, at, item, alloc, steps)?;
-        return pair_step(left, right.share()?, alloc, steps);
+        let left = put(left, depth - 1, at, item, alloc, steps);
+        return pair_step(left, right.share(), alloc, steps);
     }
-    let right = put(right, depth - 1, at - half, item, alloc, steps)?;
-    pair_step(left.share()?, right, alloc, steps)
+    let right = put(right, depth - 1, at - half, item, alloc, steps);
+    pair_step(left.share(), right, alloc, steps)
 }
 
-/// The same for a place behind the last of a full tree too, which becomes the left half of one that is a level deeper. The
-/// depth of the tree goes with it, and is how many steps there were.
+/// How deep a tree is once an item is put at a place, which may be the one behind its leaves.
+pub(crate) fn depth_with(depth: u32, at: u64) -> u32
+    requires { depth ≤ 40 }
+    ensures { Grows depth at result }
+{
+    if at < leaves_of(depth) {
+        return depth;
+    }
+    depth + 1
+}
+
+/// The tree with the item at a place, which may be the one behind the last of a full tree: that becomes the left half of one
+/// that is a level deeper. A step for each level.
 pub(crate) fn put_or_grow<T: Leaf + Drop, L: Ledger>(
     node: &Node<T>,
     depth: u32,
+    grown: u32,
     at: u64,
     item: T,
     alloc: Global,
     steps: &mut Steps<L>,
-) -> Result<(Node<T>, u32), NoMemory>
+) -> Result<Node<T>, NoMemory>
     requires same { depth ≡ node.now.0 }
     requires fits { length node.now.1 ≤ 2 ^ depth }
     requires place { at ≤ length node.now.1 }
     requires low { depth ≤ 40 }
-    requires grown { 2 ^ depth ≤ at → depth < 40 }
-    ensures put { IfOk result (λ new. new.0 ≡ (new.1, put_at node.now.1 at item)) }
-    ensures grows { IfOk result (λ new. Grows depth at new.1) }
-    ensures steps { IfOk result (λ new. steps.new ≡ steps.old + new.1) }
-    ensures at_most { steps.new ≤ steps.old + depth + 1 }
-    ensures within { at < 2 ^ depth → steps.new ≤ steps.old + depth }
+    requires grows { Grows depth at grown }
+    ensures put { IfOk result (λ new. new ≡ (grown, put_at node.now.1 at item)) }
+    ensures steps { OnOk result (steps.new ≡ steps.old + grown) }
+    ensures at_most { steps.new ≤ steps.old + grown }
 {
-    if at < leaves_of(depth) {
-        return Ok((put(node, depth, at, item, alloc, steps)?, depth));
+    if grown == depth {
+        return put(node, depth, at, item, alloc, steps);
     }
-    let right = sprout(item, depth, alloc, steps)?;
-    let whole = pair_step(node.share()?, right, alloc, steps)?;
-    Ok((whole, depth + 1))
+    let right = sprout(item, depth, alloc, steps);
+    pair_step(node.share(), right, alloc, steps)
 }
 
 /// The items of the changes.
@@ -107,10 +117,7 @@ pub(crate) fn new_items<T: Drop>(changes: Vec<(u64, T)>, alloc: Global) -> Resul
     let mut items = Vec::with_capacity(alloc, count)?;
     let mut rest = changes.into_iter();
     'items: for k in 0..count {
-        match rest.next() {
-            Some((_at, item)) => items.push(item)?,
-            None => unreachable!(),
-        }
+        items.push(next_of(&mut rest).1)?;
     }
     Ok(items)
 }

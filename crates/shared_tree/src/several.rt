@@ -10,13 +10,23 @@ ghost use Rattle.shared_tree.specs.inside.Plans.{trees, pairs, gaps, filled, Are
 
 use crate::layers::join_step;
 use crate::node::Node;
-use crate::plan::{Plan, Stage};
+use crate::plan::{Halves, Plan, Stage};
+use crate::taking::next_of;
 use crate::work::pair_step;
 use bc_words::{NoMemory, Steps};
 use hash_tree::Leaf;
 use std::alloc::Global;
 use std::sync::ledger::Ledger;
 use std::vec::IntoIter;
+
+/// Puts the halves of a pair behind the others.
+fn push_halves<T: Leaf + Drop>(pair: Halves<T>, halves: &mut Vec<Plan<T>>) -> Result<(), NoMemory>
+    ensures { OnOk result (halves.new.items ≡ (halves.old.items ++ pair.left ∷ []) ++ pair.right ∷ []) }
+{
+    halves.push(pair.left)?;
+    halves.push(pair.right)?;
+    Ok(())
+}
 
 /// Puts a plan behind those that are open: its node, or a spot without one and the two halves of its pair.
 fn open_one<T: Leaf + Drop>(
@@ -27,15 +37,12 @@ fn open_one<T: Leaf + Drop>(
     ensures { OnOk result ((plans : List _) → AreOpen plans spots.old.items halves.old.items → AreOpen (plans ++ plan ∷ []) spots.new.items halves.new.items) }
 {
     match plan.open() {
-        Stage::Made(node) => spots.push(Some(node))?,
+        Stage::Made(node) => Ok(spots.push(Some(node))?),
         Stage::Paired(pair) => {
-            let pair = Box::into_inner(pair);
-            halves.push(pair.left)?;
-            halves.push(pair.right)?;
             spots.push(None)?;
+            push_halves(Box::into_inner(pair), halves)
         }
     }
-    Ok(())
 }
 
 /// The nodes of the plans that are there, and the halves of their pairs.
@@ -50,10 +57,7 @@ fn open_all<T: Leaf + Drop>(
     let mut halves = Vec::new(alloc);
     let mut rest = plans.into_iter();
     'plans: for k in 0..count {
-        match rest.next() {
-            Some(plan) => open_one(plan, &mut spots, &mut halves)?,
-            None => unreachable!(),
-        }
+        open_one(next_of(&mut rest), &mut spots, &mut halves)?;
     }
     Ok((spots, halves))
 }
@@ -66,10 +70,7 @@ fn node_at<T: Leaf + Drop>(spot: Option<Node<T>>, others: &mut IntoIter<Node<T>,
 {
     match spot {
         Some(node) => node,
-        None => match others.next() {
-            Some(node) => node,
-            None => unreachable!(),
-        },
+        None => next_of(others),
     }
 }
 
@@ -87,10 +88,7 @@ fn fill<T: Leaf + Drop>(
     let mut others = others.into_iter();
     let mut rest = spots.into_iter();
     'spots: for k in 0..count {
-        match rest.next() {
-            Some(spot) => nodes.push(node_at(spot, &mut others))?,
-            None => unreachable!(),
-        }
+        nodes.push(node_at(next_of(&mut rest), &mut others))?;
     }
     Ok(nodes)
 }
@@ -128,7 +126,7 @@ pub(crate) fn settle_one<T: Leaf + Drop, L: Ledger>(
     ensures made { IfOk result (λ node. node ≡ plan.0) }
     ensures steps { steps.new ≤ steps.old + plan.1 }
 {
-    let mut plans = Vec::with_capacity(alloc, 1)?;
+    let mut plans = Vec::new(alloc);
     plans.push(plan)?;
     let mut nodes = settle(plans, depth, alloc, steps)?;
     match nodes.pop() {
@@ -150,8 +148,8 @@ pub(crate) fn settle_apart<T: Leaf + Drop, L: Ledger>(
         Stage::Made(node) => Ok(node),
         Stage::Paired(pair) => {
             let pair = Box::into_inner(pair);
-            let left = settle_apart(pair.left, alloc, steps)?;
-            let right = settle_apart(pair.right, alloc, steps)?;
+            let left = settle_apart(pair.left, alloc, steps);
+            let right = settle_apart(pair.right, alloc, steps);
             pair_step(left, right, alloc, steps)
         }
     }

@@ -16,7 +16,7 @@ use crate::find::find;
 use crate::iter::Iter;
 use crate::layers::{build, layered};
 use crate::node::Node;
-use crate::put::{put_all, put_or_grow};
+use crate::put::{depth_with, put_all, put_or_grow};
 use crate::work::{lift, lift_steps};
 use bc_words::{NoMemory, Steps};
 use hash_tree::{Leaf, Root};
@@ -106,7 +106,8 @@ impl<T: Leaf + Drop> Tree<T> {
         ensures steps { OnOk result (steps.new ≡ steps.old + self.old.0) }
         ensures at_most { steps.new ≤ steps.old + self.old.0 }
     {
-        let (node, low) = put_or_grow(&self.node, self.low, at, item, self.alloc, steps)?;
+        let low = depth_with(self.low, at);
+        let node = put_or_grow(&self.node, self.low, low, at, item, self.alloc, steps)?;
         self.top = lift_steps(node.root(), low, self.depth, steps);
         self.node = node;
         self.low = low;

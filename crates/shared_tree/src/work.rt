@@ -1,9 +1,9 @@
 //! Hash steps: the hash of two nodes, or the mixing of a length, each of which is counted.
 
-ghost use Rattle.std.specs.Prelude.{◌≡◌, ℕ, suc, ◌+◌, ◌*◌, ◌-◌, ◌≤◌, ◌^◌, List, ◌++◌, length, IfOk};
+ghost use Rattle.std.specs.Prelude.{◌≡◌, ℕ, ◌+◌, ◌*◌, ◌-◌, ◌≤◌, ◌^◌, List, length, IfOk, OnOk};
 ghost use Rattle.hash_tree.specs.Merkle.{merkle_root, mix_in_length as mixed_in};
 ghost use Rattle.pair_lanes.specs.Pairs.{parents};
-ghost use Rattle.shared_tree.specs.inside.Nodes.{AreHalves};
+ghost use Rattle.shared_tree.specs.inside.Nodes.{AreHalves, AreMade, IsPairOf};
 ghost use Rattle.shared_tree.specs.inside.Lifts.{Lifts};
 
 use crate::node::Node;
@@ -13,17 +13,20 @@ use pair_lanes::hash_layer;
 use std::alloc::Global;
 use std::sync::ledger::Ledger;
 
-/// The tree over two halves.
+/// The tree over two halves, where memory was refused for neither. A step then.
 pub(crate) fn pair_step<T: Leaf + Drop, L: Ledger>(
-    left: Node<T>,
-    right: Node<T>,
+    left: Result<Node<T>, NoMemory>,
+    right: Result<Node<T>, NoMemory>,
     alloc: Global,
     steps: &mut Steps<L>,
 ) -> Result<Node<T>, NoMemory>
-    requires { AreHalves left right }
-    ensures pair { IfOk result (λ node. node ≡ (suc left.0, left.1 ++ right.1)) }
-    ensures steps { steps.new ≡ steps.old + 1 }
+    requires { AreMade AreHalves left right }
+    ensures pair { IfOk result (IsPairOf left right) }
+    ensures steps { OnOk result (steps.new ≡ steps.old + 1) }
+    ensures at_most { steps.new ≤ steps.old + 1 }
 {
+    let left = left?;
+    let right = right?;
     steps.tick();
     Node::pair(left, right, alloc)
 }

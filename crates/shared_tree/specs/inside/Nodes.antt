@@ -1,5 +1,5 @@
 -- What a node of a tree is seen as, and what holds of it.
-use Rattle.std.specs.Prelude.{◌≡◌, ℕ, suc, ◌<◌, ◌≤◌, ◌^◌, List, [], ◌∷◌, ◌++◌, length, map, Option, Some, None}
+use Rattle.std.specs.Prelude.{◌≡◌, ℕ, suc, ◌<◌, ◌≤◌, ◌^◌, List, [], ◌∷◌, ◌++◌, length, map, Option, Some, None, Result, Ok, Err}
 use Rattle.std.specs.Borrow.{Bor}
 use Rattle.hash_tree.specs.Merkle.{hash, merkle_root}
 use Rattle.shared_tree.specs.declared.node.Kind.{Kind}
@@ -28,6 +28,18 @@ pub record HalvesOf {T : Type 0} (tree left right : ℕ × List T) : Type 0 wher
 abbrev pub Splits : {T : Type 0} → ℕ × List T → Option (Bor (ℕ × List T) × Bor (ℕ × List T)) → Type 0
 Splits tree (Some halves) = HalvesOf tree halves.0.now halves.1.now
 Splits tree None = (length tree.1 ≤ 1) × (0 < tree.0 → tree.1 ≡ [])
+
+-- what holds of two values, where both were made
+abbrev pub AreMade : {A B E : Type 0} → (A → B → Type 0) → Result A E → Result B E → Type 0
+AreMade P (Ok left) (Ok right) = P left right
+AreMade P (Ok left) (Err e) = Unit {0}
+AreMade P (Err e) right = Unit {0}
+
+-- the tree over two halves, both of which were made
+abbrev pub IsPairOf : {T E : Type 0} → Result (ℕ × List T) E → Result (ℕ × List T) E → ℕ × List T → Type 0
+IsPairOf (Ok left) (Ok right) tree = tree ≡ (suc left.0, left.1 ++ right.1)
+IsPairOf (Ok left) (Err e) tree = ⊥
+IsPairOf (Err e) right tree = ⊥
 
 -- what is kept is the root
 abbrev pub IsNode : {T : Type 0} → (T → List ℕ) → Kind T → Type 0

@@ -2,6 +2,7 @@
 use Rattle.std.proofs.Common.{List, [], ◌++◌, map, sym, ap, ◌∙◌, arith}
 use Rattle.shared_tree.specs.inside.Walks.{waiting}
 use Rattle.shared_tree.proofs.Walks.{get_some, none_ahead, first_ahead}
+use Rattle.std.proofs.lemmas.Grind.{common_steps}
 use Rattle.shared_tree.proofs.iter.first.Goals as goal
 
 pub returns-then-from-ge-ROOM-clause-enters : goal.returns-then-from-ge-ROOM-clause-enters
@@ -15,3 +16,12 @@ returns-clause-enters g c =
     let before = c.if-from-ge-ROOM.false in
     let node = get_some c.args.path.now c.args.from c.index-path-from.result (omega (arith, c.requires.room)) c.index-path-from.is in
     first_ahead c.args.path.now c.args.from c.index-path-from.result (map (λ leaf. leaf.value.item) c.enter.result.0.now) (waiting c.enter.result.1 c.enter.new.path) node c.requires.path c.enter.ensures.enters
+
+pub enter-requires-clause-joins : goal.enter-requires-clause-joins
+enter-requires-clause-joins g c = grind (arith, common_steps)
+
+pub enter-requires-clause-low : goal.enter-requires-clause-low
+enter-requires-clause-low g c = grind (arith, common_steps)
+
+pub enter-requires-clause-path : goal.enter-requires-clause-path
+enter-requires-clause-path g c = grind (arith, common_steps)

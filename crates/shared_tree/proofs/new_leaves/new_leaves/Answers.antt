@@ -1,5 +1,5 @@
 -- One batch more.
-use Rattle.std.proofs.Common.{length, ap, arith, length-append}
+use Rattle.std.proofs.Common.{ℕ, List, ◌++◌, length, ap, ◌∙◌, arith, length-append}
 use Rattle.std.specs.Prelude.{zip}
 use Rattle.std.specs.Vec.Iter.{into_iter_items}
 use Rattle.shared_tree.proofs.NewLeaves.{length_zip, changes_more, changes_all}
@@ -15,7 +15,7 @@ batches-preserved g c =
     let long = length_zip c.in_ok-places.places.items c.in_ok-places.items.items (omega arith) in
     let left = c.batches.invariant.left_is in
     record {
-      made = changes_more c.batches.leaves.items c.add_changes.new.leaves.items batch (into_iter_items c.batches.rest) (into_iter_items c.split_changes.new.rest) c.args.changes.items c.in_ok-places.ensures.taken c.in_ok-add_changes.ensures c.batches.invariant.made;
+      made = changes_more c.batches.leaves.items c.add_changes.new.leaves.items batch (into_iter_items c.batches.rest) (into_iter_items c.split_changes.new.rest) c.args.changes.items c.in_ok-places.ensures.taken (c.in_ok-add_changes.ensures ∙ ap (λ (ps : List ℕ). c.batches.leaves.items ++ zip ps c.in_ok-places.items.items) c.deref.ensures.value) c.batches.invariant.made;
       left_is = omega arith;
     }
 

@@ -6,13 +6,16 @@ use Rattle.shared_tree.proofs.put.new_items.Goals as goal
 
 pub items-preserved : goal.items-preserved
 items-preserved g c =
-    let first = ap length c.in-Some.ensures.items in
+    let first = ap length c.next_of.ensures in
     let left = c.items.invariant.left in
     record {
-      made = item_more c.items.items.items c.push.new.self.items c.in-Some.item (c.in-Some._at, c.in-Some.item) (into_iter_items c.items.rest) (into_iter_items c.next.new.self) (map (λ change. change.1) c.args.changes.items) c.in-Some.ensures.items c.in_ok-push-in-Some.ensures.items refl c.items.invariant.made;
+      made = item_more c.items.items.items c.push.new.self.items c.next_of.result.1 c.next_of.result (into_iter_items c.items.rest) (into_iter_items c.next_of.new.rest) (map (λ change. change.1) c.args.changes.items) c.next_of.ensures c.in_ok-push.ensures.items refl c.items.invariant.made;
       left = omega arith;
     }
 
 pub returns : goal.returns
 returns g c =
     item_all c.items.items.items (into_iter_items c.items.rest) (map (λ change. change.1) c.args.changes.items) (omega (arith, c.items-test.false, c.items.invariant.left, c.len-count.ensures)) c.items.invariant.made
+
+pub next_of-requires : goal.next_of-requires
+next_of-requires g c = omega (arith, c.items-test.true, c.items.invariant.left, c.len-count.ensures)

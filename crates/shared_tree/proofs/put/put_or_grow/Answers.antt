@@ -1,40 +1,29 @@
 -- A full tree becomes the left half of a deeper one.
-use Rattle.std.proofs.Common.{refl, ◌∙◌, arith}
-use Rattle.shared_tree.proofs.Pairs.{grown}
+use Rattle.std.proofs.Common.{ℕ, ap, sym, ◌∙◌, arith}
+use Rattle.shared_tree.specs.inside.Puts.{put_at}
+use Rattle.shared_tree.proofs.Pairs.{grown, both_made, pair_made, pair_counted_right, stays_low, grows_high}
 use Rattle.shared_tree.proofs.put.put_or_grow.Goals as goal
+
+pub put-requires-clause-room : goal.put-requires-clause-room
+put-requires-clause-room g c = stays_low c.args.depth c.args.at c.args.grown c.requires.grows c.if-grown-depth.true
 
 pub pair_step-requires : goal.pair_step-requires
 pair_step-requires g c =
-    let full = c.if-at-leaves_of.false in
-    let both = grown c.args.node.now c.in_ok-share.field-0 c.in_ok-right.right c.args.depth c.args.at c.args.item c.requires.same c.requires.fits (omega (arith, c.leaves_of.ensures.leaves)) c.requires.place c.in_ok-share.ensures c.in_ok-right.ensures.one in
-    both.0
+    let full = grows_high c.args.depth c.args.at c.args.grown c.requires.grows c.if-grown-depth.false in
+    both_made c.share.result c.sprout-right.result c.share.ensures c.sprout-right.ensures.one (λ left right shared one. (grown c.args.node.now left right c.args.depth c.args.at c.args.item c.requires.same c.requires.fits full.0 c.requires.place shared one).0)
 
 pub returns-clause-put : goal.returns-clause-put
 returns-clause-put g c =
-    let full = c.if-at-leaves_of.false in
-    let both = grown c.args.node.now c.in_ok-share.field-0 c.in_ok-right.right c.args.depth c.args.at c.args.item c.requires.same c.requires.fits (omega (arith, c.leaves_of.ensures.leaves)) c.requires.place c.in_ok-share.ensures c.in_ok-right.ensures.one in
-    c.in_ok-whole.ensures.pair ∙ both.1
+    let full = grows_high c.args.depth c.args.at c.args.grown c.requires.grows c.if-grown-depth.false in
+    pair_made c.share.result c.sprout-right.result c.pair_step.result (c.args.grown, put_at c.args.node.now.1 c.args.at c.args.item) c.share.ensures c.sprout-right.ensures.one c.pair_step.ensures.pair
+    (λ left right shared one. (grown c.args.node.now left right c.args.depth c.args.at c.args.item c.requires.same c.requires.fits full.0 c.requires.place shared one).1 ∙ ap (λ (d : ℕ). (d, put_at c.args.node.now.1 c.args.at c.args.item)) (sym full.1))
 
-pub returns-then-at-leaves_of-clause-grows : goal.returns-then-at-leaves_of-clause-grows
-returns-then-at-leaves_of-clause-grows g c = record {
-  stays = λ less. refl;
-  grows = λ more. absurd (omega (arith, c.if-at-leaves_of.true, c.leaves_of.ensures.leaves));
-}
+pub returns-clause-steps : goal.returns-clause-steps
+returns-clause-steps g c =
+    let full = grows_high c.args.depth c.args.at c.args.grown c.requires.grows c.if-grown-depth.false in
+    pair_counted_right c.share.result c.sprout-right.result c.pair_step.result c.sprout-right.ensures.steps c.pair_step.ensures.pair c.pair_step.ensures.steps (λ below above. omega (arith, full.1))
 
-pub returns-clause-grows : goal.returns-clause-grows
-returns-clause-grows g c = record {
-  stays = λ less. absurd (omega (arith, c.if-at-leaves_of.false, c.leaves_of.ensures.leaves));
-  grows = λ more. refl;
-}
-
-pub returns-clause-within : goal.returns-clause-within
-returns-clause-within g c = λ less. absurd (omega (arith, c.if-at-leaves_of.false, c.leaves_of.ensures.leaves))
-
-pub returns-in_err-right-clause-within : goal.returns-in_err-right-clause-within
-returns-in_err-right-clause-within g c = λ less. absurd (omega (arith, c.if-at-leaves_of.false, c.leaves_of.ensures.leaves))
-
-pub returns-in_err-share-clause-within : goal.returns-in_err-share-clause-within
-returns-in_err-share-clause-within g c = λ less. absurd (omega (arith, c.if-at-leaves_of.false, c.leaves_of.ensures.leaves))
-
-pub returns-in_err-whole-clause-within : goal.returns-in_err-whole-clause-within
-returns-in_err-whole-clause-within g c = λ less. absurd (omega (arith, c.if-at-leaves_of.false, c.leaves_of.ensures.leaves))
+pub returns-clause-at_most : goal.returns-clause-at_most
+returns-clause-at_most g c =
+    let full = grows_high c.args.depth c.args.at c.args.grown c.requires.grows c.if-grown-depth.false in
+    omega (arith, full.1, c.sprout-right.ensures.at_most, c.pair_step.ensures.at_most)

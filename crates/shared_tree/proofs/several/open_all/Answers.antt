@@ -22,13 +22,13 @@ plans-init g c =
 
 pub plans-preserved : goal.plans-preserved
 plans-preserved g c =
-    let dropped : drop c.plans.k c.args.plans.items ≡ c.in-Some.plan ∷ into_iter_items c.next.new.self = sym c.plans.invariant.rest ∙ c.in-Some.ensures.items in
-    let first = ap length c.in-Some.ensures.items in
+    let dropped : drop c.plans.k c.args.plans.items ≡ c.next_of.result ∷ into_iter_items c.next_of.new.rest = sym c.plans.invariant.rest ∙ c.next_of.ensures in
+    let first = ap length c.next_of.ensures in
     let left = c.plans.invariant.left in
     record {
-      rest = sym (drop_next c.args.plans.items c.plans.k c.in-Some.plan (into_iter_items c.next.new.self) dropped);
+      rest = sym (drop_next c.args.plans.items c.plans.k c.next_of.result (into_iter_items c.next_of.new.rest) dropped);
       left = omega arith;
-      so_far = subst (λ (ps : List _). AreOpen ps c.open_one.new.spots.items c.open_one.new.halves.items) (sym (take_next c.args.plans.items c.plans.k c.in-Some.plan (into_iter_items c.next.new.self) dropped)) (c.in_ok-open_one-in-Some.ensures (take c.plans.k c.args.plans.items) c.plans.invariant.so_far);
+      so_far = subst (λ (ps : List _). AreOpen ps c.open_one.new.spots.items c.open_one.new.halves.items) (sym (take_next c.args.plans.items c.plans.k c.next_of.result (into_iter_items c.next_of.new.rest) dropped)) (c.in_ok-open_one.ensures (take c.plans.k c.args.plans.items) c.plans.invariant.so_far);
     }
 
 pub returns : goal.returns
@@ -37,3 +37,6 @@ returns g c =
     let test = c.plans-test.false in
     let count = c.len-count.ensures in
     subst (λ (ps : List _). AreOpen ps c.plans.spots.items c.plans.halves.items) (take_all c.plans.k c.args.plans.items (omega arith)) c.plans.invariant.so_far
+
+pub next_of-requires : goal.next_of-requires
+next_of-requires g c = omega (arith, c.plans-test.true, c.plans.invariant.left, c.len-count.ensures)

@@ -1,0 +1,10 @@
+-- The lists are those that were read.
+use Rattle.std.proofs.Common.{arith}
+use Rattle.std.proofs.lemmas.Grind.{common_steps}
+use Rattle.beacon_state.proofs.state.State.from_plain.Goals as goal
+
+pub returns : goal.returns
+returns c = grind (arith, common_steps)
+
+pub invariant_of-result : goal.invariant_of-result
+invariant_of-result c = grind (arith, common_steps)

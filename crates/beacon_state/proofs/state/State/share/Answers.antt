@@ -1,0 +1,10 @@
+-- The lists are those of the state.
+use Rattle.std.proofs.Common.{arith}
+use Rattle.std.proofs.lemmas.Grind.{common_steps}
+use Rattle.beacon_state.proofs.state.State.share.Goals as goal
+
+pub returns : goal.returns
+returns c = grind (arith, common_steps)
+
+pub invariant_of-result : goal.invariant_of-result
+invariant_of-result c = grind (arith, common_steps)
