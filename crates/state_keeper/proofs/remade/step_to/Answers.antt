@@ -22,9 +22,3 @@ unreachable-requires-in-Err-Limit g c = not_limited c.in-Err-Limit.field-0 _ c.r
 
 pub offset_bounds-entries-n : goal.offset_bounds-entries-n
 offset_bounds-entries-n g c = let less = slice_get_within c.args.entries.now c.args.n c.requires.entry c.requires.there in omega arith
-
-pub returns-in-Ok-clause-steps : goal.returns-in-Ok-clause-steps
-returns-in-Ok-clause-steps g c = c.tick.ensures
-
-pub returns-in-Err-NoMemory-clause-steps : goal.returns-in-Err-NoMemory-clause-steps
-returns-in-Err-NoMemory-clause-steps g c = c.tick.ensures
