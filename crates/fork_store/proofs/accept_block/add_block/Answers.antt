@@ -1,4 +1,4 @@
-use Rattle.std.proofs.Common.{◌≡◌, ◌∙◌, ◌<◌, ◌^◌, List, [], ◌∷◌, ◌++◌, length, Some, None, arith, sym, ap, subst}
+use Rattle.std.proofs.Common.{◌≡◌, ◌∙◌, ◌<◌, ◌^◌, List, [], ◌∷◌, ◌++◌, length, Some, None, arith, refl, sym, ap, subst}
 use Rattle.block_array.specs.PlainArray.{PlainArray}
 use Rattle.block_array.specs.declared.facts.Facts.{Facts}
 use Rattle.block_array.specs.Calls.{with_node}
@@ -11,6 +11,7 @@ use Rattle.store_parts.specs.inside.Stores.{IsKept}
 use Rattle.store_parts.specs.inside.Trees.{Follows}
 use Rattle.store_parts.proofs.Trees.{follows}
 use Rattle.store_parts.proofs.Adding.{few_nodes, parent_earlier, parent_numbered, parent_fits, node_added, spare_array, block_array, array_same}
+use Rattle.state_keeper.proofs.Made.{refused_as_before}
 use Rattle.fork_store.proofs.accept_block.add_block.Goals as goal
 
 pub unreachable-requires : goal.unreachable-requires
@@ -95,3 +96,15 @@ returns-clause-exact c = subst (λ (b : SignedBeaconBlock). c.keep.new.self ≡ 
 
 pub returns-clause-stays : goal.returns-clause-stays
 returns-clause-stays c = ap (λ (s : Store). s.justified_checkpoint) c.in_ok-keep.ensures.kept
+
+pub returns-in_err-reserve-clause-exact : goal.returns-in_err-reserve-clause-exact
+returns-in_err-reserve-clause-exact c = refused_as_before c.from_residual.result _ _ _ c.from_residual.ensures.0 refl
+
+pub returns-in_err-copy-clause-exact : goal.returns-in_err-copy-clause-exact
+returns-in_err-copy-clause-exact c = refused_as_before c.from_residual-in_err-copy.result _ _ _ c.from_residual-in_err-copy.ensures.0 refl
+
+pub returns-in_err-keep-clause-exact : goal.returns-in_err-keep-clause-exact
+returns-in_err-keep-clause-exact c = refused_as_before c.from_residual-in_err-keep.result _ _ _ c.from_residual-in_err-keep.ensures.0 c.in_err-keep.ensures.kept
+
+pub returns-clause-keeper : goal.returns-clause-keeper
+returns-clause-keeper c = c.keep.ensures.keeper
