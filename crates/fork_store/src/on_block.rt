@@ -86,7 +86,7 @@ fn block_step(
 }
 
 /// Takes a valid block into the store, unless its root is no name for it alone.
-#[tactic(auto, using(store_parts::proofs::Steps::is_kept), unfolding(spec_fork_choice::specs::OnBlock::accept_block))]
+#[tactic(auto, using(store_parts::proofs::Steps::is_kept))]
 fn accept_unless(
     alloc: Global,
     store: &mut StoreFields,

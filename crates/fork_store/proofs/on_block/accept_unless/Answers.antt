@@ -1,6 +1,6 @@
 -- The block is taken into the store as it was: what was kept of a checkpoint changes nothing that contracts see.
-use Rattle.std.proofs.Common.{◌≡◌, ◌∙◌, ℕ, ◌<◌, ◌-◌, ◌^◌, List, Option, None, length, ap, subst, sym}
-use Rattle.bc_words.specs.Events.{accepted}
+use Rattle.std.proofs.Common.{◌≡◌, ◌∙◌, ℕ, ◌<◌, ◌-◌, ◌^◌, List, Option, Some, None, length, ap, refl, subst, sym}
+use Rattle.bc_words.specs.Events.{accepted, event_clashes}
 use Rattle.bc_words.specs.declared.store_stop.ClashKind.{ClashKind}
 use Rattle.beacon_body.specs.declared.block.BeaconBlock.{BeaconBlock}
 use Rattle.spec_fork_choice.specs.Store.{KeptBlock, Store}
@@ -87,3 +87,14 @@ returns-in_ok-accept-in-None-clause-exact c =
     (accepted_is c.args.store.now c.accept.new.store c.args.block.now.message c.args.root step (clash_of c.args.store.now.blocks c.args.root c.args.block.now.message.state_root c.args.block.now.message)
     (sym (subst (λ (b : List KeptBlock). None ≡ clash_of b c.args.root c.args.block.now.message.state_root c.args.block.now.message) c.blocks-2.ensures c.in-None.ensures))
     (c.in_ok-accept-in-None.ensures.exact ∙ ap (λ (s : Store). with_accepted s (kept_of c.args.root c.args.block.now.message c.step.inside.state)) c.in_ok-keep_justified-in-None.ensures.same))
+
+clash_is : (store : Store) (block : BeaconBlock) (root : List ℕ) (step : Stepped) (clash : Option ClashKind) (kind : ClashKind) → clash ≡ Some kind → accept_block store block root step clash ≡ event_clashes kind
+unfolding accept_block
+clash_is store block root step clash kind is = ap (accept_block store block root step) is
+
+pub returns-in-Some-clause-exact : goal.returns-in-Some-clause-exact
+returns-in-Some-clause-exact c = (
+  refl,
+  clash_is c.args.store.now c.args.block.now.message c.args.root c.args.step _ c.in-Some.kind
+      (sym (subst (λ (b : List KeptBlock). Some c.in-Some.kind ≡ clash_of b c.args.root c.args.block.now.message.state_root c.args.block.now.message) c.blocks-2.ensures c.in-Some.ensures)),
+)
