@@ -121,7 +121,6 @@ fn prepare(
 }
 
 /// Keeps a block that isn't kept yet with its state, and adds its node to the array. All room is made first.
-#[tactic(auto, using(store_parts::proofs::Adding::adding))]
 fn add_block(
     alloc: Global,
     store: &mut StoreFields,

@@ -16,7 +16,7 @@ use store_parts::number_of::number_of;
 use store_parts::state_of::state_of;
 
 /// The state behind the kept block of a root. Whether memory is refused or not, the keeper is as before.
-#[tactic(auto, using(store_parts::proofs::Keepers::stating))]
+#[tactic(auto, using(store_parts::proofs::Following::kept_number))]
 pub(crate) fn kept_state(
     blocks: &KeptBlocks,
     keeper: &mut Keeper<ChainStepper>,
@@ -32,6 +32,5 @@ pub(crate) fn kept_state(
     let Some(number) = number_of(blocks, root) else {
         unreachable!()
     };
-    let state = state_of(keeper, number)?;
-    Ok(state)
+    state_of(keeper, number)
 }

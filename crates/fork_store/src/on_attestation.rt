@@ -91,7 +91,7 @@ impl Store {
     /// Refused, in this order: as `validate_on_attestation` has it; as the slots up to the target's first one are, with their
     /// limit; `FcCommittee`, `FcBitsShort`, `FcEmpty`. After a stop the store is as before. It never clashes, and gives the array
     /// no balances.
-    #[tactic(auto, using(store_parts::proofs::Votes::handling, store_parts::proofs::Votes::voted_is_kept, store_parts::proofs::Walks::whole_nodes))]
+    #[tactic(auto, using(store_parts::proofs::Votes::attestation_stops))]
     pub fn on_attestation(
         &mut self,
         alloc: Global,

@@ -6,17 +6,19 @@ ghost use Rattle.store_parts.specs.inside.Stores.{IsRootOf, IsBehind};
 ghost use Rattle.store_parts.specs.inside.Trees.{HasParent};
 ghost use Rattle.spec_fork_choice.specs.Clash.{clash_of};
 ghost use Rattle.spec_fork_choice.specs.OnBlock.{block_step, accept_block, on_block};
+ghost use Rattle.store_parts.specs.inside.Accepted.{check_block};
 ghost use Rattle.store_parts.specs.inside.Accepts.{Accepts};
 ghost use Rattle.store_parts.specs.inside.Arrays.{AreNodesOf};
 ghost use Rattle.store_parts.specs.inside.Wholes.{IsWhole};
-ghost use Rattle.store_parts.specs.inside.Chains.{IsChained, IsLinked};
-ghost use Rattle.store_parts.specs.inside.Keepers.{IsKeeperOf, IsStepOn};
+ghost use Rattle.store_parts.specs.inside.Chains.{IsChained, IsDone, IsLinked};
+ghost use Rattle.store_parts.specs.inside.Keepers.{IsKeeperOf, IsStateBehind, IsStepOn};
 
 use crate::accept_block::{accept, keep_justified};
 use crate::kept_state::kept_state;
 use crate::store::Store;
 use bc_words::{Refusal, Stop, StoreStop};
 use beacon_body::SignedBeaconBlock;
+use beacon_state::State;
 use block_array::BlockArray;
 use hash_tree::Root;
 use state_keeper::Keeper;
@@ -30,8 +32,30 @@ use store_parts::store_fields::StoreFields;
 use transition::Step;
 use transition::state_transition::state_transition;
 
+/// The step of the state behind a block's kept parent by the block, whose checks passed.
+fn step_from(
+    alloc: Global,
+    store: &StoreFields,
+    parent: &State,
+    block: &SignedBeaconBlock,
+) -> Result<Step, Stop>
+    requires chained { IsChained store.now }
+    requires parent { IsStateBehind store.now.blocks block.now.message.parent_root parent.now }
+    requires checked { IsDone (check_block store.now block.now.message) }
+    ensures step { Gives result (block_step store.now block.now) }
+    ensures behind { IfOk result (λ step. IsBehind block.now.message step.state) }
+    ensures preset { IfOk result (λ step. step.state.preset ≡ store.now.config.preset) }
+    ensures parent { IfOk result (λ _. HasParent store.now.blocks block.now.message) }
+    ensures linked { IfOk result (λ step. IsLinked store.now.config store.now.blocks step.state) }
+    ensures stepped { IfOk result (λ step. IsStepOn store.now.config store.now.blocks block.now step.state) }
+{
+    store.is_sound();
+    let step = state_transition(alloc, parent, block, store.config())?;
+    Ok(step)
+}
+
 /// The checks of a block, and the step of its parent's state by it. The keeper is as before.
-#[tactic(auto, using(store_parts::proofs::Steps::state_root_is, store_parts::proofs::Stepping::stepping, store_parts::proofs::Keepers::keeping))]
+#[tactic(auto, using(store_parts::proofs::Stepping::check_stops))]
 fn block_step(
     alloc: Global,
     store: &StoreFields,
@@ -50,19 +74,19 @@ fn block_step(
     ensures stepped { IfOk result (λ step. IsStepOn store.now.config store.now.blocks block.now step.state) }
     ensures same { keeper.new ≡ keeper.old }
 {
-    store.is_sound();
     let message = &block.message;
     if !store.is_kept(message.parent_root) {
         return Err(Stop::Refused(Refusal::ParentUnknown));
     }
     check_block(store, array, message)?;
-    let parent = kept_state(store.blocks(), keeper, message.parent_root)?;
-    let step = state_transition(alloc, &parent, block, store.config())?;
-    Ok(step)
+    match kept_state(store.blocks(), keeper, message.parent_root) {
+        Ok(parent) => step_from(alloc, store, &parent, block),
+        Err(_) => Err(Stop::NoMemory),
+    }
 }
 
 /// Takes a valid block into the store, unless its root is no name for it alone.
-#[tactic(auto, using(store_parts::proofs::Steps::is_kept, store_parts::proofs::Steps::is_named), unfolding(spec_fork_choice::specs::OnBlock::accept_block))]
+#[tactic(auto, using(store_parts::proofs::Steps::is_kept))]
 fn accept_unless(
     alloc: Global,
     store: &mut StoreFields,
@@ -110,7 +134,7 @@ impl Store {
     /// Refused, in this order: as `ParentUnknown`, `FutureBlock`, `BeforeFinalized`, `NotOnFinalized`, and as the state
     /// transition is. Limited as that is too. A clash comes last, where the block's root or state root is zero or another block
     /// of its root is kept. Where the justified checkpoint stays, the array is given no balances.
-    #[tactic(auto, using(store_parts::proofs::Walks::whole_nodes), unfolding(spec_fork_choice::specs::OnBlock::on_block, store_parts::specs::inside::Stores::IsRootOf, spec_transition::specs::StateTransition::IsLatest))]
+    #[tactic(auto, unfolding(spec_fork_choice::specs::OnBlock::on_block, store_parts::specs::inside::Stores::IsRootOf, spec_transition::specs::StateTransition::IsLatest))]
     pub fn on_block(
         &mut self,
         alloc: Global,

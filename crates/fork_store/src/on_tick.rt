@@ -4,7 +4,7 @@ ghost use Rattle.std.specs.Prelude.{◌≡◌, ◌⊎◌};
 ghost use Rattle.bc_words.specs.Outcome.{ChangesOrRefuses};
 ghost use Rattle.spec_fork_choice.specs.OnTick.{is_better_justified, in_new_epoch, in_new_slot, on_tick};
 ghost use Rattle.store_parts.specs.inside.Arrays.{AreNodesOf, IsArrayOf};
-ghost use Rattle.store_parts.specs.inside.Wholes.{IsReady};
+ghost use Rattle.store_parts.specs.inside.Wholes.{IsReady, IsWhole};
 ghost use Rattle.store_parts.specs.inside.Following.{with_told, AreKept};
 
 use crate::feed::feed_best;
@@ -95,19 +95,35 @@ fn follow_tick(
     follow(store, array, before);
 }
 
+/// The time of a store's parts, in seconds, is this one now, and the array follows.
+fn tick_whole(
+    store: &mut StoreFields,
+    array: &mut BlockArray,
+    ready: &mut Option<ReadyBalances>,
+    time: u64,
+) -> Result<(), Refusal>
+    requires { IsWhole store.old array.old ready.old }
+    ensures exact { ChangesOrRefuses result store.old store.new (on_tick store.old time) }
+    ensures whole { IsWhole store.new array.new ready.new }
+    ensures config { store.new.config ≡ store.old.config }
+    ensures blocks { store.new.blocks ≡ store.old.blocks }
+    ensures unset { store.new.justified_checkpoint ≡ store.old.justified_checkpoint → array.new.balances_set ≡ array.old.balances_set }
+{
+    let before = told_of(store);
+    tick(store, array, time)?;
+    follow_tick(store, array, ready, &before);
+    Ok(())
+}
+
 impl Store {
     /// The time, in seconds, is this one now (fork-choice.md, `on_tick`). It takes no memory.
     ///
     /// Refused as `TickBack` where it is before the store's, which is then as it was. Where the justified checkpoint stays, the
     /// array is given no balances.
-    #[tactic(auto, using(store_parts::proofs::Ticks::ticking, store_parts::proofs::Walks::whole_nodes, store_parts::proofs::Keepers::keeping))]
     pub fn on_tick(&mut self, time: u64) -> Result<(), Refusal>
         ensures exact { ChangesOrRefuses result self.old.plain self.new.plain (on_tick self.old.plain time) }
         ensures unset { self.new.plain.justified_checkpoint ≡ self.old.plain.justified_checkpoint → self.new.array.balances_set ≡ self.old.array.balances_set }
     {
-        let before = told_of(&self.fields);
-        tick(&mut self.fields, &self.array, time)?;
-        follow_tick(&self.fields, &mut self.array, &mut self.ready, &before);
-        Ok(())
+        tick_whole(&mut self.fields, &mut self.array, &mut self.ready, time)
     }
 }

@@ -100,20 +100,29 @@ fn forkchoice_store(
     })
 }
 
+/// The store at such a genesis state. It clashes where the genesis block's root or the state's is zero.
+#[tactic(auto, unfolding(spec_fork_choice::specs::OnEvent::open_store, spec_fork_choice::specs::OnEvent::open_unless, store_parts::specs::inside::Stores::IsRootOf))]
+fn open_store(alloc: Global, config: &Config, genesis: &State) -> Result<Store, StoreStop>
+    requires genesis { genesis_fault genesis.now ≡ None }
+    requires preset { genesis.now.preset ≡ config.now.preset }
+    ensures { StoreGivesBy (λ store. store.plain) result (open_store config.now genesis.now) }
+{
+    let block = genesis_block(alloc, genesis);
+    let root = block.root();
+    match genesis_clash(genesis, &block, root) {
+        Some(kind) => Err(StoreStop::Clash(kind)),
+        None => Ok(forkchoice_store(alloc, config, genesis, block, root)?),
+    }
+}
+
 impl Store {
     /// The store at genesis (fork-choice.md, `get_forkchoice_store`), of a genesis state that the genesis check accepts and
     /// whose preset is the configuration's. It clashes where the genesis block's root or the state's is zero.
-    #[tactic(auto, unfolding(spec_fork_choice::specs::OnEvent::open_store, spec_fork_choice::specs::OnEvent::open_unless, store_parts::specs::inside::Stores::IsRootOf))]
     pub fn new(alloc: Global, config: &Config, genesis: State) -> Result<Store, StoreStop>
         requires genesis { genesis_fault genesis ≡ None }
         requires preset { genesis.preset ≡ config.now.preset }
         ensures { StoreGivesBy (λ store. store.plain) result (open_store config.now genesis) }
     {
-        let block = genesis_block(alloc, &genesis);
-        let root = block.root();
-        match genesis_clash(&genesis, &block, root) {
-            Some(kind) => Err(StoreStop::Clash(kind)),
-            None => Ok(forkchoice_store(alloc, config, &genesis, block, root)?),
-        }
+        open_store(alloc, config, &genesis)
     }
 }

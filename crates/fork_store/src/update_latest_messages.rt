@@ -16,7 +16,6 @@ use store_parts::vote_all::{places_for, vote_all};
 
 /// Takes the attestation's vote for each of these validators to whom it is news. Where memory is refused, the store is as
 /// before: all room is made first.
-#[tactic(auto, using(store_parts::proofs::Voting::voting))]
 pub(crate) fn update_latest_messages(
     store: &mut StoreFields,
     array: &mut BlockArray,

@@ -1,6 +1,8 @@
 -- What is known of a value once something was done.
 use Rattle.std.proofs.Common.{◌≡◌, true, false, Result, Ok, Err, IfOk, OnOk, IsOk, IsErr, refl, subst, sym, ◌∙◌}
 use Rattle.bc_words.specs.Outcome.{Outcome, done, refused, limited, Stops, Becomes}
+use Rattle.bc_words.specs.declared.refusal.Refusal.{Refusal}
+use Rattle.bc_words.specs.declared.stop.Limit.{Limit}
 use Rattle.bc_words.specs.declared.stop.NoMemory.{NoMemory}
 use Rattle.bc_words.specs.declared.stop.Stop.{Stop}
 use Rattle.bc_words.specs.declared.stop.Stop.TheVariants as stops
@@ -16,6 +18,13 @@ pub stopped : {A : Type 0} (stop : Stop) (outcome : Outcome A) (value : A) → o
 stopped (stops.Refused why) outcome value is stops = absurd (let e : done value ≡ refused why = sym is ∙ stops in cc)
 stopped (stops.Limit bound) outcome value is stops = absurd (let e : done value ≡ limited bound = sym is ∙ stops in cc)
 stopped stops.NoMemory outcome value is stops = refl
+
+-- so no refusal and no limit stops it
+pub not_refused : {A : Type 0} {why : Refusal} (stop : Stop) (outcome : Outcome A) (value : A) → outcome ≡ done value → Stops stop outcome → stop ≡ stops.Refused why → ⊥
+not_refused {A} {why} stop outcome value is by why_is = let no : stops.NoMemory ≡ stops.Refused why = sym (stopped stop outcome value is by) ∙ why_is in cc
+
+pub not_limited : {A : Type 0} {bound : Limit} (stop : Stop) (outcome : Outcome A) (value : A) → outcome ≡ done value → Stops stop outcome → stop ≡ stops.Limit bound → ⊥
+not_limited {A} {bound} stop outcome value is by bound_is = let no : stops.NoMemory ≡ stops.Limit bound = sym (stopped stop outcome value is by) ∙ bound_is in cc
 
 -- a refused answer leaves what was there
 pub refused_as_before : {U A : Type 0} (result : Result U NoMemory) (old new value : A) → IsErr result → new ≡ old → Becomes result old new value

@@ -61,6 +61,4 @@ array_same store after a is same = subst (λ (s : Store). IsArrayOf s a) (sym sa
 pub told_same : (store : Store) (a after : PlainArray) → IsArrayOf store a → after ≡ a → IsArrayOf store after
 told_same store a after is same = subst (IsArrayOf store) (sym same) is
 
-pub ruleset adding = (told_same, parent_numbered, parent_fits, parent_earlier, few_nodes, node_added, spare_array, block_array, array_same)
-
 pub ruleset keeping = (array_same)

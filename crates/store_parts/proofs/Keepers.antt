@@ -1,5 +1,5 @@
 -- The kept blocks as the keeper has them, and the states behind them.
-use Rattle.std.proofs.Common.{◌≡◌, ◌∙◌, ℕ, ◌<◌, ◌-◌, ◌^◌, false, List, [], ◌∷◌, ◌++◌, length, Option, Some, None, Result, Ok, Err, IfSome, IsOk, option_map, slice_get, refl, sym, ap, subst, arith}
+use Rattle.std.proofs.Common.{◌≡◌, ◌∙◌, ℕ, ◌<◌, ◌-◌, ◌^◌, false, List, [], ◌∷◌, ◌++◌, length, Option, Some, None, Result, Ok, Err, IfSome, IsOk, option_map, slice_get, refl, sym, ap, subst, arith, length-append}
 use Rattle.std.specs.List.{AllByRecursion}
 use Rattle.std.specs.Option.{option_map_or}
 use Rattle.std.proofs.lemmas.List.{length-map}
@@ -35,7 +35,6 @@ use Rattle.store_parts.specs.inside.Roots.{roots_of}
 use Rattle.store_parts.specs.inside.Stores.{IsRootOf, IsKept, HasPreset}
 use Rattle.store_parts.proofs.ChainBlocks.{found_root}
 use Rattle.store_parts.proofs.Finds.{block_found, block_missed, inside, no_block}
-use Rattle.store_parts.proofs.Following.{kept_number}
 use Rattle.store_parts.proofs.Presets.{found}
 use Rattle.store_parts.proofs.Settling.{settle_blocks, settle_config}
 
@@ -85,8 +84,6 @@ pub block_unread : (blocks : List KeptBlock) (root : List ℕ) → None ≡ numb
 block_unread blocks root none = ap (λ (o : Option KeptBlock). option_map (λ k. k.block) o) (block_missed blocks root none)
 
 pub ruleset reading = (number_held, block_read, block_unread)
-
-pub ruleset stating = (number_held, state_read, kept_number)
 
 -- ---- a slot, a clash
 
@@ -213,6 +210,15 @@ few_held ks blocks same few = omega (arith, few, length_held ks blocks same)
 pub done_becomes : {U A : Type 0} (result : Result U NoMemory) (old new value : A) → Becomes result old new value → IsOk result → new ≡ value
 done_becomes (Ok x) old new value is ok = is
 done_becomes (Err stop) old new value is ok = absurd (false≢true ok)
+
+-- a store whose blocks another one may have joined
+pub becomes_store : {U : Type 0} (result : Result U NoMemory) (s : Store) (new value : List KeptBlock) → Becomes result s.blocks new value → Becomes result s (record s { blocks = new }) (record s { blocks = value })
+becomes_store (Ok x) s new value is = ap (λ (b : List KeptBlock). record s { blocks = b }) is
+becomes_store (Err stop) s new value is = ap (λ (b : List KeptBlock). record s { blocks = b }) is
+
+pub few_after : {U : Type 0} (result : Result U NoMemory) (old new : List KeptBlock) (kept : KeptBlock) → Becomes result old new (old ++ kept ∷ []) → length old < 2 ^ 32 - 1 → length new < 2 ^ 32
+few_after (Ok x) old new kept is few = let more = length-append old (kept ∷ []) in let long : length new ≡ length (old ++ kept ∷ []) = ap length is in omega (arith, few, more, long)
+few_after (Err stop) old new kept is few = let long : length new ≡ length old = ap length is in omega (arith, few, long)
 
 more_kept : (ks : List (ChainBlock SignedBeaconBlock)) (k : ChainBlock SignedBeaconBlock) → kept_blocks (ks ++ k ∷ []) ≡ kept_blocks ks ++ kept_block k ∷ []
 unfolding kept_blocks

@@ -23,7 +23,7 @@ use Rattle.store_parts.specs.inside.Stores.{IsStore}
 use Rattle.store_parts.specs.inside.Trees.{HasParent}
 use Rattle.store_parts.proofs.Chains.{block_state_is_linked}
 use Rattle.store_parts.proofs.Finds.{no_block}
-use Rattle.store_parts.proofs.Keepers.{behind_sound, behind_preset, from_kept, is_step}
+use Rattle.store_parts.proofs.Keepers.{from_kept, is_step}
 use Rattle.store_parts.proofs.Trees.{has_parent}
 use Rattle.store_parts.proofs.Votes.{assoc, same_next}
 
@@ -71,9 +71,6 @@ module _ (store : Store) (block : SignedBeaconBlock) where
     pub step_gives : (result : Result Stepped Stop) → Gives result (state_transition parent block store.config) → Gives result (block_step store block)
     step_gives result gives = subst (Gives result) step_is gives
 
-    pub step_stops : (stop : Stop) → Stops stop (state_transition parent block store.config) → Stops stop (block_step store block)
-    step_stops stop stops = subst (Stops stop) step_is stops
-
     pub step_done : (step : Stepped) → state_transition parent block store.config ≡ done step → block_step store block ≡ done step
     step_done step is = sym step_is ∙ is
 
@@ -86,5 +83,3 @@ module _ (store : Store) (block : SignedBeaconBlock) (parent : PlainState) (step
 
   pub stepped_on : IsStore store → IsStepOn store.config store.blocks block step.state
   stepped_on sound = is_step store.config store.blocks block parent step behind is sound.presets
-
-pub ruleset stepping = (behind_sound, behind_preset, parent_unknown, check_stops, step_stops, step_done, step_parent, step_linked, stepped_on)

@@ -93,8 +93,3 @@ module _ (old t : Store) (time : ℕ) (array : PlainArray) (ready : Option Balan
 
   pub tick_whole : (after : PlainArray) (then_ready : Option Balances) → IsArrayOf t after → IsReady t then_ready → IsWhole t after then_ready
   tick_whole after then_ready a r = record { array_of = a; chained = tick_stays_chained old time t is whole.chained; few = few_blocks; ready_is = r }
-
-pub whole_same : (old t : Store) (array : PlainArray) (ready : Option Balances) → IsWhole old array ready → t ≡ old → IsWhole t array ready
-whole_same old t array ready whole is = subst (λ (s : Store). IsWhole s array ready) (sym is) whole
-
-pub ruleset ticking = (tick_array, tick_ready, tick_best, tick_moved, tick_kept, tick_whole, whole_same)

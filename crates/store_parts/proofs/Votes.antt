@@ -149,8 +149,6 @@ attestation_done store attestation is_from_block indices voters new e same is =
     ap event_of (sym (handled store attestation is_from_block) ∙ ap (λ o. bind o (λ xs. done (update_latest_messages store xs attestation))) e)
     ∙ ap accepted (ap (λ xs. update_latest_messages store xs attestation) (sym same) ∙ sym is)
 
-pub ruleset handling = (attestation_stops, attestation_done)
-
 -- ---- the block that is voted for
 
 pub voted_is_kept : (store : Store) (attestation : Attestation) (is_from_block : Bool) (indices : List ℕ) → judged store attestation is_from_block ≡ done indices → is_kept store.blocks attestation.content.beacon_block_root ≡ true

@@ -12,12 +12,11 @@ use Rattle.spec_fork_choice.specs.Store.{Store, LatestMessage}
 use Rattle.spec_fork_choice.specs.StoreTargetCheckpointState.{store_target_checkpoint_state, state_at}
 use Rattle.spec_fork_choice.specs.UpdateLatestMessages.{update_latest_messages}
 use Rattle.store_parts.specs.inside.Trees.{IsTree}
-use Rattle.store_parts.specs.inside.Stores.{IsStore}
 use Rattle.store_parts.specs.inside.Messages.{AllBelow}
 use Rattle.store_parts.specs.inside.Arrays.{Balances, number_of, messages_at, IsArrayOf}
 use Rattle.store_parts.specs.inside.ArrayVotes.{updated_array}
 use Rattle.store_parts.specs.inside.Wholes.{IsReady, IsWhole}
-use Rattle.store_parts.proofs.Following.{number_fits, kept_number}
+use Rattle.store_parts.proofs.Following.{number_fits}
 use Rattle.store_parts.proofs.Messages.{messages_voted}
 use Rattle.store_parts.proofs.ArraysNodes.{root_of_number}
 use Rattle.store_parts.proofs.ArraysSteps.{keeps_spare}
@@ -93,8 +92,3 @@ votes_whole store after a new ready messages whole is array =
 
 pub same_array : (store : Store) (a after : PlainArray) (ready : Option Balances) → IsWhole store a ready → after ≡ a → IsWhole store after ready
 same_array store a after ready whole is = subst (λ (x : PlainArray). IsWhole store x ready) (sym is) whole
-
-pub tree_of : (store : Store) → IsStore store → IsTree store.blocks
-tree_of store sound = sound.tree
-
-pub ruleset voting = (kept_number, voter_fits, voters_fit, same_array, tree_of)

@@ -1,16 +1,17 @@
-use Rattle.std.proofs.Common.{◌≡◌, ◌∙◌, ◌<◌, ◌^◌, List, length, Some, None, arith, rules, sym, ap, subst}
+use Rattle.std.proofs.Common.{◌≡◌, ◌∙◌, ◌<◌, ◌^◌, List, [], ◌∷◌, ◌++◌, length, Some, None, arith, refl, sym, ap, subst}
 use Rattle.block_array.specs.PlainArray.{PlainArray}
 use Rattle.block_array.specs.declared.facts.Facts.{Facts}
 use Rattle.block_array.specs.Calls.{with_node}
-use Rattle.spec_fork_choice.specs.Store.{KeptBlock}
+use Rattle.spec_fork_choice.specs.Store.{KeptBlock, Store}
 use Rattle.beacon_body.specs.declared.signed_block.SignedBeaconBlock.{SignedBeaconBlock}
 use Rattle.store_parts.specs.inside.Accepted.{kept_of}
-use Rattle.store_parts.specs.inside.Arrays.{number_of}
+use Rattle.store_parts.specs.inside.Arrays.{number_of, IsArrayOf}
 use Rattle.store_parts.specs.inside.Keepers.{IsStepOn}
 use Rattle.store_parts.specs.inside.Stores.{IsKept}
 use Rattle.store_parts.specs.inside.Trees.{Follows}
 use Rattle.store_parts.proofs.Trees.{follows}
-use Rattle.store_parts.proofs.Adding.{few_nodes, parent_numbered, parent_fits, node_added, spare_array, block_array, array_same}
+use Rattle.store_parts.proofs.Adding.{few_nodes, parent_earlier, parent_numbered, parent_fits, node_added, spare_array, block_array, array_same}
+use Rattle.state_keeper.proofs.Made.{refused_as_before}
 use Rattle.fork_store.proofs.accept_block.add_block.Goals as goal
 
 pub unreachable-requires : goal.unreachable-requires
@@ -35,7 +36,7 @@ returns-clause-array c =
     block_array c.args.store.now c.keep.new.self c.args.array.now c.reserve.new.self c.push-room.new.self c.args.root c.args.block.now.message c.args.state c.in-Some.parent
     c.requires.array c.in_ok-reserve.ensures c.requires.named
     (subst (λ (blocks : List KeptBlock). Some c.in-Some.parent ≡ number_of blocks c.args.block.now.message.parent_root) c.blocks-2.ensures c.in-Some.ensures)
-    (search rules)
+    (subst (λ (b : SignedBeaconBlock). c.keep.new.self ≡ record c.args.store.now { blocks = c.args.store.now.blocks ++ kept_of c.args.root b.message c.args.state ∷ [] }) c.in_ok-copy.ensures c.in_ok-keep.ensures.kept)
     (subst (λ (f : Facts). c.push-room.new.self ≡ with_node c.reserve.new.self c.in-Some.parent c.args.block.now.message.slot c.args.root f) c.facts_of-facts.ensures
     (node_added c.push-room.result c.args.array.now c.reserve.new.self c.push-room.new.self
     (with_node c.reserve.new.self c.in-Some.parent c.args.block.now.message.slot c.args.root c.facts_of-facts.result)
@@ -74,3 +75,36 @@ number_of-requires c = subst (λ (blocks : List KeptBlock). length blocks < 2 ^ 
 
 pub push-room-requires-clause-few : goal.push-room-requires-clause-few
 push-room-requires-clause-few c = few_nodes c.args.store.now c.args.array.now c.reserve.new.self c.requires.array c.in_ok-reserve.ensures c.requires.few
+
+pub push-room-requires-clause-later : goal.push-room-requires-clause-later
+push-room-requires-clause-later c =
+    parent_earlier c.args.store.now c.args.array.now c.reserve.new.self c.args.block.now.message c.in-Some.parent c.requires.array c.in_ok-reserve.ensures
+    (subst (λ (blocks : List KeptBlock). Some c.in-Some.parent ≡ number_of blocks c.args.block.now.message.parent_root) c.blocks-2.ensures c.in-Some.ensures)
+    c.is_sound.ensures.store.tree c.requires.parent
+
+pub returns-in_err-reserve-clause-array : goal.returns-in_err-reserve-clause-array
+returns-in_err-reserve-clause-array c = subst (IsArrayOf c.args.store.now) (sym c.in_err-reserve.ensures) c.requires.array
+
+pub returns-in_err-reserve-clause-unset : goal.returns-in_err-reserve-clause-unset
+returns-in_err-reserve-clause-unset c = ap (λ (a : PlainArray). a.balances_set) c.in_err-reserve.ensures
+
+pub returns-in_err-keep-clause-stays : goal.returns-in_err-keep-clause-stays
+returns-in_err-keep-clause-stays c = ap (λ (s : Store). s.justified_checkpoint) c.in_err-keep.ensures.kept
+
+pub returns-clause-exact : goal.returns-clause-exact
+returns-clause-exact c = subst (λ (b : SignedBeaconBlock). c.keep.new.self ≡ record c.args.store.now { blocks = c.args.store.now.blocks ++ kept_of c.args.root b.message c.args.state ∷ [] }) c.in_ok-copy.ensures c.in_ok-keep.ensures.kept
+
+pub returns-clause-stays : goal.returns-clause-stays
+returns-clause-stays c = ap (λ (s : Store). s.justified_checkpoint) c.in_ok-keep.ensures.kept
+
+pub returns-in_err-reserve-clause-exact : goal.returns-in_err-reserve-clause-exact
+returns-in_err-reserve-clause-exact c = refused_as_before c.from_residual.result _ _ _ c.from_residual.ensures.0 refl
+
+pub returns-in_err-copy-clause-exact : goal.returns-in_err-copy-clause-exact
+returns-in_err-copy-clause-exact c = refused_as_before c.from_residual-in_err-copy.result _ _ _ c.from_residual-in_err-copy.ensures.0 refl
+
+pub returns-in_err-keep-clause-exact : goal.returns-in_err-keep-clause-exact
+returns-in_err-keep-clause-exact c = refused_as_before c.from_residual-in_err-keep.result _ _ _ c.from_residual-in_err-keep.ensures.0 c.in_err-keep.ensures.kept
+
+pub returns-clause-keeper : goal.returns-clause-keeper
+returns-clause-keeper c = c.keep.ensures.keeper

@@ -1,6 +1,7 @@
 use Rattle.std.proofs.Common.{◌≡◌, ◌∙◌, true, ap, rules, subst, sym}
 use Rattle.spec_fork_choice.specs.Store.{Store, is_kept}
 use Rattle.spec_fork_choice.specs.UpdateLatestMessages.{update_latest_messages}
+use Rattle.fork_store.specs.inside.Seen.{Seen}
 use Rattle.store_parts.specs.inside.Keepers.{IsKeeperOf}
 use Rattle.store_parts.specs.inside.Wholes.{IsWhole}
 use Rattle.store_parts.proofs.Keepers.{keeper_same, keeper_stays}
@@ -36,3 +37,28 @@ invariant_of-self-2 c = (
       (keeper_same c.self.inside.fields c.self.inside.keeper c.judge.new.keeper c.self.invariant.1 c.in_ok-indices.ensures.keeper))
       c.in_ok-update_latest_messages.ensures.config c.in_ok-update_latest_messages.ensures.blocks,
 )
+
+pub invariant_of-self : goal.invariant_of-self
+invariant_of-self c = (
+  subst (λ (s : Store). IsWhole s c.self.inside.array c.self.inside.ready) (sym c.in_err-indices.ensures.same) c.self.invariant.0,
+  subst (λ (s : Store). IsKeeperOf s c.judge.new.keeper) (sym c.in_err-indices.ensures.same)
+      (keeper_same c.self.inside.fields c.self.inside.keeper c.judge.new.keeper c.self.invariant.1 c.in_err-indices.ensures.keeper),
+)
+
+pub invariant_of-self-in_err-update_latest_messages : goal.invariant_of-self-in_err-update_latest_messages
+invariant_of-self-in_err-update_latest_messages c = (
+  c.in_err-update_latest_messages.ensures.whole,
+  keeper_stays c.judge.new.store c.update_latest_messages.new.store c.judge.new.keeper
+      (subst (λ (s : Store). IsKeeperOf s c.judge.new.keeper) (sym c.in_ok-indices.ensures.same)
+      (keeper_same c.self.inside.fields c.self.inside.keeper c.judge.new.keeper c.self.invariant.1 c.in_ok-indices.ensures.keeper))
+      c.in_err-update_latest_messages.ensures.config c.in_err-update_latest_messages.ensures.blocks,
+)
+
+pub returns-in_err-indices-clause-unset : goal.returns-in_err-indices-clause-unset
+returns-in_err-indices-clause-unset c = ap (λ (s : Seen). s.array.balances_set) c.self.view_is
+
+pub returns-in_err-update_latest_messages-clause-unset : goal.returns-in_err-update_latest_messages-clause-unset
+returns-in_err-update_latest_messages-clause-unset c = c.in_err-update_latest_messages.ensures.unset ∙ ap (λ (s : Seen). s.array.balances_set) c.self.view_is
+
+pub returns-clause-unset : goal.returns-clause-unset
+returns-clause-unset c = c.in_ok-update_latest_messages.ensures.unset ∙ ap (λ (s : Seen). s.array.balances_set) c.self.view_is

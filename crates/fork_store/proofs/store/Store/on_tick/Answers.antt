@@ -1,29 +1,22 @@
+use Rattle.std.proofs.Common.{◌≡◌, subst}
+use Rattle.bc_words.specs.Outcome.{ChangesOrRefuses}
+use Rattle.spec_fork_choice.specs.OnTick.{on_tick}
+use Rattle.fork_store.specs.inside.Seen.{Seen}
 use Rattle.store_parts.proofs.Keepers.{keeper_stays}
-use Rattle.store_parts.proofs.Ticks.{tick_array, tick_best, tick_kept, tick_moved, tick_ready, tick_whole}
-use Rattle.store_parts.proofs.Walks.{whole_nodes}
 use Rattle.fork_store.proofs.store.Store.on_tick.Goals as goal
 
-pub follow_tick-requires-clause-array : goal.follow_tick-requires-clause-array
-follow_tick-requires-clause-array c = rw c.told_of-before.ensures (tick_array c.self.inside.fields c.tick.new.store c.args.time c.self.inside.array c.self.inside.ready c.self.invariant.0 c.in_ok-tick.ensures.exact)
+pub tick_whole-requires : goal.tick_whole-requires
+tick_whole-requires c = c.self.invariant.0
 
-pub follow_tick-requires-clause-kept : goal.follow_tick-requires-clause-kept
-follow_tick-requires-clause-kept c = tick_kept c.self.inside.fields c.tick.new.store c.args.time c.self.inside.array c.self.inside.ready c.self.invariant.0 c.in_ok-tick.ensures.exact
-
-pub tick-requires : goal.tick-requires
-tick-requires c = whole_nodes c.self.inside.fields c.self.inside.array c.self.inside.ready c.self.invariant.0
-
-pub follow_tick-requires-clause-ready : goal.follow_tick-requires-clause-ready
-follow_tick-requires-clause-ready c = rw c.told_of-before.ensures (tick_ready c.self.inside.fields c.tick.new.store c.args.time c.self.inside.array c.self.inside.ready c.self.invariant.0 c.in_ok-tick.ensures.exact)
-
-pub follow_tick-requires-clause-best : goal.follow_tick-requires-clause-best
-follow_tick-requires-clause-best c = rw c.told_of-before.ensures (tick_best c.self.inside.fields c.tick.new.store c.args.time c.self.inside.array c.self.inside.ready c.self.invariant.0 c.in_ok-tick.ensures.exact)
-
-pub follow_tick-requires-clause-moved : goal.follow_tick-requires-clause-moved
-follow_tick-requires-clause-moved c = rw c.told_of-before.ensures (tick_moved c.self.inside.fields c.tick.new.store c.args.time c.self.inside.array c.self.inside.ready c.self.invariant.0 c.in_ok-tick.ensures.exact)
-
-pub invariant_of-self-2 : goal.invariant_of-self-2
-invariant_of-self-2 c = (
-  tick_whole c.self.inside.fields c.tick.new.store c.args.time c.self.inside.array c.self.inside.ready c.self.invariant.0 c.in_ok-tick.ensures.exact
-      c.follow_tick.new.array c.follow_tick.new.ready c.follow_tick.ensures.array c.follow_tick.ensures.ready,
-  keeper_stays c.self.inside.fields c.tick.new.store c.self.inside.keeper c.self.invariant.1 c.in_ok-tick.ensures.config c.in_ok-tick.ensures.blocks,
+pub invariant_of-self : goal.invariant_of-self
+invariant_of-self c = (
+  c.tick_whole.ensures.whole,
+  keeper_stays c.self.inside.fields c.tick_whole.new.store c.self.inside.keeper c.self.invariant.1 c.tick_whole.ensures.config c.tick_whole.ensures.blocks,
 )
+
+pub returns-clause-exact : goal.returns-clause-exact
+returns-clause-exact c = subst (λ (s : Seen). ChangesOrRefuses c.tick_whole.result s.plain c.tick_whole.new.store (on_tick s.plain c.args.time)) c.self.view_is c.tick_whole.ensures.exact
+
+pub returns-clause-unset : goal.returns-clause-unset
+returns-clause-unset c =
+    subst (λ (s : Seen). c.tick_whole.new.store.justified_checkpoint ≡ s.plain.justified_checkpoint → c.tick_whole.new.array.balances_set ≡ s.array.balances_set) c.self.view_is c.tick_whole.ensures.unset
