@@ -1,11 +1,12 @@
 //! All rewards and penalties of an epoch (beacon-chain.md, "get_attestation_deltas").
 
 ghost use Rattle.std.specs.Prelude.{◌≡◌};
-ghost use Rattle.bc_words.specs.Outcome.{Gives, GivesBy, GivesExactly};
+ghost use Rattle.bc_words.specs.Outcome.{Gives, GivesBy, GivesExactly, bind};
 ghost use Rattle.spec_state.specs.Accessors.{get_previous_epoch, epoch_committees};
 ghost use Rattle.spec_state.specs.Soundness.{IsSoundWithinEpoch};
 ghost use Rattle.spec_epochs.specs.Each.{validator_indices, checked_map};
-ghost use Rattle.epoch_rewards.specs.inside.Added.{added};
+ghost use Rattle.spec_epochs.specs.GetInactivityPenaltyDeltas.{get_inactivity_penalty_deltas};
+ghost use Rattle.epoch_rewards.specs.inside.Added.{added, added_to};
 ghost use Rattle.spec_epochs.specs.GetAttestationDeltas.{sum_at, get_attestation_deltas};
 
 use crate::get_head_deltas::head_deltas;
@@ -89,9 +90,45 @@ fn added(
     })
 }
 
+/// The five parts added up, where all but the penalties of the leak are known.
+fn added_with_leak(
+    alloc: Global,
+    state: &State,
+    previous: &EpochCommittees,
+    source: &Deltas,
+    target: &Deltas,
+    head: &Deltas,
+    inclusion: &Deltas,
+) -> Result<Deltas, Stop>
+    requires sound { IsSoundWithinEpoch state.now }
+    requires committees { previous.now ≡ epoch_committees state.now (get_previous_epoch state.now) }
+    ensures { Gives result (bind (get_inactivity_penalty_deltas state.now) (λ inactivity. added state.now source.now target.now head.now inclusion.now inactivity)) }
+{
+    let inactivity = inactivity_deltas(alloc, state, previous)?;
+    added(alloc, state, source, target, head, inclusion, &inactivity)
+}
+
+/// The five parts added up, where those of source and target are known.
+#[tactic(auto, unfolding(crate::specs::inside::Added::added_to))]
+fn added_to(
+    alloc: Global,
+    state: &State,
+    previous: &EpochCommittees,
+    source: &Deltas,
+    target: &Deltas,
+) -> Result<Deltas, Stop>
+    requires sound { IsSoundWithinEpoch state.now }
+    requires committees { previous.now ≡ epoch_committees state.now (get_previous_epoch state.now) }
+    ensures { Gives result (added_to state.now source.now target.now) }
+{
+    let head = head_deltas(alloc, state, previous)?;
+    let inclusion = inclusion_deltas(alloc, state, previous)?;
+    added_with_leak(alloc, state, previous, source, target, &head, &inclusion)
+}
+
 /// What each validator gains and loses by the previous epoch's attestations (beacon-chain.md, `get_attestation_deltas`). The
 /// committees are those of the previous epoch. Refused as an overflow exactly where a sum or product does not fit.
-#[tactic(auto, unfolding(spec_epochs::specs::GetAttestationDeltas::get_attestation_deltas, crate::specs::inside::Added::added))]
+#[tactic(auto, unfolding(spec_epochs::specs::GetAttestationDeltas::get_attestation_deltas, crate::specs::inside::Added::added_to, crate::specs::inside::Added::added))]
 pub fn attestation_deltas(
     alloc: Global,
     state: &State,
@@ -103,16 +140,5 @@ pub fn attestation_deltas(
 {
     let source = source_deltas(alloc, state, previous)?;
     let target = target_deltas(alloc, state, previous)?;
-    let head = head_deltas(alloc, state, previous)?;
-    let inclusion = inclusion_deltas(alloc, state, previous)?;
-    let inactivity = inactivity_deltas(alloc, state, previous)?;
-    added(
-        alloc,
-        state,
-        &source,
-        &target,
-        &head,
-        &inclusion,
-        &inactivity,
-    )
+    added_to(alloc, state, previous, &source, &target)
 }
