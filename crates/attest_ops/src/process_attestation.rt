@@ -1,7 +1,7 @@
 //! The vote of a committee (beacon-chain.md, "Attestations").
 
 ghost use Rattle.std.specs.Prelude.{◌≡◌, length, OnOk};
-ghost use Rattle.bc_words.specs.Outcome.{Changes, GivesExactly};
+ghost use Rattle.bc_words.specs.Outcome.{Changes, GivesExactly, done};
 ghost use Rattle.spec_state.specs.Misc.{compute_epoch_at_slot};
 ghost use Rattle.spec_state.specs.Accessors.{get_current_epoch, get_previous_epoch, get_active_validator_indices, epoch_committees};
 ghost use Rattle.spec_blocks.specs.ProcessAttestation.{check_times, check_committee, process_attestation};
@@ -103,6 +103,25 @@ fn attested_in(
     }
 }
 
+/// Puts the vote of a committee into the list of its epoch, where it comes in time and it is known whether somebody attested, or
+/// why that is refused. After a stop the state is as before.
+#[tactic(auto, unfolding(spec_blocks::specs::ProcessAttestation::process_attestation, crate::specs::inside::Pending::with_attested, crate::specs::inside::Attested::is_attested))]
+fn take_vote(
+    state: &mut State,
+    attestation: &Attestation,
+    proposer: u64,
+    attested: Result<bool, Stop>,
+) -> Result<(), Stop>
+    requires times { check_times state.old attestation.now.content ≡ done tt }
+    requires attested { Attests attested (check_committee state.old attestation.now.content attestation.now.aggregation_bits) (is_attested state.old attestation.now) }
+    ensures { Changes result state.old state.new (process_attestation state.old attestation.now proposer) }
+{
+    let has_one = attested?;
+    let delay = checked_sub(state.slot(), attestation.content.slot)?;
+    let pending = pending_of(attestation, delay, proposer)?;
+    push_attested(state, pending, has_one)
+}
+
 /// Puts the vote of a committee into the list of its epoch, where it waits for the end of the epoch (beacon-chain.md,
 /// `process_attestation`). `proposer` is the block's proposer; `previous` and `current` are the committees of the state's
 /// previous and current epoch. The signature isn't checked.
@@ -110,7 +129,7 @@ fn attested_in(
 /// Refused, in this order: `AtTargetEpoch`, `AtSlotEpoch`, `AtEarly`, `AtLate`, `AtIndex`, `AtBits`, `AtSource`, `ListFull`,
 /// `AtEmpty`, and `Overflow` where a sum on the way doesn't fit. After a stop the state is as before: all checks come before
 /// the one write.
-#[tactic(auto, unfolding(spec_blocks::specs::ProcessAttestation::process_attestation, crate::specs::inside::Pending::with_attested, crate::specs::inside::Attested::is_attested))]
+#[tactic(auto, unfolding(spec_blocks::specs::ProcessAttestation::process_attestation))]
 pub fn process_attestation(
     state: &mut State,
     attestation: &Attestation,
@@ -123,15 +142,13 @@ pub fn process_attestation(
     ensures { Changes result state.old state.new (process_attestation state.old attestation.now proposer) }
 {
     check_times(state, &attestation.content)?;
-    let attested = attested_in(state, attestation, previous, current)?;
-    let delay = checked_sub(state.slot(), attestation.content.slot)?;
-    let pending = pending_of(attestation, delay, proposer)?;
-    push_attested(state, pending, attested)
+    let attested = attested_in(state, attestation, previous, current);
+    take_vote(state, attestation, proposer, attested)
 }
 
 /// The same, where `previous` and `current` are how many validators are active in the state's previous and current epoch. The
 /// members of a committee aren't needed, since the signature isn't checked: how many there are decides.
-#[tactic(auto, unfolding(spec_blocks::specs::ProcessAttestation::process_attestation, crate::specs::inside::Pending::with_attested, crate::specs::inside::Attested::is_attested))]
+#[tactic(auto, unfolding(spec_blocks::specs::ProcessAttestation::process_attestation))]
 pub fn process_counted_attestation(
     state: &mut State,
     attestation: &Attestation,
@@ -143,10 +160,7 @@ pub fn process_counted_attestation(
     requires current { current ≡ length (get_active_validator_indices state.old (get_current_epoch state.old)) }
     ensures { Changes result state.old state.new (process_attestation state.old attestation.now proposer) }
 {
-    let content = &attestation.content;
-    check_times(state, content)?;
-    let attested = counted_in(state, attestation, previous, current)?;
-    let delay = checked_sub(state.slot(), content.slot)?;
-    let waiting = pending_of(attestation, delay, proposer)?;
-    push_attested(state, waiting, attested)
+    check_times(state, &attestation.content)?;
+    let attested = counted_in(state, attestation, previous, current);
+    take_vote(state, attestation, proposer, attested)
 }

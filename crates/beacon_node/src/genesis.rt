@@ -15,7 +15,7 @@ use std::alloc::Global;
 pub const MAX_GENESIS_LEN: usize = 1 << 30;
 
 /// Why there is no genesis.
-#[derive(Debug, Drop)]
+#[derive(Drop)]
 pub enum GenesisStop {
     /// The state has a fault, and this is the first.
     Fault(GenesisFault),

@@ -161,6 +161,14 @@ fn push_kind(line: &mut Vec<u8>, kind: u8) -> Result<(), AllocError>
     }
 }
 
+/// Appends the number of an event and the word of its kind.
+fn push_event(line: &mut Vec<u8>, alloc: Global, event: u64, kind: u8) -> Result<(), AllocError>
+    ensures { OnOk result (line.new.items ≡ line.old.items ++ (decimal event ++ kind_text kind)) }
+{
+    push_number(line, alloc, event)?;
+    push_kind(line, kind)
+}
+
 /// The line of an accepted event: its number, its kind, what it gave, and the store after it.
 #[tactic(auto, unfolding(spec_replay::specs::Lines::event_line))]
 pub fn accepted_line(
@@ -174,8 +182,7 @@ pub fn accepted_line(
     ensures same { store.new.plain ≡ store.old.plain }
 {
     let mut line = Vec::new(alloc);
-    push_number(&mut line, alloc, event)?;
-    push_kind(&mut line, kind)?;
+    push_event(&mut line, alloc, event, kind)?;
     push_accepted(&mut line, alloc, given)?;
     push_store(&mut line, alloc, store)?;
     line.push(b'\n')?;
@@ -195,8 +202,7 @@ pub fn refused_line(
     ensures same { store.new.plain ≡ store.old.plain }
 {
     let mut line = Vec::new(alloc);
-    push_number(&mut line, alloc, event)?;
-    push_kind(&mut line, kind)?;
+    push_event(&mut line, alloc, event, kind)?;
     push_refusal(&mut line, alloc, refusal)?;
     push_store(&mut line, alloc, store)?;
     line.push(b'\n')?;

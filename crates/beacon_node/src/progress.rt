@@ -20,7 +20,7 @@ const RECORD: u32 = 2;
 const PAUSE: u64 = 200;
 
 /// Whether a run shows its progress.
-#[derive(Clone, Copy, Debug, PartialEq, Eq)]
+#[derive(Clone, Copy)]
 pub enum Progress {
     /// On standard error.
     Shown,
@@ -74,19 +74,21 @@ impl<'a, R: Eprint + Clock> Watch<'a, R> {
         self.is_dirty.set(true);
     }
 
-    /// Whether the progress is shown and was not shown for long enough. It counts as shown from now on.
-    fn is_due(&self) -> bool {
-        if self.progress == Progress::Hidden {
-            return false;
-        }
-        let Ok(now) = self.rt.monotonic() else {
-            return false;
-        };
-        let is_due = now.saturating_sub(self.shown.get()) >= Duration::from_millis(PAUSE);
-        if is_due {
+    /// Whether what was shown is out of date by now, and counts as shown from now on.
+    fn is_late(&self, now: Duration) -> bool {
+        let is_late = now.saturating_sub(self.shown.get()) >= Duration::from_millis(PAUSE);
+        if is_late {
             self.shown.set(now);
         }
-        is_due
+        is_late
+    }
+
+    /// Whether the progress is shown and was not shown for long enough. It counts as shown from now on.
+    fn is_due(&self) -> bool {
+        match self.progress {
+            Progress::Shown => self.is_late(self.rt.monotonic().unwrap_or(Duration::ZERO)),
+            Progress::Hidden => false,
+        }
     }
 
     /// Counts bytes that were read of the record.

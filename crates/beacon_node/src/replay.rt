@@ -65,11 +65,10 @@ fn replay_from<F: Shelf, O: Sink>(
     ensures shelf { ShelfKeeps (record_name.now ∷ []) (F.told shelf.old) (F.told shelf.new) }
     ensures sink { SinkKeeps (O.told out.old) (O.told out.new) }
 {
-    let mut store = match Store::new(alloc, config, genesis) {
-        Ok(store) => store,
-        Err(stop) => return no_store(stop),
-    };
-    replay_record(alloc, &mut store, record_name, shelf, out)
+    match Store::new(alloc, config, genesis) {
+        Ok(mut store) => replay_record(alloc, &mut store, record_name, shelf, out),
+        Err(stop) => no_store(stop),
+    }
 }
 
 /// Reads the genesis state and then the record, under this configuration.

@@ -9,7 +9,7 @@ use record_file::RecordFault;
 use spec_state::GenesisFault;
 
 /// How a run ended.
-#[derive(Debug, Drop)]
+#[derive(Drop)]
 pub enum Status {
     /// The record was read to its end.
     Done,

@@ -1,11 +1,12 @@
 //! All rewards and penalties of an epoch (beacon-chain.md, "get_attestation_deltas").
 
-ghost use Rattle.std.specs.Prelude.{◌≡◌, slice_index};
-ghost use Rattle.bc_words.specs.Outcome.{Gives, GivesBy, GivesExactly};
+ghost use Rattle.std.specs.Prelude.{◌≡◌};
+ghost use Rattle.bc_words.specs.Outcome.{Gives, GivesBy, GivesExactly, bind};
 ghost use Rattle.spec_state.specs.Accessors.{get_previous_epoch, epoch_committees};
 ghost use Rattle.spec_state.specs.Soundness.{IsSoundWithinEpoch};
 ghost use Rattle.spec_epochs.specs.Each.{validator_indices, checked_map};
-ghost use Rattle.epoch_rewards.specs.inside.Added.{added};
+ghost use Rattle.spec_epochs.specs.GetInactivityPenaltyDeltas.{get_inactivity_penalty_deltas};
+ghost use Rattle.epoch_rewards.specs.inside.Added.{added, added_to};
 ghost use Rattle.spec_epochs.specs.GetAttestationDeltas.{sum_at, get_attestation_deltas};
 
 use crate::get_head_deltas::head_deltas;
@@ -13,34 +14,26 @@ use crate::get_inactivity_penalty_deltas::inactivity_deltas;
 use crate::get_inclusion_delay_deltas::inclusion_deltas;
 use crate::get_source_deltas::source_deltas;
 use crate::get_target_deltas::target_deltas;
-use bc_words::{Stop, checked_add};
+use crate::numbers::number_at;
+use crate::paid::sum_of_four;
+use bc_words::Stop;
 use beacon_state::State;
 use committees::EpochCommittees;
 use spec_epochs::Deltas;
 use ssz_codec::Items;
 use std::alloc::Global;
 
-/// A number of a list, or 0 past its end.
-fn item(items: &Items<u64>, index: u64) -> u64
-    ensures { result ≡ slice_index items.now index }
-{
-    items.as_slice().get(index as usize).copied().unwrap_or(0)
-}
-
 /// The sum of what stands at a place of four lists.
-#[tactic(auto, unfolding(spec_epochs::specs::GetAttestationDeltas::sum_at))]
-fn sum_at(
-    a: &Items<u64>,
-    b: &Items<u64>,
-    c: &Items<u64>,
-    d: &Items<u64>,
-    index: u64,
-) -> Result<u64, Stop>
+#[tactic(auto, unfolding(spec_epochs::specs::GetAttestationDeltas::sum_at, crate::specs::inside::Paid::sum_of_four))]
+fn sum_at(a: &[u64], b: &[u64], c: &[u64], d: &[u64], index: u64) -> Result<u64, Stop>
     ensures { GivesExactly result (sum_at a.now b.now c.now d.now index) }
 {
-    let two = checked_add(item(a, index), item(b, index))?;
-    let three = checked_add(two, item(c, index))?;
-    checked_add(three, item(d, index))
+    sum_of_four(
+        number_at(a, index),
+        number_at(b, index),
+        number_at(c, index),
+        number_at(d, index),
+    )
 }
 
 /// The sums of what stands at each validator's place of four lists.
@@ -48,10 +41,10 @@ fn sum_at(
 fn sums(
     alloc: Global,
     state: &State,
-    a: &Items<u64>,
-    b: &Items<u64>,
-    c: &Items<u64>,
-    d: &Items<u64>,
+    a: &[u64],
+    b: &[u64],
+    c: &[u64],
+    d: &[u64],
 ) -> Result<Vec<u64>, Stop>
     ensures { GivesBy (λ sums. sums.items) result (checked_map (sum_at a.now b.now c.now d.now) (validator_indices state.now)) }
 {
@@ -78,18 +71,18 @@ fn added(
     let rewards = sums(
         alloc,
         state,
-        &source.rewards,
-        &target.rewards,
-        &head.rewards,
-        &inclusion.rewards,
+        source.rewards.as_slice(),
+        target.rewards.as_slice(),
+        head.rewards.as_slice(),
+        inclusion.rewards.as_slice(),
     )?;
     let penalties = sums(
         alloc,
         state,
-        &source.penalties,
-        &target.penalties,
-        &head.penalties,
-        &inactivity.penalties,
+        source.penalties.as_slice(),
+        target.penalties.as_slice(),
+        head.penalties.as_slice(),
+        inactivity.penalties.as_slice(),
     )?;
     Ok(Deltas {
         rewards: Items::from_vec(rewards),
@@ -97,9 +90,45 @@ fn added(
     })
 }
 
+/// The five parts added up, where all but the penalties of the leak are known.
+fn added_with_leak(
+    alloc: Global,
+    state: &State,
+    previous: &EpochCommittees,
+    source: &Deltas,
+    target: &Deltas,
+    head: &Deltas,
+    inclusion: &Deltas,
+) -> Result<Deltas, Stop>
+    requires sound { IsSoundWithinEpoch state.now }
+    requires committees { previous.now ≡ epoch_committees state.now (get_previous_epoch state.now) }
+    ensures { Gives result (bind (get_inactivity_penalty_deltas state.now) (λ inactivity. added state.now source.now target.now head.now inclusion.now inactivity)) }
+{
+    let inactivity = inactivity_deltas(alloc, state, previous)?;
+    added(alloc, state, source, target, head, inclusion, &inactivity)
+}
+
+/// The five parts added up, where those of source and target are known.
+#[tactic(auto, unfolding(crate::specs::inside::Added::added_to))]
+fn added_to(
+    alloc: Global,
+    state: &State,
+    previous: &EpochCommittees,
+    source: &Deltas,
+    target: &Deltas,
+) -> Result<Deltas, Stop>
+    requires sound { IsSoundWithinEpoch state.now }
+    requires committees { previous.now ≡ epoch_committees state.now (get_previous_epoch state.now) }
+    ensures { Gives result (added_to state.now source.now target.now) }
+{
+    let head = head_deltas(alloc, state, previous)?;
+    let inclusion = inclusion_deltas(alloc, state, previous)?;
+    added_with_leak(alloc, state, previous, source, target, &head, &inclusion)
+}
+
 /// What each validator gains and loses by the previous epoch's attestations (beacon-chain.md, `get_attestation_deltas`). The
 /// committees are those of the previous epoch. Refused as an overflow exactly where a sum or product does not fit.
-#[tactic(auto, unfolding(spec_epochs::specs::GetAttestationDeltas::get_attestation_deltas, crate::specs::inside::Added::added))]
+#[tactic(auto, unfolding(spec_epochs::specs::GetAttestationDeltas::get_attestation_deltas, crate::specs::inside::Added::added_to, crate::specs::inside::Added::added))]
 pub fn attestation_deltas(
     alloc: Global,
     state: &State,
@@ -111,16 +140,5 @@ pub fn attestation_deltas(
 {
     let source = source_deltas(alloc, state, previous)?;
     let target = target_deltas(alloc, state, previous)?;
-    let head = head_deltas(alloc, state, previous)?;
-    let inclusion = inclusion_deltas(alloc, state, previous)?;
-    let inactivity = inactivity_deltas(alloc, state, previous)?;
-    added(
-        alloc,
-        state,
-        &source,
-        &target,
-        &head,
-        &inclusion,
-        &inactivity,
-    )
+    added_to(alloc, state, previous, &source, &target)
 }

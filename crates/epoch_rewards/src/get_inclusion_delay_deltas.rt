@@ -15,8 +15,8 @@ ghost use Rattle.epoch_rewards.specs.inside.Inclusions.{joined_reward, joined_re
 use crate::attested::{previous_attesters, previous_inclusions};
 use crate::eligible::{counted, is_attester};
 use crate::get_base_reward::{base_reward, divisor, proposer_reward};
+use crate::numbers::{number_at, zeros};
 use crate::stakes::{Stake, stakes};
-use crate::zeros::zeros;
 use bc_words::{Stop, checked_add, checked_sub};
 use beacon_state::State;
 use committees::EpochCommittees;
@@ -24,13 +24,6 @@ use participation::{Inclusion, Vote, inclusion_at};
 use spec_epochs::Deltas;
 use ssz_codec::Items;
 use std::alloc::Global;
-
-/// A number of a list, or 0 past its end.
-fn number_at(numbers: &[u64], index: u64) -> u64
-    ensures { result ≡ slice_index numbers.now index }
-{
-    numbers.get(index as usize).copied().unwrap_or(0)
-}
 
 /// Adds to the gains of a validator.
 fn add_gain(gains: &mut Vec<u64>, index: u64, reward: u64) -> Result<(), Stop>

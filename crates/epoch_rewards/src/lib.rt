@@ -18,11 +18,11 @@ mod get_inclusion_delay_deltas;
 mod get_source_deltas;
 mod get_target_deltas;
 mod leak;
+mod numbers;
 mod paid;
 mod process_rewards_and_penalties;
 mod stakes;
 mod vote_deltas;
-mod zeros;
 
 pub use get_attestation_deltas::attestation_deltas;
 pub use get_head_deltas::head_deltas;

@@ -41,7 +41,7 @@ pub(crate) struct Voters<'a> {
 
 /// The sum of four numbers.
 #[tactic(auto, unfolding(crate::specs::inside::Paid::sum_of_four))]
-fn sum_of_four(a: u64, b: u64, c: u64, d: u64) -> Result<u64, Stop>
+pub(crate) fn sum_of_four(a: u64, b: u64, c: u64, d: u64) -> Result<u64, Stop>
     ensures { GivesExactly result (sum_of_four a b c d) }
 {
     let two = checked_add(a, b)?;

@@ -1,13 +1,17 @@
 //! Rewards and penalties of a state (beacon-chain.md, "process_rewards_and_penalties").
 
 ghost use Rattle.std.specs.Prelude.{◌≡◌, ◌≤◌, length, IfOk, List, Bool};
-ghost use Rattle.bc_words.specs.Outcome.{Changes, GivesBy, bind, done};
+ghost use Rattle.bc_words.specs.Outcome.{Changes, GivesBy, GivesExactly, bind, done};
 ghost use Rattle.spec_state.specs.Accessors.{get_previous_epoch, epoch_committees};
 ghost use Rattle.spec_state.specs.Soundness.{IsSoundWithinEpoch};
 ghost use Rattle.spec_epochs.specs.ProcessRewardsAndPenalties.{process_rewards_and_penalties};
-ghost use Rattle.participation.specs.inside.Marks.{flagged};
+ghost use Rattle.spec_epochs.specs.Helpers.{get_matching_source_attestations, get_matching_target_attestations, get_matching_head_attestations};
+ghost use Rattle.participation.specs.inside.Marks.{attester_flags, flagged};
+ghost use Rattle.epoch_rewards.specs.inside.Components.{AreWeights};
+ghost use Rattle.epoch_rewards.specs.inside.Divisor.{divisor_of};
+ghost use Rattle.epoch_rewards.specs.inside.Inclusions.{all_gains};
 ghost use Rattle.epoch_rewards.specs.inside.Stakes.{stakes_of};
-ghost use Rattle.epoch_rewards.specs.inside.Paid.{all_paid, all_rewarded};
+ghost use Rattle.epoch_rewards.specs.inside.Paid.{all_paid, all_rewarded, paid_balances};
 
 use crate::attested::{previous_attesters, previous_inclusions};
 use crate::get_attestation_component_deltas::{needed_balance, weights_of};
@@ -21,6 +25,34 @@ use beacon_state::State;
 use committees::EpochCommittees;
 use participation::{Inclusion, Vote};
 use std::alloc::Global;
+
+/// The balances of all validators after their rewards and penalties, in Gwei, by those who had each vote right and by their
+/// inclusions. The stakes are the state's.
+fn paid_by_voters(
+    alloc: Global,
+    state: &State,
+    stakes: &[Stake],
+    sources: &Voters<'_>,
+    targets: &Voters<'_>,
+    heads: &Voters<'_>,
+    entries: &[Option<Inclusion>],
+    divisor: Result<u64, Stop>,
+) -> Result<Vec<u64>, Stop>
+    requires stakes { stakes.now ≡ stakes_of state.now }
+    requires source { AreWeights state.now sources.now.weights }
+    requires target { AreWeights state.now targets.now.weights }
+    requires head { AreWeights state.now heads.now.weights }
+    requires divisor { GivesExactly divisor (divisor_of state.now) }
+    ensures exact { let s = sources.now in let t = targets.now in let h = heads.now in let who = λ (flags : List Bool). flagged state.now flags in
+        GivesBy (λ balances. balances.items) result (bind (all_gains state.now entries.now (who s.flags.now))
+        (λ gains. paid_balances state.now (who s.flags.now) (who t.flags.now) (who h.flags.now) s.weights t.weights h.weights entries.now gains)) }
+    ensures few { IfOk result (λ balances. length balances.items ≤ state.now.preset.validator_registry_limit) }
+{
+    let gains = proposer_gains(alloc, state, stakes, divisor, sources.flags, entries)?;
+    paid_balances(
+        alloc, state, stakes, sources, targets, heads, entries, &gains, divisor,
+    )
+}
 
 /// The balances of all validators after their rewards and penalties, in Gwei, by the flags of those who had each vote right
 /// and by their inclusions. The stakes are the state's.
@@ -44,8 +76,6 @@ fn all_paid(
     let source = needed_balance(state, stakes, sources, leak)?;
     let target = needed_balance(state, stakes, targets, leak)?;
     let head = needed_balance(state, stakes, heads, leak)?;
-    let divisor = Ok(isqrt(total));
-    let gains = proposer_gains(alloc, state, stakes, divisor, sources, entries)?;
     let by_source = Voters {
         flags: sources,
         weights: weights_of(state, leak, source, total),
@@ -58,13 +88,37 @@ fn all_paid(
         flags: heads,
         weights: weights_of(state, leak, head, total),
     };
-    paid_balances(
-        alloc, state, stakes, &by_source, &by_target, &by_head, entries, &gains, divisor,
+    let divisor = Ok(isqrt(total));
+    paid_by_voters(
+        alloc, state, stakes, &by_source, &by_target, &by_head, entries, divisor,
     )
 }
 
+/// The balances of all validators after their rewards and penalties, in Gwei, by the flags of those who had each vote right.
+#[tactic(auto, using(crate::proofs::Parts::one_pass))]
+fn rewarded_by_flags(
+    alloc: Global,
+    state: &State,
+    previous: &EpochCommittees,
+    sources: &[bool],
+    targets: &[bool],
+    heads: &[bool],
+) -> Result<Vec<u64>, Stop>
+    requires sound { IsSoundWithinEpoch state.now }
+    requires committees { previous.now ≡ epoch_committees state.now (get_previous_epoch state.now) }
+    requires source { sources.now ≡ attester_flags state.now (get_matching_source_attestations state.now (get_previous_epoch state.now)) }
+    requires target { targets.now ≡ attester_flags state.now (get_matching_target_attestations state.now (get_previous_epoch state.now)) }
+    requires head { heads.now ≡ attester_flags state.now (get_matching_head_attestations state.now (get_previous_epoch state.now)) }
+    ensures exact { GivesBy (λ balances. balances.items) result (all_rewarded state.now) }
+    ensures few { IfOk result (λ balances. length balances.items ≤ state.now.preset.validator_registry_limit) }
+{
+    let entries = previous_inclusions(alloc, state, previous)?;
+    let stakes = stakes(alloc, state)?;
+    all_paid(alloc, state, &stakes, sources, targets, heads, &entries)
+}
+
 /// The balances of all validators after their rewards and penalties, in Gwei.
-#[tactic(auto, unfolding(participation::specs::inside::Votes::matching), using(crate::proofs::Parts::one_pass))]
+#[tactic(auto, unfolding(participation::specs::inside::Votes::matching))]
 fn rewarded_balances(
     alloc: Global,
     state: &State,
@@ -78,9 +132,7 @@ fn rewarded_balances(
     let sources = previous_attesters(alloc, state, previous, Vote::Source)?;
     let targets = previous_attesters(alloc, state, previous, Vote::Target)?;
     let heads = previous_attesters(alloc, state, previous, Vote::Head)?;
-    let entries = previous_inclusions(alloc, state, previous)?;
-    let stakes = stakes(alloc, state)?;
-    all_paid(alloc, state, &stakes, &sources, &targets, &heads, &entries)
+    rewarded_by_flags(alloc, state, previous, &sources, &targets, &heads)
 }
 
 /// Writes the balances of all validators after their rewards and penalties.

@@ -5,7 +5,7 @@ use hash_tree::Root;
 use spec_epochs::Justification;
 
 /// A vote from a justified checkpoint to a later one (the Casper FFG paper, "link").
-#[derive(Clone, Copy, Debug, PartialEq, Eq)]
+#[derive(Clone, Copy)]
 pub struct Link {
     /// Where it begins.
     pub source: Checkpoint,
@@ -14,7 +14,7 @@ pub struct Link {
 }
 
 /// A link, and the validators that voted for it.
-#[derive(Clone, Copy, Debug)]
+#[derive(Clone, Copy)]
 pub struct VotedLink<'a> {
     /// The link.
     pub link: Link,
@@ -23,7 +23,7 @@ pub struct VotedLink<'a> {
 }
 
 /// What the end of an epoch made of justification and finalisation.
-#[derive(Clone, Copy, Debug)]
+#[derive(Clone, Copy)]
 pub struct EpochEnd<'a> {
     /// Bits and checkpoints before.
     pub before: Justification,

@@ -77,21 +77,22 @@ sound_exactly justified s is = (
       let f1 = and_parts _ _ p1.0 in
       let f2 = and_parts _ _ f1.1 in
       let f3 = and_parts _ _ f2.1 in
+      let epochs = and_parts _ _ f3.0 in
       let f4 = and_parts _ _ f3.1 in
-      let f5 = and_parts _ _ f4.1 in
       record {
         balances = eqb-true _ _ f1.0;
         header = leb-true _ _ f2.0;
-        previous_justified = leb-true _ _ f3.0;
-        current_justified = leb-true _ _ f4.0;
-        finalized = leb-true _ _ f5.0;
+        previous_justified = leb-true _ _ epochs.0;
+        current_justified = leb-true _ _ epochs.1;
+        finalized = leb-true _ _ f4.0;
         previous_attestations = all_from_test s _ _ is lists.0;
         current_attestations = all_from_test s _ _ is lists.1;
-        none_before = none_from _ _ f5.1;
+        none_before = none_from _ _ f4.1;
       },
   λ sound.
       and_from _ _
-      (and_from _ _ (eq-eqb _ _ sound.balances) (and_from _ _ (le-leb _ _ sound.header) (and_from _ _ (le-leb _ _ sound.previous_justified)
-      (and_from _ _ (le-leb _ _ sound.current_justified) (and_from _ _ (le-leb _ _ sound.finalized) (from_none _ _ sound.none_before))))))
+      (and_from _ _ (eq-eqb _ _ sound.balances) (and_from _ _ (le-leb _ _ sound.header)
+      (and_from _ _ (and_from _ _ (le-leb _ _ sound.previous_justified) (le-leb _ _ sound.current_justified))
+      (and_from _ _ (le-leb _ _ sound.finalized) (from_none _ _ sound.none_before)))))
       (and_from _ _ (test_from_all s _ _ is sound.previous_attestations) (test_from_all s _ _ is sound.current_attestations)),
 )

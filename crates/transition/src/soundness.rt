@@ -4,12 +4,20 @@ ghost use Rattle.std.specs.Prelude.{◌≡◌, ◌↔◌, ◌&&◌, IsTrue, IfOk
 ghost use Rattle.spec_state.specs.declared.plain.PlainState.{PlainState};
 ghost use Rattle.spec_state.specs.Genesis.{genesis_fault};
 ghost use Rattle.spec_state.specs.Soundness.{IsSound, IsSoundTo, IsSoundWithinEpoch};
-ghost use Rattle.transition.specs.inside.Tests.{figures_test};
+ghost use Rattle.transition.specs.inside.Tests.{figures_test, justified_test};
 
 use crate::pending::{Pending, attestations_are_sound, epoch_of};
 use bc_words::NoMemory;
 use beacon_state::State;
 use std::alloc::Global;
+
+/// Whether the justified epochs are at most `justified`.
+fn is_justified_by(state: &State, justified: u64) -> bool
+    ensures { result ≡ justified_test justified state.now }
+{
+    state.previous_justified_checkpoint().epoch <= justified
+        && state.current_justified_checkpoint().epoch <= justified
+}
 
 /// Whether balances, header and checkpoints are sound, and nothing is pending before the first epoch. The justified epochs
 /// are at most `justified`.
@@ -20,8 +28,7 @@ fn figures_are_sound(state: &State, justified: u64) -> bool
     let current = epoch_of(state, Pending::Current);
     state.balances_len() == state.validators_len()
         && state.latest_block_header().slot <= state.slot()
-        && state.previous_justified_checkpoint().epoch <= justified
-        && state.current_justified_checkpoint().epoch <= justified
+        && is_justified_by(state, justified)
         && state.finalized_checkpoint().epoch <= previous
         && (current != 0 || state.previous_epoch_attestations_len() == 0)
 }

@@ -1,7 +1,8 @@
 //! The step of a state by a block (beacon-chain.md, "Beacon chain state transition function").
 
 ghost use Rattle.std.specs.Prelude.{◌≡◌, ℕ, ◌<◌, ◌^◌, false, IfOk};
-ghost use Rattle.bc_words.specs.Outcome.{Gives, done};
+ghost use Rattle.bc_words.specs.Outcome.{Gives, GivesExactly, done};
+ghost use Rattle.bc_words.specs.declared.refusal.Refusal.TheVariants.{StateRoot};
 ghost use Rattle.bc_preset.specs.Presets.{IsPreset};
 ghost use Rattle.bc_preset.specs.declared.configuration.ConfigValues.{ConfigValues};
 ghost use Rattle.beacon_types.specs.Equality.{same_root};
@@ -9,6 +10,7 @@ ghost use Rattle.spec_state.specs.declared.plain.PlainState.{PlainState};
 ghost use Rattle.spec_state.specs.States.{state_codec};
 ghost use Rattle.spec_state.specs.Genesis.{zero_root};
 ghost use Rattle.spec_state.specs.Soundness.{IsSound};
+ghost use Rattle.spec_blocks.specs.Checks.{check};
 ghost use Rattle.spec_transition.specs.StateTransition.{IsLatest, IsNext, state_transition};
 ghost use Rattle.spec_transition.specs.ProcessSlots.{Stepped, process_slots};
 
@@ -19,7 +21,19 @@ use bc_preset::Config;
 use bc_words::{Refusal, Stop};
 use beacon_body::SignedBeaconBlock;
 use beacon_state::State;
+use hash_tree::Root;
 use std::alloc::Global;
+
+/// Refused where a root isn't that of the state, which keeps its own.
+fn check_state_root(root: &Root, state: &mut State) -> Result<(), Stop>
+    ensures same { state.new ≡ state.old }
+    ensures exact { GivesExactly result (check (same_root root.now ((state_codec state.old.preset).hash_tree_root state.old)) StateRoot) }
+{
+    if *root != state.keep_root() {
+        return Err(Stop::Refused(Refusal::StateRoot));
+    }
+    Ok(())
+}
 
 /// The slots up to the block's, the block, and its state root.
 #[tactic(auto, unfolding(spec_transition::specs::StateTransition::state_transition))]
@@ -37,9 +51,7 @@ fn take_block(
 {
     let mut step = process_slots(alloc, state, block.message.slot, config)?;
     process_block(alloc, &mut step.state, &block.message, config)?;
-    if block.message.state_root != step.state.keep_root() {
-        return Err(Stop::Refused(Refusal::StateRoot));
-    }
+    check_state_root(&block.message.state_root, &mut step.state)?;
     Ok(step)
 }
 

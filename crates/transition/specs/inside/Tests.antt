@@ -36,9 +36,13 @@ tested test (Some a) = test a
 abbrev pub passes_at : (PendingAttestation → Bool) → List PendingAttestation → ℕ → Bool
 passes_at test items i = tested test (slice_get items i)
 
+-- the justified epochs
+abbrev pub justified_test : ℕ → PlainState → Bool
+justified_test justified state = nat_le state.previous_justified_checkpoint.epoch justified && nat_le state.current_justified_checkpoint.epoch justified
+
 -- balances, header and checkpoints, and that nothing is pending before the first epoch
 abbrev pub figures_test : ℕ → PlainState → Bool
 figures_test justified state =
-    nat_eq (length state.balances) (length state.validators) && (nat_le state.latest_block_header.slot state.slot && (nat_le state.previous_justified_checkpoint.epoch justified
-    && (nat_le state.current_justified_checkpoint.epoch justified && (nat_le state.finalized_checkpoint.epoch (get_previous_epoch state)
-    && (not (nat_eq (get_current_epoch state) 0) || nat_eq (length state.previous_epoch_attestations) 0)))))
+    nat_eq (length state.balances) (length state.validators) && (nat_le state.latest_block_header.slot state.slot && (justified_test justified state
+    && (nat_le state.finalized_checkpoint.epoch (get_previous_epoch state)
+    && (not (nat_eq (get_current_epoch state) 0) || nat_eq (length state.previous_epoch_attestations) 0))))

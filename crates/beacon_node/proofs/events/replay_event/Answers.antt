@@ -31,3 +31,6 @@ returns-clause-over g c =
     let counts = rw c.in-Ok-Some.field-0-is at c.in-Ok-Some.ensures.counts in
     let has = rw c.given.ensures at c.in-Ok.ensures.line in
     rw c.unwritten.ensures (line_over c.in-Ok-Some.event (g.S.EventSource.seen c.args.source.now) (g.S.EventSource.seen c.next_event.new.self) c.args.store.now.plain _ _ next counts.0 _ _ has c.in-Err-write_all.trouble _ _ (rw c.deref.ensures.value at c.in-Err-write_all.ensures.writes))
+
+pub returns-in-Ok-write_all-clause-over : goal.returns-in-Ok-write_all-clause-over
+returns-in-Ok-write_all-clause-over g c = tt

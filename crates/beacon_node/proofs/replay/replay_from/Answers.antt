@@ -6,6 +6,6 @@ pub returns-in-Err-clause-answers : goal.returns-in-Err-clause-answers
 returns-in-Err-clause-answers g c =
     rw c.no_store.ensures (opening_over c.args.config.now c.args.genesis c.args.record_name.now c.in-Err.stop _ _ c.in-Err.ensures)
 
-pub returns-clause-answers : goal.returns-clause-answers
-returns-clause-answers g c =
+pub returns-in-Ok-clause-answers : goal.returns-in-Ok-clause-answers
+returns-in-Ok-clause-answers g c =
     opened_goes_on c.args.config.now c.args.genesis c.in-Ok.store.plain c.args.record_name.now c.replay_record.result _ _ _ _ c.in-Ok.ensures c.replay_record.ensures.answers
