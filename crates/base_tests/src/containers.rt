@@ -1,4 +1,4 @@
-//! Roots of zero values, and a container of variable size read and written.
+//! Roots of zero values, and containers and lists of them, read and written again.
 
 ghost use Rattle.std.proofs.Common.{lit≤};
 
@@ -8,7 +8,7 @@ use beacon_types::{
     IndexedAttestation, PendingAttestation, Validator, VoluntaryExit,
 };
 use hash_tree::{Leaf, Root};
-use ssz_codec::{ListLimit, Ssz, SszFault, VariableList, VariableSsz, one_writing, reads_back};
+use ssz_codec::{LimitedList, ListLimit, Ssz, SszFault, VariableList, one_writing, reads_back};
 use std::alloc::Global;
 use std::process::Abort;
 use std::test::Fail;
@@ -45,42 +45,26 @@ const ZERO_DEPOSIT: Root = [
     0x5c, 0x4a, 0x9c, 0x16, 0x7a, 0xf3, 0x73, 0xbf, 0x02, 0xda, 0xfb, 0x6f, 0xf6, 0x64, 0xc2, 0xc8,
 ];
 
-/// Roots of values of two leaves that are zero.
-fn zero_roots_of_two(rt: &impl Abort) {
+#[test]
+fn zero_roots(rt: HostRuntime) {
     let checkpoint = Checkpoint {
         epoch: 0,
         root: [0; 32],
     };
-    assert_eq!(rt; checkpoint.root(), TWO_ZERO_LEAVES);
     let exit = VoluntaryExit {
         epoch: 0,
         validator_index: 0,
     };
-    assert_eq!(rt; exit.root(), TWO_ZERO_LEAVES);
-    assert_eq!(rt; [0; 48].root(), TWO_ZERO_LEAVES);
-}
-
-/// Roots of values of up to four leaves that are zero.
-fn zero_roots_of_four(rt: &impl Abort) {
     let eth1_data = Eth1Data {
         deposit_root: [0; 32],
         deposit_count: 0,
         block_hash: [0; 32],
     };
-    assert_eq!(rt; eth1_data.root(), FOUR_ZERO_LEAVES);
     let fork = Fork {
         previous_version: [0; 4],
         current_version: [0; 4],
         epoch: 0,
     };
-    assert_eq!(rt; fork.root(), FOUR_ZERO_LEAVES);
-    assert_eq!(rt; [0; 96].root(), FOUR_ZERO_LEAVES);
-}
-
-#[test]
-fn zero_roots(rt: HostRuntime) {
-    zero_roots_of_two(&rt);
-    zero_roots_of_four(&rt);
     let header = BeaconBlockHeader {
         slot: 0,
         proposer_index: 0,
@@ -88,18 +72,44 @@ fn zero_roots(rt: HostRuntime) {
         state_root: [0; 32],
         body_root: [0; 32],
     };
-    assert_eq!(rt; header.root(), EIGHT_ZERO_LEAVES);
+    let roots = [
+        (checkpoint.root(), TWO_ZERO_LEAVES),
+        (exit.root(), TWO_ZERO_LEAVES),
+        ([0; 48].root(), TWO_ZERO_LEAVES),
+        (eth1_data.root(), FOUR_ZERO_LEAVES),
+        (fork.root(), FOUR_ZERO_LEAVES),
+        ([0; 96].root(), FOUR_ZERO_LEAVES),
+        (header.root(), EIGHT_ZERO_LEAVES),
+    ];
+    for (found, expected) in roots {
+        assert_eq!(rt; found, expected);
+    }
 }
 
-/// Whether a vote of one bit is what was read, and is written as it was.
-fn is_one_bit(alloc: Global, pending: &PendingAttestation, bytes: &[u8]) -> Result<bool, NoMemory> {
-    let written = pending.write(alloc)?;
-    Ok(
-        pending.aggregation_bits.len() == 1
-            && pending.aggregation_bits.get(0) == Some(true)
-            && pending.inclusion_delay == 1
-            && written.as_slice() == bytes,
-    )
+/// The root of a value, if it is written as these bytes.
+fn root_of_written<T: Ssz>(alloc: Global, value: &T, bytes: &[u8]) -> Result<Root, SszFault> {
+    match value.write(alloc) {
+        Ok(written) if written.as_slice() == bytes => Ok(value.root()),
+        Ok(_) => Err(SszFault::NotAWriting),
+        Err(NoMemory) => Err(SszFault::NoMemory),
+    }
+}
+
+/// The root of the value that is read of these bytes, if it is written as they are.
+fn root_again<T: Ssz>(alloc: Global, bytes: &[u8]) -> Result<Root, SszFault> {
+    match T::read(alloc, bytes) {
+        Ok(value) => root_of_written(alloc, &value, bytes),
+        Err(fault) => Err(fault),
+    }
+}
+
+/// The bits and the inclusion delay of a vote are those of one bit.
+fn has_one_bit(rt: &impl Abort, pending: &PendingAttestation) {
+    let bits = &pending.aggregation_bits;
+    assert_eq!(rt;
+        (bits.len(), bits.get(0), pending.inclusion_delay),
+        (1, Some(true), 1)
+    );
 }
 
 #[test]
@@ -108,64 +118,47 @@ fn one_bit_pending(rt: HostRuntime) -> Result<(), Fail> {
     bytes[0] = 148;
     bytes[132] = 1;
     bytes[148] = 3;
-    let pending = PendingAttestation::read(rt.alloc(), &bytes)?;
-    assert_eq!(rt; is_one_bit(rt.alloc(), &pending, &bytes), Ok(true));
-    bytes[0] = 149;
-    assert!(rt; PendingAttestation::read(rt.alloc(), &bytes).is_err());
+    assert!(rt; root_again::<PendingAttestation>(rt.alloc(), &bytes).is_ok());
     reads_back::<PendingAttestation>();
     one_writing::<Validator>();
-    Ok(())
-}
-
-/// The writing of an attestation of the indices 1 to 5, and zeros else.
-fn five_indices() -> [u8; 268] {
-    let mut bytes = [0; 268];
-    bytes[0] = 228;
-    bytes[228] = 1;
-    bytes[236] = 2;
-    bytes[244] = 3;
-    bytes[252] = 4;
-    bytes[260] = 5;
-    bytes
-}
-
-/// The root of an attestation without indices, and whether it equals one with five.
-fn without_indices(alloc: Global, five: &IndexedAttestation) -> Result<(Root, bool), SszFault> {
-    let mut bytes = [0; 228];
-    bytes[0] = 228;
-    let zero = IndexedAttestation::read(alloc, &bytes)?;
-    Ok((zero.root(), zero.equals(five)))
-}
-
-/// Whether an attestation equals its copy, and is written so.
-fn is_copied(
-    alloc: Global,
-    attestation: &IndexedAttestation,
-    bytes: &[u8],
-) -> Result<bool, NoMemory> {
-    let copy = attestation.copy()?;
-    let written = copy.write(alloc)?;
-    Ok(copy.equals(attestation) && written.as_slice() == bytes)
+    match PendingAttestation::read(rt.alloc(), &bytes) {
+        Ok(pending) => Ok(has_one_bit(&rt, &pending)),
+        Err(fault) => Err(fault.into()),
+    }
 }
 
 #[test]
-fn indexed_attestations(rt: HostRuntime) -> Result<(), Fail> {
-    let bytes = five_indices();
-    let five = IndexedAttestation::read(rt.alloc(), &bytes)?;
-    assert_eq!(rt; five.root(), FIVE_INDICES);
-    assert_eq!(rt; is_copied(rt.alloc(), &five, &bytes), Ok(true));
-    let zero = without_indices(rt.alloc(), &five);
-    assert_eq!(rt; zero, Ok((ZERO_INDEXED_ATTESTATION, false)));
-    assert!(rt; IndexedAttestation::read(rt.alloc(), &[0; 228]).is_err());
-    reads_back::<IndexedAttestation>();
-    Ok(())
+fn a_wrong_offset_is_no_pending(rt: HostRuntime) {
+    let mut bytes = [0; 149];
+    bytes[0] = 149;
+    bytes[148] = 3;
+    assert!(rt; root_again::<PendingAttestation>(rt.alloc(), &bytes).is_err());
+}
+
+#[test]
+fn indexed_attestations(rt: HostRuntime) {
+    let mut five = [0; 268];
+    five[0] = 228;
+    for index in 0..5usize {
+        five[228 + 8 * index] = index as u8 + 1;
+    }
+    let mut zero = [0; 228];
+    zero[0] = 228;
+    let rows = [
+        (five.as_slice(), Ok(FIVE_INDICES)),
+        (zero.as_slice(), Ok(ZERO_INDEXED_ATTESTATION)),
+        ([0; 228].as_slice(), Err(SszFault::NotAWriting)),
+    ];
+    for (bytes, root) in rows {
+        assert_eq!(rt; root_again::<IndexedAttestation>(rt.alloc(), bytes), root);
+    }
 }
 
 #[test]
 fn indices_from_a_list(rt: HostRuntime) -> Result<(), Fail> {
     let list = Vec::from_slice(rt.alloc(), &[1, 2, 3, 4, 5])?;
-    let indices = AttestingIndices::from_vec(list);
-    assert_eq!(rt; indices.len(), 5);
+    let len = AttestingIndices::from_vec(list).len();
+    assert_eq!(rt; len, 5);
     Ok(())
 }
 
@@ -187,67 +180,52 @@ const TWO_ATTESTATIONS: Root = [
     0xaf, 0xe9, 0xf6, 0x3a, 0x6b, 0x60, 0xe1, 0xc5, 0x0f, 0xa2, 0x77, 0x45, 0x45, 0x29, 0xa0, 0x98,
 ];
 
-/// Whether a list is copied, and the copy written so.
-fn is_list_copied(
-    alloc: Global,
-    list: &VariableList<IndexedAttestation, Two>,
-    bytes: &[u8],
-) -> Result<bool, NoMemory> {
-    let copy = list.copy(alloc)?;
-    let written = copy.write(alloc)?;
-    Ok(written.as_slice() == bytes)
-}
-
 #[test]
-fn two_attestations(rt: HostRuntime) -> Result<(), Fail> {
+fn two_attestations(rt: HostRuntime) {
     let mut bytes = [0; 464];
     bytes[0] = 8;
     bytes[4] = 236;
     bytes[8] = 228;
     bytes[236] = 228;
-    let two = VariableList::<IndexedAttestation, Two>::read(rt.alloc(), &bytes)?;
-    assert_eq!(rt; (two.len(), two.root()), (2, TWO_ATTESTATIONS));
-    assert_eq!(rt; is_list_copied(rt.alloc(), &two, &bytes), Ok(true));
+    let root = root_again::<VariableList<IndexedAttestation, Two>>(rt.alloc(), &bytes);
+    assert_eq!(rt; root, Ok(TWO_ATTESTATIONS));
     bytes[4] = 235;
-    assert!(rt; VariableList::<IndexedAttestation, Two>::read(rt.alloc(), &bytes).is_err());
-    Ok(())
+    let root = root_again::<VariableList<IndexedAttestation, Two>>(rt.alloc(), &bytes);
+    assert_eq!(rt; root, Err(SszFault::NotAWriting));
 }
 
-/// Whether a deposit has 33 roots, equals its copy, and is written so.
-fn is_deposit_copied(alloc: Global, deposit: &Deposit, bytes: &[u8]) -> Result<bool, NoMemory> {
+#[test]
+fn a_list_with_a_limit(rt: HostRuntime) {
+    assert!(rt; root_again::<LimitedList<Root, Two>>(rt.alloc(), &[7; 64]).is_ok());
+    assert!(rt; root_again::<LimitedList<Root, Two>>(rt.alloc(), &[7; 96]).is_err());
+}
+
+/// Whether a deposit has 33 roots, and equals its copy.
+fn is_copied(deposit: &Deposit) -> Result<bool, NoMemory> {
     let copy = deposit.copy()?;
-    let written = copy.write(alloc)?;
-    Ok(copy.proof.as_slice().len() == 33 && copy.equals(deposit) && written.as_slice() == bytes)
+    Ok(copy.proof.as_slice().len() == 33 && copy.equals(deposit))
 }
 
-/// The root of the deposit that is all zero, and whether it equals another.
-fn zero_deposit(alloc: Global, other: &Deposit) -> Result<(Root, bool), SszFault> {
-    let zero = Deposit::read(alloc, &[0; 1240])?;
-    Ok((zero.root(), zero.equals(other)))
+/// Whether a branch from a list of roots is that of the deposit that is all zero.
+fn has_zero_proof(alloc: Global, zero: &Deposit) -> Result<bool, NoMemory> {
+    let proof = DepositProof::from_vec(vec![in alloc; [0; 32]; 33]?);
+    Ok(proof.equals(&zero.proof))
+}
+
+/// The deposit that is all zero has its branch, and is copied.
+fn zero_deposit_holds(rt: &(impl AllocGlobal + Abort), zero: &Deposit) {
+    assert_eq!(rt; has_zero_proof(rt.alloc(), zero), Ok(true));
+    assert_eq!(rt; is_copied(zero), Ok(true));
 }
 
 #[test]
 fn deposits(rt: HostRuntime) -> Result<(), Fail> {
-    let mut bytes = [0; 1240];
-    bytes[1055] = 7;
-    let deposit = Deposit::read(rt.alloc(), &bytes)?;
-    assert_eq!(rt; is_deposit_copied(rt.alloc(), &deposit, &bytes), Ok(true));
-    let zero = zero_deposit(rt.alloc(), &deposit);
-    assert_eq!(rt; zero, Ok((ZERO_DEPOSIT, false)));
-    assert!(rt; Deposit::read(rt.alloc(), &bytes[..1239]).is_err());
+    let bytes = [0; 1240];
+    assert_eq!(rt; root_again::<Deposit>(rt.alloc(), &bytes), Ok(ZERO_DEPOSIT));
+    assert!(rt; root_again::<Deposit>(rt.alloc(), &bytes[..1239]).is_err());
     one_writing::<Deposit>();
-    Ok(())
-}
-
-/// Whether a branch is that of the deposit that is all zero.
-fn is_zero_proof(alloc: Global, proof: &DepositProof) -> Result<bool, SszFault> {
-    let zero = Deposit::read(alloc, &[0; 1240])?;
-    Ok(proof.equals(&zero.proof))
-}
-
-#[test]
-fn proofs_of_deposits(rt: HostRuntime) -> Result<(), Fail> {
-    let proof = DepositProof::from_vec(vec![in rt.alloc(); [0; 32]; 33]?);
-    assert_eq!(rt; is_zero_proof(rt.alloc(), &proof), Ok(true));
-    Ok(())
+    match Deposit::read(rt.alloc(), &bytes) {
+        Ok(zero) => Ok(zero_deposit_holds(&rt, &zero)),
+        Err(fault) => Err(fault.into()),
+    }
 }

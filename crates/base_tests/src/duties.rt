@@ -44,85 +44,78 @@ fn committees(alloc: Global, count: u64) -> Result<EpochCommittees, Fail>
     Ok(EpochCommittees::new(alloc, active, &[7; 32], &Preset::minimal())?)
 }
 
-/// Whether a committee has these members.
-fn has(committees: &EpochCommittees, slot: u64, index: u64, members: &[u64]) -> bool {
-    match committees.committee(slot, index) {
-        Some(found) => found == members,
-        None => false,
+/// A slot, an index, and the members of the committee, if there is one.
+type Row = (u64, u64, &'static [u64]);
+
+/// Rows of the committees of 64 validators.
+const OF_64: [Row; 4] = [
+    (8, 0, &[34, 26, 18, 27]),
+    (7, 1, &[37, 53, 2, 22]),
+    (7, 2, &[]),
+    (0, u64::MAX, &[]),
+];
+
+/// Rows of the committees of 100 validators.
+const OF_100: [Row; 3] = [
+    (0, 0, &[48, 26, 80, 51]),
+    (1, 2, &[65, 93, 82, 72, 54]),
+    (7, 2, &[89, 57, 35, 87, 79]),
+];
+
+/// Compares committees with their rows.
+fn rows_hold(rt: &impl Abort, committees: &EpochCommittees, per_slot: u64, rows: &[Row]) {
+    assert_eq!(rt; committees.per_slot(), per_slot);
+    for (slot, index, members) in rows {
+        let found = committees.committee(*slot, *index).unwrap_or(&[]);
+        assert_eq!(rt; found, *members);
     }
 }
 
-fn small_rows(rt: &impl Abort, small: &EpochCommittees) {
-    assert_eq!(rt; small.per_slot(), 2);
-    assert!(rt; has(small, 8, 0, &[34, 26, 18, 27]));
-    assert!(rt; has(small, 7, 1, &[37, 53, 2, 22]));
-    assert!(rt; small.committee(7, 2).is_none());
-    assert!(rt; small.committee(0, u64::MAX).is_none());
-}
-
-#[test]
-fn committees_of_64(rt: HostRuntime) -> Result<(), Fail> {
-    let small = committees(rt.alloc(), 64)?;
-    small_rows(&rt, &small);
-    Ok(())
-}
-
-fn large_rows(rt: &impl Abort, large: &EpochCommittees) {
-    assert_eq!(rt; large.per_slot(), 3);
-    assert!(rt; has(large, 0, 0, &[48, 26, 80, 51]));
-    assert!(rt; has(large, 1, 2, &[65, 93, 82, 72, 54]));
-    assert!(rt; has(large, 7, 2, &[89, 57, 35, 87, 79]));
-}
-
-#[test]
-fn committees_of_100(rt: HostRuntime) -> Result<(), Fail> {
-    let large = committees(rt.alloc(), 100)?;
-    large_rows(&rt, &large);
-    Ok(())
-}
-
-/// Compares who is picked of so many active validators.
-fn picks(
+/// Compares the committees of so many validators with their rows.
+fn committees_are(
     rt: &(impl AllocGlobal + Abort),
-    state: &SmallState,
     count: u64,
-    bound: u64,
-    wanted: Result<u64, Stop>,
-)
-    requires count { count ≤ state.now.1 }
-    requires fits { count ≤ 2 ^ 40 }
+    per_slot: u64,
+    rows: &[Row],
+) -> Result<(), Fail>
+    requires { count ≤ 2 ^ 40 }
 {
-    let picked = pick(rt.alloc(), state, count, bound);
-    assert_eq!(rt; picked.ok(), Some(wanted));
+    match committees(rt.alloc(), count) {
+        Ok(committees) => Ok(rows_hold(rt, &committees, per_slot, rows)),
+        Err(fail) => Err(fail),
+    }
 }
 
 #[test]
-fn proposers_pass_the_test(rt: HostRuntime) {
-    let state = SmallState::new(Preset::minimal(), 64, 32_000_000_000);
-    picks(&rt, &state, 64, 65_536, Ok(34));
-    picks(
-        &rt,
-        &state,
+fn committees_have_their_members(rt: HostRuntime) -> Result<(), Fail> {
+    committees_are(&rt, 64, 2, &OF_64)?;
+    committees_are(&rt, 100, 3, &OF_100)
+}
+
+/// The balance of each of 64 validators, how many are active, how many candidates there are at most, and who is picked.
+const PICKS: [(u64, u64, u64, Result<u64, Stop>); 7] = [
+    (32_000_000_000, 64, 65_536, Ok(34)),
+    (
+        32_000_000_000,
         0,
         65_536,
         Err(Stop::Refused(Refusal::NoActive)),
-    );
-    picks(&rt, &state, 64, 0, Err(Stop::Limit(Limit::Proposer)));
-}
+    ),
+    (32_000_000_000, 64, 0, Err(Stop::Limit(Limit::Proposer))),
+    (1_000_000_000, 64, 65_536, Ok(63)),
+    (1_000_000_000, 64, 139, Err(Stop::Limit(Limit::Proposer))),
+    (0, 1, 1, Err(Stop::Limit(Limit::Proposer))),
+    (u64::MAX, 1, 1, Err(Stop::Refused(Refusal::Overflow))),
+];
 
 #[test]
-fn poor_proposers_pass_later(rt: HostRuntime) {
-    let poor = SmallState::new(Preset::minimal(), 64, 1_000_000_000);
-    picks(&rt, &poor, 64, 65_536, Ok(63));
-    picks(&rt, &poor, 64, 139, Err(Stop::Limit(Limit::Proposer)));
-}
-
-#[test]
-fn balances_at_the_bounds(rt: HostRuntime) {
-    let empty = SmallState::new(Preset::minimal(), 1, 0);
-    picks(&rt, &empty, 1, 1, Err(Stop::Limit(Limit::Proposer)));
-    let rich = SmallState::new(Preset::minimal(), 1, u64::MAX);
-    picks(&rt, &rich, 1, 1, Err(Stop::Refused(Refusal::Overflow)));
+fn proposers_pass_the_test(rt: HostRuntime) -> Result<(), Fail> {
+    for (balance, count, bound, picked) in PICKS.iter() {
+        assert!(rt; *count <= 64);
+        let state = SmallState::new(Preset::minimal(), 64, *balance);
+        assert_eq!(rt; pick(rt.alloc(), &state, *count, *bound)?, *picked);
+    }
+    Ok(())
 }
 
 #[test]

@@ -8,8 +8,6 @@ mod containers;
 #[cfg(test)]
 mod duties;
 #[cfg(test)]
-mod examples;
-#[cfg(test)]
 mod hashing;
 #[cfg(test)]
 mod shuffles;

@@ -1,162 +1,70 @@
 //! Shared lists against the roots of their items.
 
-ghost use Rattle.std.specs.Prelude.{◌≡◌, ◌<◌, length};
+ghost use Rattle.std.specs.Prelude.{◌≡◌, ◌<◌, ◌≤◌, length, OnOk};
 ghost use Rattle.shared_tree.specs.Lists.{AreChanges};
 
 use bc_words::{NoMemory, PushStop, Steps};
-use hash_tree::{Root, merkle_leaves, merkle_u64, mix_in_length, zero_hash};
+use hash_tree::{Root, merkle_leaves, merkle_u64, mix_in_length};
 use shared_tree::{PackedList, SharedList, set_after_share};
 use std::alloc::Global;
 use std::marker::Brand;
+use std::process::Abort;
 use std::sync::ledger::{Blank, Ledger};
 use std::test::Fail;
 
-/// What stands after three pushes to an empty list of at most two: the roots after each, and whether the third is full.
-fn push_three<L: Ledger>(
-    list: &mut SharedList<u64>,
-    steps: &mut Steps<L>,
-) -> Result<([Root; 4], bool), PushStop> {
-    let none = list.root();
-    list.push(7, steps)?;
-    let one = list.root();
-    list.push(8, steps)?;
-    let two = list.root();
-    let third = list.push(9, steps);
-    let full = match third {
-        Err(PushStop::Full) => true,
-        _ => false,
-    };
-    Ok(([none, one, two, list.root()], full))
-}
-
-fn three_pushes<L: Ledger>(alloc: Global, blank: Blank) -> Result<([Root; 4], bool), PushStop>
-    requires name { blank.name ≡ L.name }
-    requires parts { blank.parts ≡ L.parts }
-    requires some { 0 < blank.parts }
+/// The root of a list of these items, of at most sixteen.
+fn root_of(items: &[u64]) -> Root
+    requires { length items.now ≤ 16 }
 {
-    let mut list = SharedList::<u64>::from_vec(Vec::new(alloc), 2)?;
-    let mut steps = Steps::<L>::new(blank);
-    push_three(&mut list, &mut steps)
-}
-
-/// The roots of a list of three and of the list that it shares with, after one of its items was set, and that item in both.
-fn set_shared<L: Ledger>(
-    list: &mut SharedList<u64>,
-    steps: &mut Steps<L>,
-) -> Result<(Root, Root, Option<u64>, Option<u64>), NoMemory>
-    requires { length list.old.items ≡ 3 }
-{
-    let (other, root) = set_after_share(list, 1, 5, steps)?;
-    Ok((
-        list.root(),
-        root,
-        list.get(1).copied(),
-        other.get(1).copied(),
-    ))
-}
-
-fn shared_and_set<L: Ledger>(
-    alloc: Global,
-    blank: Blank,
-) -> Result<(Root, Root, Option<u64>, Option<u64>), NoMemory>
-    requires name { blank.name ≡ L.name }
-    requires parts { blank.parts ≡ L.parts }
-    requires some { 0 < blank.parts }
-{
-    let items = vec![in alloc; 1, 2, 3]?;
-    let mut list = SharedList::<u64>::from_vec(items, 1 << 40)?;
-    let mut steps = Steps::<L>::new(blank);
-    set_shared(&mut list, &mut steps)
-}
-
-#[test]
-fn a_list_of_two_has_room_for_two(rt: HostRuntime) -> Result<(), Fail> {
-    let (roots, full) = three_pushes::<Brand>(rt.alloc(), Blank::new(1))?;
-    let none = mix_in_length(&zero_hash(1), 0);
-    let one = mix_in_length(&merkle_leaves(&[7u64], 1), 1);
-    let two = mix_in_length(&merkle_leaves(&[7u64, 8], 1), 2);
-    assert_eq!(rt; roots, [none, one, two, two]);
-    assert!(rt; full);
-    Ok(())
-}
-
-#[test]
-fn a_shared_list_stays(rt: HostRuntime) -> Result<(), Fail> {
-    let (list, other, there, here) = shared_and_set::<Brand>(rt.alloc(), Blank::new(1))?;
-    assert_eq!(rt; list, mix_in_length(&merkle_leaves(&[1u64, 5, 3], 40), 3));
-    assert_eq!(rt; other, mix_in_length(&merkle_leaves(&[1u64, 2, 3], 40), 3));
-    assert_eq!(rt; there, Some(5));
-    assert_eq!(rt; here, Some(2));
-    Ok(())
-}
-
-/// The roots of an empty list, and its length.
-fn nothing(alloc: Global) -> Result<(Root, u64), NoMemory> {
-    let none = SharedList::<u64>::from_vec(Vec::new(alloc), 1 << 40)?;
-    Ok((none.root(), none.len()))
-}
-
-/// The top and the limit of a list of five, and its items at places 4 and 5.
-fn five(alloc: Global) -> Result<(Root, u64, Option<u64>, Option<u64>), NoMemory> {
-    let items = vec![in alloc; 1, 2, 3, 4, 5]?;
-    let list = SharedList::<u64>::from_vec(items, 11)?;
-    Ok((
-        list.top(),
-        list.limit(),
-        list.get(4).copied(),
-        list.get(5).copied(),
-    ))
-}
-
-#[test]
-fn lists_of_any_length(rt: HostRuntime) -> Result<(), Fail> {
-    let none = mix_in_length(&zero_hash(40), 0);
-    let top = merkle_leaves(&[1u64, 2, 3, 4, 5], 4);
-    assert_eq!(rt; nothing(rt.alloc()), Ok((none, 0)));
-    assert_eq!(rt; five(rt.alloc()), Ok((top, 11, Some(5), None)));
-    Ok(())
+    mix_in_length(&merkle_leaves(items, 4), items.len() as u64)
 }
 
 /// The root of a list after some of its items were set at once.
+#[tactic(auto, using(shared_tree::proofs::Changes::length_changed))]
 fn set_some<L: Ledger>(
+    alloc: Global,
     list: &mut SharedList<u64>,
-    changes: Vec<(u64, u64)>,
+    changes: &[(u64, u64)],
     steps: &mut Steps<L>,
 ) -> Result<Root, NoMemory>
-    requires { AreChanges 0 (length list.old.items) changes.items }
+    requires { AreChanges 0 (length list.old.items) changes.now }
+    ensures { OnOk result (length list.new.items ≡ length list.old.items) }
 {
-    list.set_many(changes, steps)?;
+    list.set_many(Vec::from_slice(alloc, changes)?, steps)?;
     Ok(list.root())
 }
 
-fn many_set<L: Ledger>(alloc: Global, blank: Blank) -> Result<Root, NoMemory>
-    requires name { blank.name ≡ L.name }
-    requires parts { blank.parts ≡ L.parts }
-    requires some { 0 < blank.parts }
+/// Sets an item of a list that was shared. The roots of both, and the item in the other.
+fn set_shared<L: Ledger>(
+    list: &mut SharedList<u64>,
+    steps: &mut Steps<L>,
+) -> Result<(Root, Root, Option<u64>), NoMemory>
+    requires { length list.old.items ≡ 13 }
 {
-    let changes = vec![in alloc; (0, 6), (3, 7), (4, 8)]?;
-    let items = vec![in alloc; 1, 2, 3, 4, 5]?;
-    let mut list = SharedList::<u64>::from_vec(items, 1 << 40)?;
-    let mut steps = Steps::<L>::new(blank);
-    set_some(&mut list, changes, &mut steps)
+    let (other, root) = set_after_share(list, 1, 5, steps)?;
+    Ok((list.root(), root, other.get(1).copied()))
 }
 
-#[test]
-fn many_items_are_set(rt: HostRuntime) -> Result<(), Fail> {
-    let root = many_set::<Brand>(rt.alloc(), Blank::new(1))?;
-    assert_eq!(rt;
-        root,
-        mix_in_length(&merkle_leaves(&[6u64, 2, 3, 7, 8], 40), 5)
-    );
-    Ok(())
+/// Appends an item to a list that has room for one. Another one is too many.
+fn push_last<L: Ledger>(
+    list: &mut SharedList<u64>,
+    steps: &mut Steps<L>,
+) -> Result<bool, PushStop> {
+    list.push(14, steps)?;
+    Ok(matches!(list.push(15, steps), Err(PushStop::Full)))
 }
 
-fn nine_set<L: Ledger>(alloc: Global, blank: Blank) -> Result<Root, NoMemory>
-    requires name { blank.name ≡ L.name }
-    requires parts { blank.parts ≡ L.parts }
-    requires some { 0 < blank.parts }
+/// A list of thirteen, of at most fourteen: three items set one by one, nine set layer by layer, one set behind a share, and one more.
+fn items_change<L: Ledger>(
+    rt: &(impl AllocGlobal + Abort),
+    list: &mut SharedList<u64>,
+    steps: &mut Steps<L>,
+) -> Result<(), Fail>
+    requires { length list.old.items ≡ 13 }
 {
-    let changes = vec![in alloc;
+    let few = set_some(rt.alloc(), list, &[(0, 6), (3, 7), (4, 8)], steps)?;
+    assert_eq!(rt; few, root_of(&[6, 2, 3, 7, 8, 6, 7, 8, 9, 10, 11, 12, 13]));
+    let changes = [
         (0, 20),
         (1, 21),
         (2, 22),
@@ -166,96 +74,97 @@ fn nine_set<L: Ledger>(alloc: Global, blank: Blank) -> Result<Root, NoMemory>
         (9, 26),
         (10, 27),
         (11, 28),
-    ]?;
-    let items = vec![in alloc; 1, 2, 3, 4, 5, 6, 7, 8, 9, 10, 11, 12, 13]?;
-    let mut list = SharedList::<u64>::from_vec(items, 1 << 40)?;
-    let mut steps = Steps::<L>::new(blank);
-    set_some(&mut list, changes, &mut steps)
-}
-
-#[test]
-fn so_many_items_are_set_that_layers_are_hashed(rt: HostRuntime) -> Result<(), Fail> {
-    let root = nine_set::<Brand>(rt.alloc(), Blank::new(1))?;
-    assert_eq!(rt;
-        root,
-        mix_in_length(
-            &merkle_leaves(&[20u64, 21, 22, 4, 23, 24, 25, 8, 9, 26, 27, 28, 13], 40),
-            13
-        )
-    );
+    ];
+    let before = root_of(&[20, 21, 22, 7, 23, 24, 25, 8, 9, 26, 27, 28, 13]);
+    assert_eq!(rt; set_some(rt.alloc(), list, &changes, steps)?, before);
+    let set = root_of(&[20, 5, 22, 7, 23, 24, 25, 8, 9, 26, 27, 28, 13]);
+    assert_eq!(rt; set_shared(list, steps)?, (set, before, Some(21)));
+    assert!(rt; push_last(list, steps)?);
+    let pushed = root_of(&[20, 5, 22, 7, 23, 24, 25, 8, 9, 26, 27, 28, 13, 14]);
+    assert_eq!(rt; list.root(), pushed);
     Ok(())
 }
 
-/// The items of a list of nineteen in order, joined.
-fn walked(alloc: Global) -> Result<u64, NoMemory> {
-    let items = vec![in alloc;
-        1, 2, 3, 4, 5, 6, 7, 8, 9, 10, 11, 12, 13, 14, 15, 16, 17, 18, 19,
-    ]?;
-    let list = SharedList::<u64>::from_vec(items, 1 << 40)?;
-    let mut joined = 0u64;
-    for item in list.iter() {
-        joined = joined.wrapping_mul(31).wrapping_add(*item);
-    }
-    Ok(joined)
-}
-
-#[test]
-fn a_walk_gives_the_items_in_order(rt: HostRuntime) -> Result<(), Fail> {
-    let mut joined = 0u64;
-    for item in 1..20u64 {
-        joined = joined.wrapping_mul(31).wrapping_add(item);
-    }
-    assert_eq!(rt; walked(rt.alloc())?, joined);
-    Ok(())
-}
-
-/// The roots of a list of three numbers, after two were set at once, one set and two pushed, and its second number. One more
-/// is too many.
-fn change_numbers<L: Ledger>(
+/// Sets two of three numbers at once. The root.
+#[tactic(auto, using(shared_tree::proofs::Changes::length_changed))]
+fn set_two<L: Ledger>(
+    alloc: Global,
     list: &mut PackedList,
-    changes: Vec<(u64, u64)>,
     steps: &mut Steps<L>,
-) -> Result<([Root; 3], Option<u64>), PushStop>
-    requires three { length list.old.items ≡ 3 }
-    requires changes { AreChanges 0 3 changes.items }
+) -> Result<Root, NoMemory>
+    requires { length list.old.items ≡ 3 }
+    ensures { OnOk result (length list.new.items ≡ 3) }
 {
+    let changes = vec![in alloc; (0, 6), (2, 7)]?;
     list.set_many(changes, steps)?;
-    let many = list.root();
-    if list.len() != 3 {
-        return Err(PushStop::NoMemory);
-    }
-    list.set(1, u64::MAX, steps)?;
-    let set = list.root();
+    Ok(list.root())
+}
+
+/// Appends two numbers to a list of at most five. One more is too many.
+fn push_two<L: Ledger>(list: &mut PackedList, steps: &mut Steps<L>) -> Result<bool, PushStop> {
     list.push(4, steps)?;
     list.push(5, steps)?;
-    match list.push(8, steps) {
-        Err(PushStop::Full) => Ok(([many, set, list.root()], list.get(1))),
-        _ => Err(PushStop::NoMemory),
+    Ok(matches!(list.push(8, steps), Err(PushStop::Full)))
+}
+
+/// A list of three numbers, of at most five: two set at once, one set, and two pushed.
+fn numbers_change<L: Ledger>(
+    rt: &(impl AllocGlobal + Abort),
+    list: &mut PackedList,
+    steps: &mut Steps<L>,
+) -> Result<(), Fail>
+    requires { length list.old.items ≡ 3 }
+{
+    let many = mix_in_length(&merkle_u64(&[6, 2, 7], 1), 3);
+    assert_eq!(rt; set_two(rt.alloc(), list, steps)?, many);
+    list.set(1, u64::MAX, steps)?;
+    assert_eq!(rt;
+        list.root(),
+        mix_in_length(&merkle_u64(&[6, u64::MAX, 7], 1), 3)
+    );
+    assert!(rt; push_two(list, steps)?);
+    let pushed = mix_in_length(&merkle_u64(&[6, u64::MAX, 7, 4, 5], 1), 5);
+    assert_eq!(rt; list.root(), pushed);
+    assert_eq!(rt; list.get(1), Some(u64::MAX));
+    Ok(())
+}
+
+/// A list of thirteen, and its changes.
+fn list_changes<L: Ledger>(
+    rt: &(impl AllocGlobal + Abort),
+    steps: &mut Steps<L>,
+) -> Result<(), Fail> {
+    let items = vec![in rt.alloc(); 1, 2, 3, 4, 5, 6, 7, 8, 9, 10, 11, 12, 13]?;
+    match SharedList::<u64>::from_vec(items, 14) {
+        Ok(mut list) => items_change(rt, &mut list, steps),
+        Err(refused) => Err(refused.into()),
     }
 }
 
-fn numbers_changed<L: Ledger>(
-    alloc: Global,
-    blank: Blank,
-) -> Result<([Root; 3], Option<u64>), PushStop>
+/// A list of three numbers, and its changes.
+fn packed_list_changes<L: Ledger>(
+    rt: &(impl AllocGlobal + Abort),
+    steps: &mut Steps<L>,
+) -> Result<(), Fail> {
+    let numbers = vec![in rt.alloc(); 1, 2, 3]?;
+    match PackedList::from_vec(numbers, 5) {
+        Ok(mut list) => numbers_change(rt, &mut list, steps),
+        Err(refused) => Err(refused.into()),
+    }
+}
+
+/// Both kinds of lists.
+fn lists_change<L: Ledger>(rt: &(impl AllocGlobal + Abort), blank: Blank) -> Result<(), Fail>
     requires name { blank.name ≡ L.name }
     requires parts { blank.parts ≡ L.parts }
     requires some { 0 < blank.parts }
 {
-    let changes = vec![in alloc; (0, 6), (2, 7)]?;
-    let numbers = vec![in alloc; 1, 2, 3]?;
-    let mut list = PackedList::from_vec(numbers, 5)?;
     let mut steps = Steps::<L>::new(blank);
-    change_numbers(&mut list, changes, &mut steps)
+    list_changes(rt, &mut steps)?;
+    packed_list_changes(rt, &mut steps)
 }
 
 #[test]
-fn numbers_are_packed(rt: HostRuntime) -> Result<(), Fail> {
-    let (roots, there) = numbers_changed::<Brand>(rt.alloc(), Blank::new(1))?;
-    let many = mix_in_length(&merkle_u64(&[6, 2, 7], 1), 3);
-    let set = mix_in_length(&merkle_u64(&[6, u64::MAX, 7], 1), 3);
-    let pushed = mix_in_length(&merkle_u64(&[6, u64::MAX, 7, 4, 5], 1), 5);
-    assert_eq!(rt; roots, [many, set, pushed]);
-    assert_eq!(rt; there, Some(u64::MAX));
-    Ok(())
+fn lists_have_the_roots_of_their_items(rt: HostRuntime) -> Result<(), Fail> {
+    lists_change::<Brand>(&rt, Blank::new(1))
 }

@@ -9,6 +9,7 @@ use beacon_types::Checkpoint;
 use block_array::{BlockArray, Facts};
 use std::alloc::Global;
 use std::marker::Brand;
+use std::process::Abort;
 use std::sync::ledger::{Blank, Ledger};
 use std::test::Fail;
 
@@ -118,132 +119,112 @@ fn applied<L: Ledger>(array: &mut BlockArray, node: u32, steps: &mut Steps<L>) -
 }
 
 /// Head and weight behind a vote.
-fn applied_vote<L: Ledger>(
+fn voted<L: Ledger>(
     array: &mut BlockArray,
-    voted: (u64, u32, u64),
+    vote_of: (u64, u32, u64),
     node: u32,
     steps: &mut Steps<L>,
 ) -> Result<Made, NoMemory>
-    requires voted { voted.1 < length array.old.nodes }
+    requires voted { vote_of.1 < length array.old.nodes }
     requires node { node < length array.old.nodes }
     ensures { length array.new.nodes ≡ length array.old.nodes }
 {
-    vote(array, voted.0, voted.1, voted.2)?;
+    vote(array, vote_of.0, vote_of.1, vote_of.2)?;
     Ok(applied(array, node, steps))
 }
 
-/// Three votes in a chain, and then balances: heads and weights.
-fn weighed_rows<L: Ledger>(
+/// Head and weight where each of 64 validators has this balance.
+fn weighed<L: Ledger>(
+    alloc: Global,
     array: &mut BlockArray,
-    balances: Vec<u64>,
+    each: u32,
+    node: u32,
     steps: &mut Steps<L>,
-) -> Result<[Made; 2], NoMemory>
-    requires nodes { length array.old.nodes ≡ 21 }
-    requires few { length balances.items ≤ 2 ^ 40 }
-    ensures { length array.new.nodes ≡ 21 }
+) -> Result<Made, NoMemory>
+    requires { node < length array.old.nodes }
+    ensures { length array.new.nodes ≡ length array.old.nodes }
+{
+    array.set_balances(
+        vec![in alloc; u64::from(each); 64]?,
+        64,
+        64 * u128::from(each),
+    );
+    Ok(applied(array, node, steps))
+}
+
+/// Three votes in a chain, balances, votes of the same and of a later epoch, other balances, and then a justified checkpoint
+/// behind the node that is weighed: heads and weights.
+fn chain_rows<L: Ledger>(
+    alloc: Global,
+    array: &mut BlockArray,
+    steps: &mut Steps<L>,
+) -> Result<[Made; 6], NoMemory>
+    requires { length array.old.nodes ≡ 21 }
 {
     vote(array, 2, 20, 1)?;
     vote(array, 5, 10, 1)?;
-    let unweighed = applied_vote(array, (7, 3, 1), 10, steps)?;
-    array.set_balances(balances, 64, 2048);
-    Ok([unweighed, applied(array, 10, steps)])
-}
-
-/// Votes of the same and of a later epoch, then other balances, and then a justified checkpoint behind the node that is weighed:
-/// heads and weights.
-fn later_rows<L: Ledger>(
-    array: &mut BlockArray,
-    balances: Vec<u64>,
-    steps: &mut Steps<L>,
-) -> Result<[Made; 4], NoMemory>
-    requires nodes { length array.old.nodes ≡ 21 }
-    requires few { length balances.items ≤ 2 ^ 40 }
-{
-    let equal = applied_vote(array, (5, 2, 1), 10, steps)?;
-    let later = applied_vote(array, (5, 2, 2), 10, steps)?;
-    array.set_balances(balances, 64, 448);
-    let lighter = applied(array, 3, steps);
+    let unweighed = voted(array, (7, 3, 1), 10, steps)?;
+    let balances = weighed(alloc, array, 32, 10, steps)?;
+    let equal = voted(array, (5, 2, 1), 10, steps)?;
+    let later = voted(array, (5, 2, 2), 10, steps)?;
+    let lighter = weighed(alloc, array, 7, 3, steps)?;
     let facts = at_genesis();
     array.set_checkpoints(12, facts.justified, facts.finalized);
-    Ok([equal, later, lighter, applied(array, 3, steps)])
+    let behind = applied(array, 3, steps);
+    Ok([unweighed, balances, equal, later, lighter, behind])
 }
 
-/// A tie of two children, a vote, and a vote taken back: heads and weights.
+/// A tie of two children, a vote, a vote taken back, the boost, and the boost taken back: heads and weights.
 fn fork_rows<L: Ledger>(
+    alloc: Global,
     array: &mut BlockArray,
-    balances: Vec<u64>,
     steps: &mut Steps<L>,
-) -> Result<[Made; 3], NoMemory>
-    requires nodes { length array.old.nodes ≡ 3 }
-    requires few { length balances.items ≤ 2 ^ 40 }
-    ensures { length array.new.nodes ≡ 3 }
-{
-    array.set_balances(balances, 64, 2048);
-    let tie = applied(array, 1, steps);
-    let voted = applied_vote(array, (3, 2, 1), 2, steps)?;
-    Ok([tie, voted, applied_vote(array, (3, 1, 2), 2, steps)?])
-}
-
-/// The boost, and the boost taken back: heads and weights.
-fn boost_rows<L: Ledger>(array: &mut BlockArray, steps: &mut Steps<L>) -> [Made; 2]
+) -> Result<[Made; 5], NoMemory>
     requires { length array.old.nodes ≡ 3 }
 {
+    let tie = weighed(alloc, array, 32, 1, steps)?;
+    let second = voted(array, (3, 2, 1), 2, steps)?;
+    let first = voted(array, (3, 1, 2), 2, steps)?;
     array.boost(Some(2));
     let boosted = applied(array, 2, steps);
     array.boost(None);
-    [boosted, applied(array, 2, steps)]
+    Ok([tie, second, first, boosted, applied(array, 2, steps)])
 }
 
-/// So many equal balances.
-fn balances(alloc: Global, each: u64) -> Result<Vec<u64>, NoMemory>
-    ensures { IfOk result (λ list. length list.items ≡ 64) }
-{
-    Ok(vec![in alloc; each; 64]?)
+/// The rows of a chain.
+fn rows_of_a_chain<L: Ledger>(alloc: Global, steps: &mut Steps<L>) -> Result<[Made; 6], NoMemory> {
+    match chain(alloc) {
+        Ok(mut array) => chain_rows(alloc, &mut array, steps),
+        Err(refused) => Err(refused),
+    }
 }
 
-/// What `weighed_rows` and `later_rows` give.
-fn chain_rows<L: Ledger>(alloc: Global, blank: Blank) -> Result<([Made; 2], [Made; 4]), NoMemory>
+/// The rows of a fork.
+fn rows_of_a_fork<L: Ledger>(alloc: Global, steps: &mut Steps<L>) -> Result<[Made; 5], NoMemory> {
+    match fork(alloc) {
+        Ok(mut array) => fork_rows(alloc, &mut array, steps),
+        Err(refused) => Err(refused),
+    }
+}
+
+/// The rows of both are the expected ones.
+fn rows_hold<L: Ledger>(rt: &(impl AllocGlobal + Abort), blank: Blank) -> Result<(), Fail>
     requires name { blank.name ≡ L.name }
     requires parts { blank.parts ≡ L.parts }
     requires some { 0 < blank.parts }
 {
-    let first = balances(alloc, 32)?;
-    let second = balances(alloc, 7)?;
     let mut steps = Steps::<L>::new(blank);
-    let mut array = chain(alloc)?;
-    let weighed = weighed_rows(&mut array, first, &mut steps)?;
-    let later = later_rows(&mut array, second, &mut steps)?;
-    Ok((weighed, later))
-}
-
-/// What `fork_rows` and `boost_rows` give.
-fn rows_of_a_fork<L: Ledger>(
-    alloc: Global,
-    blank: Blank,
-) -> Result<([Made; 3], [Made; 2]), NoMemory>
-    requires name { blank.name ≡ L.name }
-    requires parts { blank.parts ≡ L.parts }
-    requires some { 0 < blank.parts }
-{
-    let list = balances(alloc, 32)?;
-    let mut steps = Steps::<L>::new(blank);
-    let mut array = fork(alloc)?;
-    let rows = fork_rows(&mut array, list, &mut steps)?;
-    Ok((rows, boost_rows(&mut array, &mut steps)))
-}
-
-#[test]
-fn votes_in_a_chain(rt: HostRuntime) -> Result<(), Fail> {
-    let (weighed, later) = chain_rows::<Brand>(rt.alloc(), Blank::new(1))?;
-    assert_eq!(rt; weighed, [(20, 0), (20, 64)]);
-    assert_eq!(rt; later, [(20, 64), (20, 32), (20, 14), (20, 14)]);
+    let rows = rows_of_a_chain(rt.alloc(), &mut steps)?;
+    assert_eq!(rt;
+        rows,
+        [(20, 0), (20, 64), (20, 64), (20, 32), (20, 14), (20, 14)]
+    );
+    let rows = rows_of_a_fork(rt.alloc(), &mut steps)?;
+    assert_eq!(rt; rows, [(1, 0), (2, 32), (1, 0), (2, 102), (1, 0)]);
     Ok(())
 }
 
 #[test]
-fn votes_in_a_fork(rt: HostRuntime) -> Result<(), Fail> {
-    let (rows, boosted) = rows_of_a_fork::<Brand>(rt.alloc(), Blank::new(1))?;
-    assert_eq!(rt; rows, [(1, 0), (2, 32), (1, 0)]);
-    assert_eq!(rt; boosted, [(2, 102), (1, 0)]);
-    Ok(())
+fn votes_in_a_chain_and_in_a_fork(rt: HostRuntime) -> Result<(), Fail> {
+    rows_hold::<Brand>(&rt, Blank::new(1))
 }
