@@ -15,8 +15,8 @@ fn config_text(alloc: Global, fault: ConfigFault) -> Result<String, AllocError> 
         ConfigFault::Twice(line) => format!(in alloc; "Twice({line})"),
         ConfigFault::BadNumber(line) => format!(in alloc; "BadNumber({line})"),
         ConfigFault::BadPreset(line) => format!(in alloc; "BadPreset({line})"),
-        ConfigFault::Missing(key) => format!(in alloc; "Missing({key})"),
-        ConfigFault::OutOfRange(key) => format!(in alloc; "OutOfRange({key})"),
+        ConfigFault::Missing(key) => format!(in alloc; "Missing({})", key.name()),
+        ConfigFault::OutOfRange(key) => format!(in alloc; "OutOfRange({})", key.name()),
     }
 }
 
