@@ -44,7 +44,7 @@ fn committees(alloc: Global, count: u64) -> Result<EpochCommittees, Fail>
     Ok(EpochCommittees::new(alloc, active, &[7; 32], &Preset::minimal())?)
 }
 
-/// A slot, an index, and the members of the committee, if there is one.
+/// A slot, an index, and the members of the committee. None where there is no committee.
 type Row = (u64, u64, &'static [u64]);
 
 /// Rows of the committees of 64 validators.
@@ -66,8 +66,9 @@ const OF_100: [Row; 3] = [
 fn rows_hold(rt: &impl Abort, committees: &EpochCommittees, per_slot: u64, rows: &[Row]) {
     assert_eq!(rt; committees.per_slot(), per_slot);
     for (slot, index, members) in rows {
-        let found = committees.committee(*slot, *index).unwrap_or(&[]);
-        assert_eq!(rt; found, *members);
+        let found = committees.committee(*slot, *index);
+        assert_eq!(rt; found.is_none(), members.is_empty());
+        assert_eq!(rt; found.unwrap_or(&[]), *members);
     }
 }
 
