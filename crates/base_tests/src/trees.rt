@@ -1,7 +1,7 @@
 //! Shared lists against the roots of their items.
 
 ghost use Rattle.std.specs.Prelude.{◌≡◌, ◌<◌, ◌≤◌, length, OnOk};
-ghost use Rattle.shared_tree.specs.Lists.{AreChanges};
+ghost use Rattle.tree_nodes.specs.Changes.{AreChanges};
 
 use bc_words::{NoMemory, PushStop, Steps};
 use hash_tree::{Root, merkle_leaves, merkle_u64, mix_in_length};
@@ -20,7 +20,7 @@ fn root_of(items: &[u64]) -> Root
 }
 
 /// The root of a list after some of its items were set at once.
-#[tactic(auto, using(shared_tree::proofs::Changes::length_changed))]
+#[tactic(auto, using(tree_nodes::proofs::Changes::length_changed))]
 fn set_some<L: Ledger>(
     alloc: Global,
     list: &mut SharedList<u64>,
@@ -86,7 +86,7 @@ fn items_change<L: Ledger>(
 }
 
 /// Sets two of three numbers at once. The root.
-#[tactic(auto, using(shared_tree::proofs::Changes::length_changed))]
+#[tactic(auto, using(tree_nodes::proofs::Changes::length_changed))]
 fn set_two<L: Ledger>(
     alloc: Global,
     list: &mut PackedList,

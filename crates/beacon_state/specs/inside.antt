@@ -1,4 +1,2 @@
 pub mod Changes
-pub mod Differences
-pub mod Groups
 pub mod Plain

@@ -5,12 +5,11 @@ ghost use Rattle.std.specs.List.{list_all};
 ghost use Rattle.std.specs.Option.{option_map};
 ghost use Rattle.spec_state.specs.Genesis.{is_genesis_header as is_header, is_zero_checkpoint as is_zero, validator_fault as fault_of, validators_fault as first_fault, genesis_fault};
 
-use crate::numbers::Numbers;
 use crate::state::State;
-use crate::values::Values;
 use bc_preset::constants::FAR_FUTURE_EPOCH;
 use beacon_body::empty_body_root;
 use beacon_types::{BeaconBlockHeader, Checkpoint, Validator};
+use state_parts::{Numbers, Values};
 use spec_state::{GenesisFault, ValidatorFault};
 
 /// Whether the header is that of an empty block of slot 0.

@@ -3,20 +3,11 @@
 //! Bytes come from the genesis file; contracts see a `State` as the plain record of its 21 fields and its preset.
 #![tactic(auto)]
 
-mod both;
-mod building;
-mod differences;
 mod genesis;
-mod groups;
-mod in_range;
 mod lookups;
-mod numbers;
-mod parts;
 mod reading;
-mod rooted;
 mod roots;
 mod state;
-mod values;
 mod writing;
 
 pub use genesis::genesis_check;

@@ -12,16 +12,14 @@ mod lists;
 mod setters;
 mod whole;
 
-use crate::both::both;
-use crate::building::{lists_built, pending_built, registry_built, vectors_built};
-use crate::numbers::Numbers;
-use crate::rooted::Rooted;
-use crate::values::Values;
 use bc_preset::Preset;
 use bc_words::NoMemory;
 use beacon_types::{BeaconBlockHeader, Checkpoint, Eth1Data, Fork, PendingAttestation, Validator};
 use hash_tree::Root;
 use spec_state::PlainState;
+use state_parts::{
+    Numbers, Rooted, Values, both, lists_built, pending_built, registry_built, vectors_built,
+};
 use std::marker::Model;
 
 /// A state of the beacon chain (beacon-chain.md, "BeaconState"), whose lists are within the limits of its preset.

@@ -5,7 +5,7 @@ ghost use Rattle.ssz_codec.specs.Layout.{fixed_length};
 ghost use Rattle.ssz_codec.specs.Containers.{layout_of, parts_of};
 ghost use Rattle.ssz_codec.specs.inside.Halves.{with_parts};
 ghost use Rattle.spec_state.specs.States.{state_fields, state_codec};
-ghost use Rattle.beacon_state.specs.inside.Groups.{clock_fields, history_fields, eth1_fields, registry_fields, pending_fields, finality_fields, clock_of, history_of, eth1_of, registry_of, pending_of, finality_of};
+ghost use Rattle.state_parts.specs.inside.Groups.{clock_fields, history_fields, eth1_fields, registry_fields, pending_fields, finality_fields, clock_of, history_of, eth1_of, registry_of, pending_of, finality_of};
 ghost use Rattle.spec_state.specs.Limits.{IsState};
 ghost use Rattle.bc_preset.specs.Presets.{IsPreset};
 ghost use Rattle.bc_preset.specs.declared.presets.Preset.{Preset};
@@ -18,7 +18,7 @@ use bc_words::NoMemory;
 use ssz_codec::PartsWriter;
 use std::alloc::Global;
 
-#[tactic(auto, unfolding(crate::specs::inside::Groups::clock_fields))]
+#[tactic(auto, unfolding(state_parts::specs::inside::Groups::clock_fields))]
 fn add_clock(s: &State, out: &mut PartsWriter) -> Result<(), NoMemory>
     ensures { OnOk result (out.new ≡ with_parts (layout_of clock_fields) (parts_of clock_fields (clock_of s.now)) out.old) }
 {
@@ -30,7 +30,7 @@ fn add_clock(s: &State, out: &mut PartsWriter) -> Result<(), NoMemory>
     Ok(())
 }
 
-#[tactic(auto, unfolding(crate::specs::inside::Groups::history_fields))]
+#[tactic(auto, unfolding(state_parts::specs::inside::Groups::history_fields))]
 fn add_history(alloc: Global, s: &State, out: &mut PartsWriter) -> Result<(), NoMemory>
     ensures { OnOk result (out.new ≡ with_parts (layout_of (history_fields s.now.preset)) (parts_of (history_fields s.now.preset) (history_of s.now)) out.old) }
 {
@@ -40,7 +40,7 @@ fn add_history(alloc: Global, s: &State, out: &mut PartsWriter) -> Result<(), No
     Ok(())
 }
 
-#[tactic(auto, unfolding(crate::specs::inside::Groups::eth1_fields))]
+#[tactic(auto, unfolding(state_parts::specs::inside::Groups::eth1_fields))]
 fn add_eth1(alloc: Global, s: &State, out: &mut PartsWriter) -> Result<(), NoMemory>
     ensures { OnOk result (out.new ≡ with_parts (layout_of (eth1_fields s.now.preset)) (parts_of (eth1_fields s.now.preset) (eth1_of s.now)) out.old) }
 {
@@ -50,7 +50,7 @@ fn add_eth1(alloc: Global, s: &State, out: &mut PartsWriter) -> Result<(), NoMem
     Ok(())
 }
 
-#[tactic(auto, unfolding(crate::specs::inside::Groups::registry_fields))]
+#[tactic(auto, unfolding(state_parts::specs::inside::Groups::registry_fields))]
 fn add_registry(alloc: Global, s: &State, out: &mut PartsWriter) -> Result<(), NoMemory>
     ensures { OnOk result (out.new ≡ with_parts (layout_of (registry_fields s.now.preset)) (parts_of (registry_fields s.now.preset) (registry_of s.now)) out.old) }
 {
@@ -61,7 +61,7 @@ fn add_registry(alloc: Global, s: &State, out: &mut PartsWriter) -> Result<(), N
     Ok(())
 }
 
-#[tactic(auto, unfolding(crate::specs::inside::Groups::pending_fields), using(bc_preset::proofs::Bounds::preset_bounds))]
+#[tactic(auto, unfolding(state_parts::specs::inside::Groups::pending_fields), using(bc_preset::proofs::Bounds::preset_bounds))]
 fn add_pending(alloc: Global, s: &State, out: &mut PartsWriter) -> Result<(), NoMemory>
     ensures { OnOk result (out.new ≡ with_parts (layout_of (pending_fields s.now.preset)) (parts_of (pending_fields s.now.preset) (pending_of s.now)) out.old) }
 {
@@ -71,7 +71,7 @@ fn add_pending(alloc: Global, s: &State, out: &mut PartsWriter) -> Result<(), No
     Ok(())
 }
 
-#[tactic(auto, unfolding(crate::specs::inside::Groups::finality_fields))]
+#[tactic(auto, unfolding(state_parts::specs::inside::Groups::finality_fields))]
 fn add_finality(s: &State, out: &mut PartsWriter) -> Result<(), NoMemory>
     ensures { OnOk result (out.new ≡ with_parts (layout_of finality_fields) (parts_of finality_fields (finality_of s.now)) out.old) }
 {
@@ -95,7 +95,7 @@ pub fn shortest_state(preset: &Preset) -> u64
 }
 
 /// Writes each of the 21 fields.
-#[tactic(auto, unfolding(spec_state::specs::States::state_fields, crate::specs::inside::Groups::clock_fields, crate::specs::inside::Groups::history_fields, crate::specs::inside::Groups::eth1_fields, crate::specs::inside::Groups::registry_fields, crate::specs::inside::Groups::pending_fields, crate::specs::inside::Groups::finality_fields))]
+#[tactic(auto, unfolding(spec_state::specs::States::state_fields, state_parts::specs::inside::Groups::clock_fields, state_parts::specs::inside::Groups::history_fields, state_parts::specs::inside::Groups::eth1_fields, state_parts::specs::inside::Groups::registry_fields, state_parts::specs::inside::Groups::pending_fields, state_parts::specs::inside::Groups::finality_fields))]
 fn write_fields(alloc: Global, s: &State, out: &mut PartsWriter) -> Result<(), NoMemory>
     ensures { OnOk result (out.new ≡ with_parts (layout_of (state_fields s.now.preset)) (parts_of (state_fields s.now.preset) s.now) out.old) }
 {

@@ -1,6 +1,6 @@
 -- A change of each place of a list.
 use Rattle.std.proofs.Common.{◌≡◌, ℕ, suc, ◌+◌, ◌<◌, ◌≤◌, List, [], ◌∷◌, ◌++◌, arith}
-use Rattle.shared_tree.specs.Lists.{AreChanges}
+use Rattle.tree_nodes.specs.Changes.{AreChanges}
 
 more_places : {A : Type 0} (lowest i : ℕ) (changes : List (ℕ × A)) (v : A) → lowest ≤ i → AreChanges lowest i changes → AreChanges lowest (i + 1) (changes ++ (i, v) ∷ [])
 more_places lowest i [] v h are = (h, omega arith, tt)

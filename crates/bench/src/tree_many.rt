@@ -1,7 +1,7 @@
 //! Every place of a list of 262,144 items set at once, against making the list of these items anew.
 
 ghost use Rattle.std.specs.Prelude.{◌≡◌, ◌<◌, ◌≤◌, ◌^◌, length, IfOk};
-ghost use Rattle.shared_tree.specs.Lists.{AreChanges};
+ghost use Rattle.tree_nodes.specs.Changes.{AreChanges};
 
 use crate::ratio::{Ratio, time_since};
 use anyhow::Result;

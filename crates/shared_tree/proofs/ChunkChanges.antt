@@ -4,12 +4,12 @@ use Rattle.std.specs.Prelude.{slice_get, slice_set, Some}
 use Rattle.std.specs.List.{AllByRecursion}
 use Rattle.std.proofs.lemmas.List.{set-set}
 use Rattle.shared_tree.specs.declared.four.Four.{Four}
-use Rattle.shared_tree.specs.Lists.{AreChanges, changed}
+use Rattle.tree_nodes.specs.Changes.{AreChanges, changed}
 use Rattle.shared_tree.specs.inside.Fours.{packed}
-use Rattle.shared_tree.proofs.Changes.{changed_last, length_changed}
-use Rattle.shared_tree.proofs.Many.{all_before, weaker}
+use Rattle.tree_nodes.proofs.Changes.{changed_last, length_changed}
+use Rattle.tree_nodes.proofs.Many.{all_before, weaker}
 use Rattle.shared_tree.proofs.Packing.{length_packed, put_among, put_below}
-use Rattle.shared_tree.proofs.Puts.{put_set}
+use Rattle.tree_nodes.proofs.Puts.{put_set}
 
 module _ {A : Type 0} where
   get_same : (xs : List A) (i : ℕ) (v : A) → i < length xs → slice_get (slice_set xs i v) i ≡ Some v
@@ -66,14 +66,6 @@ module _ {A : Type 0} where
         ap (λ (l : List A). slice_get l k) now ∙ get_same (changed xs front) k f (omega (arith, length_changed xs front)),
         (λ g. sym (ap (λ (l : List A). slice_set l k g) now ∙ set-set (changed xs front) k f g)),
       )
-
-  pub take_next : (xs : List A) (k : ℕ) (y : A) (ys : List A) → drop k xs ≡ y ∷ ys → take (k + 1) xs ≡ take k xs ++ y ∷ []
-  take_next [] zero y ys e = absurd (omega (arith, ap length e))
-  take_next [] (suc k) y ys e = absurd (omega (arith, ap length e))
-  take_next (x ∷ xs) zero y ys e = ap (λ (l : List A). take 1 l) e
-  take_next (x ∷ xs) (suc k) y ys e =
-      let more : suc k + 1 ≡ suc (k + 1) = omega arith in
-      ap (λ (n : ℕ). take n (x ∷ xs)) more ∙ ap (λ (l : List A). x ∷ l) (take_next xs k y ys e)
 
   pub wider : (len more : ℕ) (cs : List (ℕ × A)) → len ≤ more → AreChanges 0 len cs → AreChanges 0 more cs
   wider len more cs h are = weaker 0 0 len more cs (omega arith) h are

@@ -1,13 +1,5 @@
-pub mod Puts
-pub mod Pairs
 pub mod Keeps
-pub mod Changes
 pub mod Packing
 pub mod Packs
-pub mod Many
-pub mod Walks
 pub mod ChunkChanges
-pub mod Climbs
-pub mod Every
-pub mod Plans
-pub mod NewLeaves
+pub mod Turns

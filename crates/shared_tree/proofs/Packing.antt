@@ -7,7 +7,7 @@ use Rattle.hash_tree.specs.Merkle.{merkle_root, u64_chunks, u64_bytes, u64s_byte
 use Rattle.hash_tree.proofs.Chunks.{length-u64s_bytes}
 use Rattle.shared_tree.specs.declared.four.Four.{Four}
 use Rattle.shared_tree.specs.inside.Fours.{four, first_four, packed, numbers_in}
-use Rattle.shared_tree.specs.inside.Puts.{put_at}
+use Rattle.tree_nodes.specs.inside.Puts.{put_at}
 
 pub packed_first : (xs : List ℕ) → 0 < length xs → packed xs ≡ first_four xs ∷ packed (drop 4 xs)
 unfolding packed

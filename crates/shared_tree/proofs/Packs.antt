@@ -8,8 +8,8 @@ use Rattle.shared_tree.specs.declared.four.Four.{Four}
 use Rattle.shared_tree.specs.Lists.{Limited}
 use Rattle.shared_tree.specs.inside.Fours.{packed, numbers_in}
 use Rattle.shared_tree.specs.inside.Kept.{IsPacked}
-use Rattle.shared_tree.specs.inside.Puts.{put_at}
-use Rattle.shared_tree.proofs.Puts.{length_put}
+use Rattle.tree_nodes.specs.inside.Puts.{put_at}
+use Rattle.tree_nodes.proofs.Puts.{length_put}
 use Rattle.shared_tree.proofs.Packing.{unpacked, packed_roots, put_below}
 
 -- the root of numbers in a tree of their chunks

@@ -1,8 +1,3 @@
 pub mod Fours
 pub mod Kept
-pub mod Layers
-pub mod Lifts
-pub mod Nodes
-pub mod Plans
-pub mod Puts
-pub mod Walks
+pub mod Turns

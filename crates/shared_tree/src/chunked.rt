@@ -6,13 +6,13 @@ ghost use Rattle.std.specs.Prelude.{◌≡◌, ℕ, ◌+◌, ◌/◌, ◌<◌, �
 ghost use Rattle.std.specs.List.{AllByRecursion};
 ghost use Rattle.ssz_codec.specs.Basic.{uint64};
 ghost use Rattle.shared_tree.specs.declared.four.Four.{Four};
-ghost use Rattle.shared_tree.specs.Lists.{AreChanges, changed};
+ghost use Rattle.tree_nodes.specs.Changes.{AreChanges, changed};
 ghost use Rattle.shared_tree.specs.inside.Fours.{packed, numbers_in};
 
 use crate::four::{Four, chunk_at};
-use crate::put::reaches;
-use crate::taking::next_of;
-use crate::tree::Tree;
+use tree_nodes::reaches;
+use tree_nodes::next_of;
+use tree_nodes::Tree;
 use bc_words::NoMemory;
 use std::alloc::Global;
 

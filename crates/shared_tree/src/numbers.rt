@@ -5,11 +5,11 @@
 ghost use Rattle.std.specs.Prelude.{◌≡◌};
 ghost use Rattle.std.specs.Iterator.{YieldsFirst, item_count};
 ghost use Rattle.shared_tree.specs.inside.Fours.{numbers_in};
-ghost use Rattle.shared_tree.specs.inside.Walks.{Turns};
+ghost use Rattle.shared_tree.specs.inside.Turns.{Turns};
 
 use crate::four::Four;
-use crate::iter::Iter;
-use crate::tree::Tree;
+use tree_nodes::Iter;
+use tree_nodes::Tree;
 use std::marker::Model;
 
 /// The numbers of a list in order. Contracts see what is left of them.
@@ -25,7 +25,7 @@ impl<'a> Model for Numbers<'a> {
 
     ghost Value = { List ℕ };
 
-    ghost use Rattle.shared_tree.specs.inside.Walks.{numbers_left};
+    ghost use Rattle.shared_tree.specs.inside.Turns.{numbers_left};
 
     ghost view = { λ walk. numbers_left walk.left walk.rest.now walk.chunks };
 }

@@ -7,11 +7,11 @@ ghost use Rattle.std.specs.Prelude.{◌≡◌, ◌+◌, ◌*◌, ◌<◌, ◌≤
 ghost use Rattle.std.specs.Option.{option_map};
 ghost use Rattle.bc_words.specs.Outcome.{Pushes, Becomes, checked_push};
 ghost use Rattle.hash_tree.specs.Merkle.{merkleize, mix_in_length as mixed_in, depth_of as depth_for};
-ghost use Rattle.shared_tree.specs.Lists.{AreChanges, changed};
+ghost use Rattle.tree_nodes.specs.Changes.{AreChanges, changed};
 
-use crate::iter::Iter;
-use crate::tree::Tree;
-use crate::work::mix_step;
+use tree_nodes::Iter;
+use tree_nodes::Tree;
+use tree_nodes::mix_step;
 use bc_words::{NoMemory, PushStop, Steps};
 use hash_tree::{Leaf, Root, depth_of, mix_in_length};
 use std::marker::Model;

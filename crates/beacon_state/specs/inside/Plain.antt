@@ -2,6 +2,7 @@
 use Rattle.std.specs.Prelude.{◌≡◌, ℕ, List}
 use Rattle.std.specs.Option.{IfSome}
 use Rattle.shared_tree.specs.Lists.{Limited}
+use Rattle.state_parts.specs.inside.Lists.{limited_to}
 use Rattle.spec_state.specs.States.{state_codec, votes_limit, attestations_limit}
 use Rattle.spec_state.specs.Limits.{IsState}
 use Rattle.beacon_types.specs.declared.eth1_data.Eth1Data.{Eth1Data}
@@ -35,10 +36,6 @@ plain_of s = record {
   current_justified_checkpoint = s.current_justified_checkpoint;
   finalized_checkpoint = s.finalized_checkpoint;
 }
-
--- a list of which there may be so many
-abbrev pub limited_to : {A : Type 0} → ℕ → List A → Limited A
-limited_to limit items = record { limit = limit; items = items }
 
 -- it is a state, each list has the limit of the preset, each vector its length, and a root that is kept is the state's
 pub record IsHeld (s : Inside) : Type 0 where

@@ -7,15 +7,13 @@ ghost use Rattle.beacon_types.specs.Containers.{fork_codec, eth1_data_codec, che
 ghost use Rattle.spec_state.specs.Limits.{IsState, IsInRange};
 
 use super::State;
-use crate::in_range::{
-    bits_in_range, checkpoint_in_range, eth1_data_in_range, fork_in_range, header_in_range,
-    root_in_range,
-};
-use crate::numbers::Numbers;
-use crate::values::Values;
 use beacon_types::{Eth1Data, PendingAttestation, Validator};
 use hash_tree::Root;
 use shared_tree::{PackedList, SharedList};
+use state_parts::{
+    Numbers, Values, bits_in_range, checkpoint_in_range, eth1_data_in_range, fork_in_range,
+    header_in_range, root_in_range,
+};
 
 impl State {
     /// The roots of the latest blocks.

@@ -10,10 +10,10 @@ ghost use Rattle.beacon_state.specs.inside.Changes.{one_more_previous_attestatio
 ghost use Rattle.beacon_state.specs.inside.Changes.{with_previous_attestation_at, with_current_attestation_at, with_rotated_attestations};
 
 use super::State;
-use crate::rooted::Rooted;
 use bc_words::{NoMemory, PushStop};
 use beacon_types::{BeaconBlockHeader, Checkpoint, Eth1Data, Fork, PendingAttestation, Validator};
 use hash_tree::Root;
+use state_parts::Rooted;
 use std::mem;
 
 impl State {

@@ -1,22 +1,11 @@
--- What trees and lists keep beside their nodes.
-use Rattle.std.specs.Prelude.{◌≡◌, ℕ, ◌+◌, ◌*◌, ◌≤◌, ◌^◌, List, length, map}
+-- What lists keep beside their trees.
+use Rattle.std.specs.Prelude.{◌≡◌, ℕ, ◌≤◌, ◌^◌, List, length, map}
 use Rattle.std.specs.List.{AllByRecursion}
-use Rattle.hash_tree.specs.Merkle.{merkle_root, merkleize, mix_in_length, depth_of}
+use Rattle.hash_tree.specs.Merkle.{merkleize, mix_in_length, depth_of}
 use Rattle.ssz_codec.specs.Basic.{uint64}
 use Rattle.ssz_codec.specs.Lists.{leaf_count, list_codec}
 use Rattle.shared_tree.specs.declared.four.Four.{Four}
 use Rattle.shared_tree.specs.inside.Fours.{packed, numbers_in}
-
--- a tree of a depth, by the smallest that has room for its items, and its root
-pub record IsTree {T : Type 0} (root_of : T → List ℕ) (node : ℕ × List T) (low depth len : ℕ) (top : List ℕ) : Type 0 where
-  pub node_depth : node.0 ≡ low
-  pub order : low ≤ depth
-  pub deep : depth ≤ 40
-  pub len_is : len ≡ length node.1
-  pub room : len ≤ 2 ^ low
-  pub least : 2 ^ low ≤ 2 * len + 1
-  pub fits : len ≤ 2 ^ depth
-  pub top_is : top ≡ merkle_root depth (map root_of node.1)
 
 -- a list of values, by its tree
 pub record IsKept {T : Type 0} (root_of : T → List ℕ) (tree : ℕ × List T) (limit : ℕ) (root : List ℕ) : Type 0 where

@@ -1,5 +1,5 @@
 -- A change of each place so far.
-use Rattle.shared_tree.specs.Lists.{AreChanges}
+use Rattle.tree_nodes.specs.Changes.{AreChanges}
 use Rattle.bench.proofs.tree_many.validator_changes.Given as goal
 
 abbrev pub invariant-loop-i : goal.invariant-loop-i

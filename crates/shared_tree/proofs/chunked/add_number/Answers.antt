@@ -1,6 +1,6 @@
 -- The chunk with the number is changed behind the others.
 use Rattle.std.proofs.Common.{ℕ, ◌+◌, ◌/◌, List, sym, subst, arith}
-use Rattle.shared_tree.specs.Lists.{AreChanges}
+use Rattle.tree_nodes.specs.Changes.{AreChanges}
 use Rattle.shared_tree.proofs.ChunkChanges.{more_places, add_facts}
 use Rattle.shared_tree.proofs.chunked.add_number.Goals as goal
 

@@ -5,11 +5,12 @@ use Rattle.std.specs.List.{AllByRecursion}
 use Rattle.std.specs.Vec.Iter.{into_iter_items}
 use Rattle.std.proofs.lemmas.List.{take_all}
 use Rattle.ssz_codec.specs.Basic.{uint64}
-use Rattle.shared_tree.specs.Lists.{AreChanges, changed}
+use Rattle.tree_nodes.specs.Changes.{AreChanges, changed}
 use Rattle.shared_tree.specs.inside.Fours.{packed, numbers_in}
-use Rattle.shared_tree.proofs.Changes.{changed_none, length_changed}
-use Rattle.shared_tree.proofs.ChunkChanges.{changed_push, more_places, take_next, wider, set_below}
-use Rattle.shared_tree.proofs.Climbs.{drop_next}
+use Rattle.tree_nodes.proofs.Changes.{changed_none, length_changed}
+use Rattle.shared_tree.proofs.ChunkChanges.{changed_push, more_places, wider, set_below}
+use Rattle.tree_nodes.proofs.Climbs.{take_next}
+use Rattle.tree_nodes.proofs.Climbs.{drop_next}
 use Rattle.shared_tree.proofs.Packing.{length_packed}
 use Rattle.shared_tree.proofs.chunked.chunk_changes.Goals as goal
 

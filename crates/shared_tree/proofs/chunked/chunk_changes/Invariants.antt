@@ -3,7 +3,7 @@ use Rattle.std.proofs.Common.{◌≡◌, ◌+◌, ◌/◌, ◌≤◌, length, ta
 use Rattle.std.specs.List.{AllByRecursion}
 use Rattle.std.specs.Vec.Iter.{into_iter_items}
 use Rattle.ssz_codec.specs.Basic.{uint64}
-use Rattle.shared_tree.specs.Lists.{AreChanges, changed}
+use Rattle.tree_nodes.specs.Changes.{AreChanges, changed}
 use Rattle.shared_tree.specs.inside.Fours.{packed, numbers_in}
 use Rattle.shared_tree.proofs.chunked.chunk_changes.Given as goal
 

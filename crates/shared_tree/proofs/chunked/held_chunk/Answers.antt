@@ -1,7 +1,7 @@
 -- The chunk of the last change, or that of the tree.
 use Rattle.std.proofs.Common.{◌+◌, Bool, subst, ◌∙◌}
-use Rattle.shared_tree.specs.inside.Puts.{Reaches}
-use Rattle.shared_tree.proofs.Many.{unreached}
+use Rattle.tree_nodes.specs.inside.Puts.{Reaches}
+use Rattle.tree_nodes.proofs.Many.{unreached}
 use Rattle.shared_tree.proofs.ChunkChanges.{held_facts, untouched}
 use Rattle.shared_tree.proofs.chunked.held_chunk.Goals as goal
 

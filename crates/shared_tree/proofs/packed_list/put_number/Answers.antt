@@ -4,7 +4,7 @@ use Rattle.std.specs.Prelude.{slice_get}
 use Rattle.bc_words.specs.Outcome.{Becomes}
 use Rattle.shared_tree.specs.declared.four.Four.{Four}
 use Rattle.shared_tree.specs.inside.Fours.{packed, numbers_in}
-use Rattle.shared_tree.specs.inside.Puts.{put_at}
+use Rattle.tree_nodes.specs.inside.Puts.{put_at}
 use Rattle.shared_tree.proofs.Packing.{chunk_behind, put_among, put_behind}
 use Rattle.shared_tree.proofs.packed_list.put_number.Goals as goal
 

@@ -1,6 +1,6 @@
 -- The numbers of all chunks are left.
 use Rattle.std.proofs.Common.{refl}
-use Rattle.shared_tree.proofs.Walks.{numbers_all}
+use Rattle.shared_tree.proofs.Turns.{numbers_all}
 use Rattle.shared_tree.proofs.numbers.Numbers.over.Goals as goal
 
 pub returns : goal.returns

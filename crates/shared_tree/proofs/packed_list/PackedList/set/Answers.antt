@@ -3,8 +3,8 @@ use Rattle.std.proofs.Common.{ℕ, ap, ◌∙◌, arith, length, ◌<◌}
 use Rattle.std.specs.Prelude.{slice_set}
 use Rattle.shared_tree.specs.Lists.{Limited}
 use Rattle.shared_tree.specs.inside.Fours.{numbers_in}
-use Rattle.shared_tree.specs.inside.Puts.{put_at}
-use Rattle.shared_tree.proofs.Puts.{put_set}
+use Rattle.tree_nodes.specs.inside.Puts.{put_at}
+use Rattle.tree_nodes.proofs.Puts.{put_set}
 use Rattle.shared_tree.proofs.Keeps.{seen_after}
 use Rattle.shared_tree.proofs.Packs.{packed_put, numbers_put}
 use Rattle.shared_tree.proofs.packed_list.PackedList.set.Goals as goal

@@ -3,8 +3,9 @@ use Rattle.std.proofs.Common.{◌≡◌, ℕ, ◌+◌, ◌*◌, ◌/◌, ◌≤�
 use Rattle.hash_tree.specs.Merkle.{depth_of}
 use Rattle.ssz_codec.specs.Basic.{uint64}
 use Rattle.ssz_codec.specs.Lists.{leaf_count}
-use Rattle.shared_tree.specs.Lists.{Limited, changed}
-use Rattle.shared_tree.proofs.Changes.{length_changed}
+use Rattle.shared_tree.specs.Lists.{Limited}
+use Rattle.tree_nodes.specs.Changes.{changed}
+use Rattle.tree_nodes.proofs.Changes.{length_changed}
 use Rattle.shared_tree.specs.inside.Fours.{numbers_in}
 use Rattle.shared_tree.proofs.Keeps.{seen_after, fewer_items}
 use Rattle.shared_tree.proofs.Packing.{length_packed, unpacked}

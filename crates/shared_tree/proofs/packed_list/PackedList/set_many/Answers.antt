@@ -6,7 +6,7 @@ use Rattle.hash_tree.specs.Merkle.{depth_of}
 use Rattle.ssz_codec.specs.Basic.{uint64}
 use Rattle.ssz_codec.specs.Lists.{leaf_count}
 use Rattle.shared_tree.specs.Lists.{Limited}
-use Rattle.shared_tree.proofs.Every.{every_set}
+use Rattle.tree_nodes.proofs.Every.{every_set}
 use Rattle.shared_tree.proofs.packed_list.PackedList.set_many.Goals as goal
 
 pub returns-then-len-self-clause-set : goal.returns-then-len-self-clause-set

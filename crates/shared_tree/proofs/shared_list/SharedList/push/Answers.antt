@@ -1,8 +1,8 @@
 -- The list with one item more, where there is room.
 use Rattle.std.proofs.Common.{refl, ap, arith, length, ◌≡◌, ◌+◌, max}
-use Rattle.shared_tree.specs.inside.Puts.{put_at}
+use Rattle.tree_nodes.specs.inside.Puts.{put_at}
 use Rattle.shared_tree.proofs.Keeps.{kept_after, push_value, push_full}
-use Rattle.shared_tree.proofs.Puts.{length_put}
+use Rattle.tree_nodes.proofs.Puts.{length_put}
 use Rattle.shared_tree.proofs.shared_list.SharedList.push.Goals as goal
 
 pub returns-then-len-self-clause-pushes : goal.returns-then-len-self-clause-pushes

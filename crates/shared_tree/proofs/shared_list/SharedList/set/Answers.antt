@@ -2,9 +2,9 @@
 use Rattle.std.proofs.Common.{◌≡◌, ◌<◌, ◌+◌, ℕ, List, length, max, ap, ◌∙◌, arith}
 use Rattle.std.specs.Prelude.{slice_set}
 use Rattle.shared_tree.specs.Lists.{Limited}
-use Rattle.shared_tree.specs.inside.Puts.{put_at}
+use Rattle.tree_nodes.specs.inside.Puts.{put_at}
 use Rattle.shared_tree.proofs.Keeps.{kept_after, seen_after}
-use Rattle.shared_tree.proofs.Puts.{length_put, put_set}
+use Rattle.tree_nodes.proofs.Puts.{length_put, put_set}
 use Rattle.shared_tree.proofs.shared_list.SharedList.set.Goals as goal
 
 pub invariant_of-self-2 : goal.invariant_of-self-2

@@ -1,8 +1,8 @@
 -- The list with each change made.
 use Rattle.std.proofs.Common.{ℕ, List, length, ap, ◌∙◌, arith}
-use Rattle.shared_tree.specs.Lists.{changed}
+use Rattle.tree_nodes.specs.Changes.{changed}
 use Rattle.shared_tree.proofs.Keeps.{kept_after}
-use Rattle.shared_tree.proofs.Changes.{length_changed}
+use Rattle.tree_nodes.proofs.Changes.{length_changed}
 use Rattle.shared_tree.proofs.shared_list.SharedList.set_many.Goals as goal
 
 pub invariant_of-self-2 : goal.invariant_of-self-2

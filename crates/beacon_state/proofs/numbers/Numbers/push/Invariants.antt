@@ -1,5 +1,0 @@
-use Rattle.beacon_state.proofs.numbers.Numbers.push.Given as goal
-
--- the ledger is the one of the blank
-abbrev pub ghosts-push_number : goal.ghosts-push_number
-ghosts-push_number a = record { name = a.blank.name; parts = a.blank.parts }

@@ -1,4 +1,0 @@
-use Rattle.shared_tree.proofs.iter.+enter.Given as goal
-
-abbrev pub decreases-enter : goal.decreases-enter
-decreases-enter g l = l.from

@@ -1,4 +1,0 @@
-use Rattle.shared_tree.proofs.plan.+plan_many.Given as goal
-
-abbrev pub decreases-plan_many : goal.decreases-plan_many
-decreases-plan_many g l = l.depth

@@ -1,4 +1,0 @@
-use Rattle.shared_tree.proofs.several.+settle.Given as goal
-
-abbrev pub decreases-settle : goal.decreases-settle
-decreases-settle g l = l.depth

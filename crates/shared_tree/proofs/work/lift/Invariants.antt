@@ -1,7 +1,0 @@
--- The root so far stands for the same chunks.
-use Rattle.std.proofs.Common.{◌≤◌}
-use Rattle.shared_tree.specs.inside.Lifts.{Lifts}
-use Rattle.shared_tree.proofs.work.lift.Given as goal
-
-abbrev pub invariant-levels : goal.invariant-levels
-invariant-levels l = record { from : l.low ≤ l.level; lifts : Lifts l.low l.level l.fn.root l.top }

@@ -1,0 +1,4 @@
+pub mod Regrouped
+pub mod PartsOfGroups
+pub mod Within
+pub mod Differing

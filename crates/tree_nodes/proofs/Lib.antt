@@ -1,0 +1,10 @@
+pub mod Puts
+pub mod Pairs
+pub mod Changes
+pub mod Keeps
+pub mod Many
+pub mod Walks
+pub mod Climbs
+pub mod Every
+pub mod Plans
+pub mod NewLeaves
