@@ -25,7 +25,6 @@ use std::marker::Model;
 use std::sync::ledger::Ledger;
 
 /// Contracts see a tree as its depth and its items.
-#[derive(Drop)]
 pub struct Tree<T: Leaf + Drop> {
     node: Node<T>,
     low: u32,
@@ -33,6 +32,21 @@ pub struct Tree<T: Leaf + Drop> {
     len: u64,
     top: Root,
     alloc: Global,
+}
+
+// Written by hand, so that a call that lets a tree go is one call, wherever it stands.
+impl<T: Leaf + Drop> Drop for Tree<T> {
+    fn drop(self) {
+        let Tree {
+            node,
+            low: _,
+            depth: _,
+            len: _,
+            top: _,
+            alloc: _,
+        } = self;
+        drop(node);
+    }
 }
 
 impl<T: Leaf + Drop> Model for Tree<T> {
