@@ -14,7 +14,6 @@ use ssz_codec::{
 use std::alloc::Global;
 
 /// A vote with the members of a committee that cast it (beacon-chain.md, "Attestation").
-#[derive(Drop)]
 pub struct Attestation {
     /// Which members of the committee attested.
     pub aggregation_bits: AggregationBits,
@@ -22,6 +21,18 @@ pub struct Attestation {
     pub content: AttestationData,
     /// The signature, which is kept and not checked.
     pub signature: [u8; 96],
+}
+
+// Written by hand, so that a call that lets one go is one call, and not one for each of its lists.
+impl Drop for Attestation {
+    fn drop(self) {
+        let Attestation {
+            aggregation_bits,
+            content: _,
+            signature: _,
+        } = self;
+        drop(aggregation_bits);
+    }
 }
 
 impl Attestation {

@@ -14,12 +14,20 @@ use ssz_codec::{
 use std::alloc::Global;
 
 /// Two votes for which those who cast both are slashed (beacon-chain.md, "AttesterSlashing").
-#[derive(Drop)]
 pub struct AttesterSlashing {
     /// One vote.
     pub attestation_1: IndexedAttestation,
     /// The other.
     pub attestation_2: IndexedAttestation,
+}
+
+// Written by hand, so that a call that lets one go is one call, and not one for each of its lists.
+impl Drop for AttesterSlashing {
+    fn drop(self) {
+        let AttesterSlashing { attestation_1, attestation_2 } = self;
+        drop(attestation_1);
+        drop(attestation_2);
+    }
 }
 
 impl AttesterSlashing {

@@ -13,7 +13,6 @@ use ssz_codec::{
 use std::alloc::Global;
 
 /// A block (beacon-chain.md, "BeaconBlock").
-#[derive(Drop)]
 pub struct BeaconBlock {
     /// Its slot.
     pub slot: u64,
@@ -25,6 +24,20 @@ pub struct BeaconBlock {
     pub state_root: Root,
     /// What it carries.
     pub body: BeaconBlockBody,
+}
+
+// Written by hand, so that a call that lets one go is one call, and not one for each of its lists.
+impl Drop for BeaconBlock {
+    fn drop(self) {
+        let BeaconBlock {
+            slot: _,
+            proposer_index: _,
+            parent_root: _,
+            state_root: _,
+            body,
+        } = self;
+        drop(body);
+    }
 }
 
 impl BeaconBlock {

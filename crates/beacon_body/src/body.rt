@@ -37,7 +37,6 @@ pub type Deposits = LimitedList<Deposit, DepositsLimit>;
 pub type VoluntaryExits = LimitedList<SignedVoluntaryExit, VoluntaryExitsLimit>;
 
 /// The body of a block (beacon-chain.md, "BeaconBlockBody").
-#[derive(Drop)]
 pub struct BeaconBlockBody {
     /// The signature that the randao mix takes in, which is not checked.
     pub randao_reveal: [u8; 96],
@@ -55,6 +54,27 @@ pub struct BeaconBlockBody {
     pub deposits: Deposits,
     /// The exits.
     pub voluntary_exits: VoluntaryExits,
+}
+
+// Written by hand, so that a call that lets one go is one call, and not one for each of its lists.
+impl Drop for BeaconBlockBody {
+    fn drop(self) {
+        let BeaconBlockBody {
+            randao_reveal: _,
+            eth1_data: _,
+            graffiti: _,
+            proposer_slashings,
+            attester_slashings,
+            attestations,
+            deposits,
+            voluntary_exits,
+        } = self;
+        drop(proposer_slashings);
+        drop(attester_slashings);
+        drop(attestations);
+        drop(deposits);
+        drop(voluntary_exits);
+    }
 }
 
 impl BeaconBlockBody {

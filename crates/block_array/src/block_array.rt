@@ -33,11 +33,24 @@ use std::marker::Model;
 use std::sync::ledger::Ledger;
 
 /// Nodes in order of arrival with the votes for them. Contracts see the plain array.
-#[derive(Drop)]
 pub struct BlockArray {
     inputs: Inputs,
     tally: Tally,
     ranks: Vec<Rank>,
+}
+
+// Written by hand, so that a call that lets one go is one call, and not one for each of its lists.
+impl Drop for BlockArray {
+    fn drop(self) {
+        let BlockArray {
+            inputs,
+            tally,
+            ranks,
+        } = self;
+        drop(inputs);
+        drop(tally);
+        drop(ranks);
+    }
 }
 
 impl Model for BlockArray {

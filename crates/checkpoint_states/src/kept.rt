@@ -71,9 +71,16 @@ impl CheckpointState {
 }
 
 /// Kept states of checkpoints. Clauses see the list of them.
-#[derive(Drop)]
 pub struct CheckpointStates {
     items: Vec<CheckpointState>,
+}
+
+// Written by hand, so that a call that lets one go is one call, and not one for each of its lists.
+impl Drop for CheckpointStates {
+    fn drop(self) {
+        let CheckpointStates { items } = self;
+        drop(items);
+    }
 }
 
 impl Model for CheckpointStates {

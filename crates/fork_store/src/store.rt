@@ -27,12 +27,27 @@ use store_parts::ready_balances::ReadyBalances;
 use store_parts::store_fields::StoreFields;
 
 /// The store. Contracts see the plain store, and beside it the array and the keeper, which are always those of the plain store.
-#[derive(Drop)]
 pub struct Store {
     pub(crate) fields: StoreFields,
     pub(crate) array: BlockArray,
     pub(crate) keeper: Keeper<ChainStepper>,
     pub(crate) ready: Option<ReadyBalances>,
+}
+
+// Written by hand, so that a call that lets one go is one call, and not one for each of its lists.
+impl Drop for Store {
+    fn drop(self) {
+        let Store {
+            fields,
+            array,
+            keeper,
+            ready,
+        } = self;
+        drop(fields);
+        drop(array);
+        drop(keeper);
+        drop(ready);
+    }
 }
 
 impl Model for Store {

@@ -27,12 +27,26 @@ const CACHED: usize = 32;
 
 /// The states behind kept blocks, each of which is behind its parent by a step. Contracts see the list of blocks, each with its
 /// parent's number and the state that it stands for, whichever states are held.
-#[derive(Drop)]
 pub struct Keeper<P: Stepper> {
     stepper: P,
     entries: Vec<Entry<P::Block, State>>,
     cache: LruCache<u32, State>,
     alloc: Global,
+}
+
+// Written by hand, so that a call that lets one go is one call, and not one for each of its lists.
+impl<P: Stepper> Drop for Keeper<P> {
+    fn drop(self) {
+        let Keeper {
+            stepper,
+            entries,
+            cache,
+            alloc: _,
+        } = self;
+        drop(stepper);
+        drop(entries);
+        drop(cache);
+    }
 }
 
 impl<P: Stepper> Model for Keeper<P> {

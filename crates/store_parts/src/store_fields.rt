@@ -35,7 +35,6 @@ use std::snapshot::Snapshot;
 /// The blocks and the states behind them are kept in the keeper alone, and the latest votes in the array of nodes alone. What is
 /// here of them is the keeper as it was when a block was last kept, and the array as it was when votes were last taken, which only
 /// clauses read.
-#[derive(Drop)]
 pub struct StoreFields {
     config: Config,
     time: u64,
@@ -47,6 +46,28 @@ pub struct StoreFields {
     blocks: KeptBlocks,
     voted: Option<Snapshot<BlockArray>>,
     states: CheckpointStates,
+}
+
+// Written by hand, so that a call that lets one go is one call, and not one for each of its lists.
+impl Drop for StoreFields {
+    fn drop(self) {
+        let StoreFields {
+            config,
+            time: _,
+            genesis_time: _,
+            justified: _,
+            finalized: _,
+            best_justified: _,
+            boost_root: _,
+            blocks,
+            voted,
+            states,
+        } = self;
+        drop(config);
+        drop(blocks);
+        drop(voted);
+        drop(states);
+    }
 }
 
 impl Model for StoreFields {
