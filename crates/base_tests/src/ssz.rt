@@ -17,16 +17,24 @@ fn taken(cut: &mut Cut, n: usize) -> usize {
     }
 }
 
+/// Whether pieces are taken one behind another, where they are there.
+fn pieces_follow(bytes: &[u8]) -> bool {
+    let mut cut = Cut::new(bytes);
+    taken(&mut cut, 2) == 2 && taken(&mut cut, 4) == 99 && taken(&mut cut, 3) == 3
+}
+
+/// Whether bytes are cut at offsets that rise from the first one to their end at most.
+fn parts_follow(bytes: &[u8]) -> bool {
+    Cut::parts(bytes, 2, &[2, 4]).is_some()
+        && Cut::parts(bytes, 2, &[3, 4]).is_none()
+        && Cut::parts(bytes, 2, &[2, 6]).is_none()
+}
+
 #[test]
 fn pieces_of_bytes(rt: HostRuntime) {
     let bytes = [1, 2, 3, 4, 5];
-    let mut cut = Cut::new(&bytes);
-    assert_eq!(rt; taken(&mut cut, 2), 2);
-    assert_eq!(rt; taken(&mut cut, 4), 99);
-    assert_eq!(rt; taken(&mut cut, 3), 3);
-    assert!(rt; Cut::parts(&bytes, 2, &[2, 4]).is_some());
-    assert!(rt; Cut::parts(&bytes, 2, &[3, 4]).is_none());
-    assert!(rt; Cut::parts(&bytes, 2, &[2, 6]).is_none());
+    assert!(rt; pieces_follow(&bytes));
+    assert!(rt; parts_follow(&bytes));
 }
 
 /// Whether these bits are written so.

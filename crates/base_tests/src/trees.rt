@@ -8,7 +8,6 @@ use hash_tree::{Root, merkle_leaves, merkle_u64, mix_in_length};
 use shared_tree::{PackedList, SharedList, set_after_share};
 use std::alloc::Global;
 use std::marker::Brand;
-use std::process::Abort;
 use std::sync::ledger::{Blank, Ledger};
 use std::test::Fail;
 
@@ -54,35 +53,61 @@ fn push_last<L: Ledger>(
     Ok(matches!(list.push(15, steps), Err(PushStop::Full)))
 }
 
-/// A list of thirteen, of at most fourteen: three items set one by one, nine set layer by layer, one set behind a share, and one more.
-fn items_change<L: Ledger>(
-    rt: &(impl AllocGlobal + Abort),
+/// Whether three items that are set one by one give their root.
+fn few_are_set<L: Ledger>(
+    alloc: Global,
     list: &mut SharedList<u64>,
     steps: &mut Steps<L>,
-) -> Result<(), Fail>
+) -> Result<bool, NoMemory>
+    requires { length list.old.items ≡ 13 }
+    ensures { OnOk result (length list.new.items ≡ 13) }
+{
+    let few = set_some(alloc, list, &[(0, 6), (3, 7), (4, 8)], steps)?;
+    Ok(few == root_of(&[6, 2, 3, 7, 8, 6, 7, 8, 9, 10, 11, 12, 13]))
+}
+
+/// Nine changes, which are made layer by layer.
+const NINE: [(u64, u64); 9] = [
+    (0, 20),
+    (1, 21),
+    (2, 22),
+    (4, 23),
+    (5, 24),
+    (6, 25),
+    (9, 26),
+    (10, 27),
+    (11, 28),
+];
+
+/// Whether nine items that are set at once give their root, and another one behind a share leaves the other list alone.
+fn many_are_set<L: Ledger>(
+    alloc: Global,
+    list: &mut SharedList<u64>,
+    steps: &mut Steps<L>,
+) -> Result<bool, NoMemory>
     requires { length list.old.items ≡ 13 }
 {
-    let few = set_some(rt.alloc(), list, &[(0, 6), (3, 7), (4, 8)], steps)?;
-    assert_eq!(rt; few, root_of(&[6, 2, 3, 7, 8, 6, 7, 8, 9, 10, 11, 12, 13]));
-    let changes = [
-        (0, 20),
-        (1, 21),
-        (2, 22),
-        (4, 23),
-        (5, 24),
-        (6, 25),
-        (9, 26),
-        (10, 27),
-        (11, 28),
-    ];
+    let many = set_some(alloc, list, &NINE, steps)?;
+    let shared = set_shared(list, steps)?;
     let before = root_of(&[20, 21, 22, 7, 23, 24, 25, 8, 9, 26, 27, 28, 13]);
-    assert_eq!(rt; set_some(rt.alloc(), list, &changes, steps)?, before);
     let set = root_of(&[20, 5, 22, 7, 23, 24, 25, 8, 9, 26, 27, 28, 13]);
-    assert_eq!(rt; set_shared(list, steps)?, (set, before, Some(21)));
-    assert!(rt; push_last(list, steps)?);
+    Ok(many == before && shared == (set, before, Some(21)))
+}
+
+/// Whether a list of thirteen, of at most fourteen, has the roots of its items: three items set one by one, nine set layer by
+/// layer, one set behind a share, and one more.
+fn items_change<L: Ledger>(
+    alloc: Global,
+    list: &mut SharedList<u64>,
+    steps: &mut Steps<L>,
+) -> Result<bool, PushStop>
+    requires { length list.old.items ≡ 13 }
+{
+    let few = few_are_set(alloc, list, steps)?;
+    let many = many_are_set(alloc, list, steps)?;
+    let full = push_last(list, steps)?;
     let pushed = root_of(&[20, 5, 22, 7, 23, 24, 25, 8, 9, 26, 27, 28, 13, 14]);
-    assert_eq!(rt; list.root(), pushed);
-    Ok(())
+    Ok(few && many && full && list.root() == pushed)
 }
 
 /// Sets two of three numbers at once. The root.
@@ -107,64 +132,63 @@ fn push_two<L: Ledger>(list: &mut PackedList, steps: &mut Steps<L>) -> Result<bo
     Ok(matches!(list.push(8, steps), Err(PushStop::Full)))
 }
 
-/// A list of three numbers, of at most five: two set at once, one set, and two pushed.
-fn numbers_change<L: Ledger>(
-    rt: &(impl AllocGlobal + Abort),
+/// Whether two of three numbers that are set at once, and then one, give their roots.
+fn numbers_are_set<L: Ledger>(
+    alloc: Global,
     list: &mut PackedList,
     steps: &mut Steps<L>,
-) -> Result<(), Fail>
+) -> Result<bool, NoMemory>
     requires { length list.old.items ≡ 3 }
 {
-    let many = mix_in_length(&merkle_u64(&[6, 2, 7], 1), 3);
-    assert_eq!(rt; set_two(rt.alloc(), list, steps)?, many);
+    let many = set_two(alloc, list, steps)?;
     list.set(1, u64::MAX, steps)?;
-    assert_eq!(rt;
-        list.root(),
-        mix_in_length(&merkle_u64(&[6, u64::MAX, 7], 1), 3)
-    );
-    assert!(rt; push_two(list, steps)?);
+    let both = mix_in_length(&merkle_u64(&[6, 2, 7], 1), 3);
+    let one = mix_in_length(&merkle_u64(&[6, u64::MAX, 7], 1), 3);
+    Ok(many == both && list.root() == one)
+}
+
+/// Whether a list of three numbers, of at most five, has the roots of its numbers: two set at once, one set, and two pushed.
+fn numbers_change<L: Ledger>(
+    alloc: Global,
+    list: &mut PackedList,
+    steps: &mut Steps<L>,
+) -> Result<bool, PushStop>
+    requires { length list.old.items ≡ 3 }
+{
+    let set = numbers_are_set(alloc, list, steps)?;
+    let full = push_two(list, steps)?;
     let pushed = mix_in_length(&merkle_u64(&[6, u64::MAX, 7, 4, 5], 1), 5);
-    assert_eq!(rt; list.root(), pushed);
-    assert_eq!(rt; list.get(1), Some(u64::MAX));
-    Ok(())
+    Ok(set && full && list.root() == pushed && list.get(1) == Some(u64::MAX))
 }
 
-/// A list of thirteen, and its changes.
-fn list_changes<L: Ledger>(
-    rt: &(impl AllocGlobal + Abort),
-    steps: &mut Steps<L>,
-) -> Result<(), Fail> {
-    let items = vec![in rt.alloc(); 1, 2, 3, 4, 5, 6, 7, 8, 9, 10, 11, 12, 13]?;
-    match SharedList::<u64>::from_vec(items, 14) {
-        Ok(mut list) => items_change(rt, &mut list, steps),
-        Err(refused) => Err(refused.into()),
-    }
+/// Whether a list of thirteen changes well.
+fn list_changes<L: Ledger>(alloc: Global, steps: &mut Steps<L>) -> Result<bool, PushStop> {
+    let items = vec![in alloc; 1, 2, 3, 4, 5, 6, 7, 8, 9, 10, 11, 12, 13]?;
+    let mut list = SharedList::<u64>::from_vec(items, 14)?;
+    items_change(alloc, &mut list, steps)
 }
 
-/// A list of three numbers, and its changes.
-fn packed_list_changes<L: Ledger>(
-    rt: &(impl AllocGlobal + Abort),
-    steps: &mut Steps<L>,
-) -> Result<(), Fail> {
-    let numbers = vec![in rt.alloc(); 1, 2, 3]?;
-    match PackedList::from_vec(numbers, 5) {
-        Ok(mut list) => numbers_change(rt, &mut list, steps),
-        Err(refused) => Err(refused.into()),
-    }
+/// Whether a list of three numbers changes well.
+fn packed_list_changes<L: Ledger>(alloc: Global, steps: &mut Steps<L>) -> Result<bool, PushStop> {
+    let numbers = vec![in alloc; 1, 2, 3]?;
+    let mut list = PackedList::from_vec(numbers, 5)?;
+    numbers_change(alloc, &mut list, steps)
 }
 
-/// Both kinds of lists.
-fn lists_change<L: Ledger>(rt: &(impl AllocGlobal + Abort), blank: Blank) -> Result<(), Fail>
+/// Whether both kinds of lists do.
+fn lists_change<L: Ledger>(alloc: Global, blank: Blank) -> Result<bool, PushStop>
     requires name { blank.name ≡ L.name }
     requires parts { blank.parts ≡ L.parts }
     requires some { 0 < blank.parts }
 {
     let mut steps = Steps::<L>::new(blank);
-    list_changes(rt, &mut steps)?;
-    packed_list_changes(rt, &mut steps)
+    let values = list_changes(alloc, &mut steps)?;
+    let numbers = packed_list_changes(alloc, &mut steps)?;
+    Ok(values && numbers)
 }
 
 #[test]
 fn lists_have_the_roots_of_their_items(rt: HostRuntime) -> Result<(), Fail> {
-    lists_change::<Brand>(&rt, Blank::new(1))
+    assert!(rt; lists_change::<Brand>(rt.alloc(), Blank::new(1))?);
+    Ok(())
 }
