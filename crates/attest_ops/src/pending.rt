@@ -2,6 +2,7 @@
 
 ghost use Rattle.std.specs.Prelude.{◌≡◌, ◌^◌, ◌≤◌, IfOk};
 ghost use Rattle.bc_words.specs.Outcome.{Changes};
+ghost use Rattle.beacon_types.specs.Equality.{same_checkpoint};
 ghost use Rattle.spec_state.specs.States.{attestations_limit};
 ghost use Rattle.attest_ops.specs.inside.Pending.{full_or_empty, with_current_attested, with_previous_attested, with_attested, pending_of};
 
@@ -9,7 +10,7 @@ use balance_totals::current_epoch;
 use bc_words::{NoMemory, Refusal, Stop};
 use beacon_body::Attestation;
 use beacon_state::State;
-use beacon_types::{PendingAttestation, same_checkpoint};
+use beacon_types::{Checkpoint, PendingAttestation, same_checkpoint};
 
 /// How many attestations a list may have.
 #[tactic(auto, using(bc_preset::proofs::Bounds::preset_bounds))]
@@ -49,15 +50,19 @@ pub(crate) fn pending_of(
     })
 }
 
+/// Whether a source is the justified checkpoint of the current epoch.
+fn is_current_source(state: &State, source: &Checkpoint) -> bool
+    ensures { result ≡ same_checkpoint source.now state.now.current_justified_checkpoint }
+{
+    same_checkpoint(source, &state.current_justified_checkpoint())
+}
+
 /// Puts an attestation into the list of the current epoch, where its source is right, there is room, and somebody attested.
 #[tactic(auto, unfolding(crate::specs::inside::Pending::with_current_attested, spec_blocks::specs::ProcessAttestation::with_current_pending, bc_words::specs::Outcome::checked_push))]
 fn push_current(state: &mut State, pending: PendingAttestation, attested: bool) -> Result<(), Stop>
     ensures { Changes result state.old state.new (with_current_attested state.old pending attested) }
 {
-    if !same_checkpoint(
-        &pending.content.source,
-        &state.current_justified_checkpoint(),
-    ) {
+    if !is_current_source(state, &pending.content.source) {
         return Err(Stop::Refused(Refusal::AtSource));
     }
     if !attested {
@@ -69,15 +74,19 @@ fn push_current(state: &mut State, pending: PendingAttestation, attested: bool) 
     Ok(())
 }
 
+/// Whether a source is the justified checkpoint of the previous epoch.
+fn is_previous_source(state: &State, source: &Checkpoint) -> bool
+    ensures { result ≡ same_checkpoint source.now state.now.previous_justified_checkpoint }
+{
+    same_checkpoint(source, &state.previous_justified_checkpoint())
+}
+
 /// The same with the list of the previous epoch.
 #[tactic(auto, unfolding(crate::specs::inside::Pending::with_previous_attested, spec_blocks::specs::ProcessAttestation::with_previous_pending, bc_words::specs::Outcome::checked_push))]
 fn push_previous(state: &mut State, pending: PendingAttestation, attested: bool) -> Result<(), Stop>
     ensures { Changes result state.old state.new (with_previous_attested state.old pending attested) }
 {
-    if !same_checkpoint(
-        &pending.content.source,
-        &state.previous_justified_checkpoint(),
-    ) {
+    if !is_previous_source(state, &pending.content.source) {
         return Err(Stop::Refused(Refusal::AtSource));
     }
     if !attested {

@@ -1,2 +1,3 @@
 -- Words of this crate's own contracts.
+pub mod Paid
 pub mod Slashed

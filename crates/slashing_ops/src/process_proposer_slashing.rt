@@ -1,7 +1,10 @@
 //! The slashing of a proposer of two blocks (beacon-chain.md, "Proposer slashings").
 
-ghost use Rattle.bc_words.specs.Outcome.{Changes};
-ghost use Rattle.spec_blocks.specs.ProcessProposerSlashing.{process_proposer_slashing};
+ghost use Rattle.std.specs.Prelude.{not};
+ghost use Rattle.bc_words.specs.Outcome.{Changes, GivesExactly};
+ghost use Rattle.bc_words.specs.declared.refusal.Refusal.TheVariants.{PsSame};
+ghost use Rattle.spec_blocks.specs.Checks.{check};
+ghost use Rattle.spec_blocks.specs.ProcessProposerSlashing.{same_header, process_proposer_slashing};
 
 use crate::is_slashable_validator::is_slashable;
 use crate::slash_validator::slash;
@@ -10,6 +13,17 @@ use bc_preset::Config;
 use bc_words::{Refusal, Stop};
 use beacon_body::ProposerSlashing;
 use beacon_state::State;
+use beacon_types::BeaconBlockHeader;
+
+/// Refused where the two headers are equal.
+fn check_differ(header_1: &BeaconBlockHeader, header_2: &BeaconBlockHeader) -> Result<(), Stop>
+    ensures { GivesExactly result (check (not (same_header header_1.now header_2.now)) PsSame) }
+{
+    if header_1 == header_2 {
+        return Err(Stop::Refused(Refusal::PsSame));
+    }
+    Ok(())
+}
 
 /// Slashes a validator that proposed two different blocks in one slot, for the block's proposer. The signatures aren't
 /// checked.
@@ -33,9 +47,7 @@ pub fn process_proposer_slashing(
     if header_1.proposer_index != header_2.proposer_index {
         return Err(Stop::Refused(Refusal::PsProposers));
     }
-    if header_1 == header_2 {
-        return Err(Stop::Refused(Refusal::PsSame));
-    }
+    check_differ(header_1, header_2)?;
     let index = header_1.proposer_index;
     let validator = validator_at(state, index)?;
     if !is_slashable(&validator, current_epoch(state)) {

@@ -3,6 +3,7 @@
 ghost use Rattle.std.specs.Prelude.{◌≡◌, ◌%◌};
 ghost use Rattle.bc_words.specs.Outcome.{Changes, Moves};
 ghost use Rattle.spec_blocks.specs.SlashValidator.{mark_slashed, slash_validator};
+ghost use Rattle.slashing_ops.specs.inside.Paid.{paid};
 
 use crate::decrease_balance::decrease_balance_of;
 use crate::increase_balance::increase_balance_of;
@@ -44,8 +45,23 @@ fn mark_slashed(state: &mut State, index: u64, config: &Config) -> Result<(), St
     Ok(())
 }
 
+/// The validator loses a part of its effective balance, and the proposer gains one. It leaves anything in the state after a stop.
+#[tactic(auto, unfolding(crate::specs::inside::Paid::paid), using(bc_preset::proofs::Bounds::preset_bounds))]
+fn pay(state: &mut State, index: u64, proposer: u64, effective_balance: u64) -> Result<(), Stop>
+    ensures { Moves result state.new (paid state.old index proposer effective_balance) }
+{
+    let preset = state.preset();
+    let penalty = effective_balance / preset.min_slashing_penalty_quotient;
+    let whistleblower_reward = effective_balance / preset.whistleblower_reward_quotient;
+    let proposer_reward = whistleblower_reward / preset.proposer_reward_quotient;
+    decrease_balance_of(state, index, penalty)?;
+    increase_balance_of(state, proposer, proposer_reward)?;
+    let rest = checked_sub(whistleblower_reward, proposer_reward)?;
+    increase_balance_of(state, proposer, rest)
+}
+
 /// Slashes the validator, and leaves anything in the state after a stop.
-#[tactic(auto, unfolding(spec_blocks::specs::SlashValidator::slash_validator), using(bc_preset::proofs::Bounds::preset_bounds))]
+#[tactic(auto, unfolding(spec_blocks::specs::SlashValidator::slash_validator, crate::specs::inside::Paid::paid))]
 pub(crate) fn slash_in_place(
     state: &mut State,
     index: u64,
@@ -56,14 +72,7 @@ pub(crate) fn slash_in_place(
 {
     mark_slashed(state, index, config)?;
     let effective_balance = validator_at(state, index)?.effective_balance;
-    let preset = state.preset();
-    let penalty = effective_balance / preset.min_slashing_penalty_quotient;
-    let whistleblower_reward = effective_balance / preset.whistleblower_reward_quotient;
-    let proposer_reward = whistleblower_reward / preset.proposer_reward_quotient;
-    decrease_balance_of(state, index, penalty)?;
-    increase_balance_of(state, proposer, proposer_reward)?;
-    let rest = checked_sub(whistleblower_reward, proposer_reward)?;
-    increase_balance_of(state, proposer, rest)
+    pay(state, index, proposer, effective_balance)
 }
 
 /// Slashes the validator with an index: it leaves, loses a part of its effective balance, and the block's proposer gains

@@ -1,5 +1,5 @@
 -- What is read is the entry of the block to which the step goes.
-use Rattle.std.proofs.Common.{arith}
+use Rattle.std.proofs.Common.{arith, rules}
 use Rattle.std.proofs.lemmas.Option.{slice_get_within}
 use Rattle.state_keeper.proofs.Ancestors.{can_read, step_read, step_stands}
 use Rattle.state_keeper.proofs.Made.{not_refused, not_limited}
@@ -22,3 +22,9 @@ unreachable-requires-in-Err-Limit g c = not_limited c.in-Err-Limit.field-0 _ c.r
 
 pub offset_bounds-entries-n : goal.offset_bounds-entries-n
 offset_bounds-entries-n g c = let less = slice_get_within c.args.entries.now c.args.n c.requires.entry c.requires.there in omega arith
+
+pub returns-in-Ok-clause-steps : goal.returns-in-Ok-clause-steps
+returns-in-Ok-clause-steps g c = search rules
+
+pub returns-in-Err-NoMemory-clause-steps : goal.returns-in-Err-NoMemory-clause-steps
+returns-in-Err-NoMemory-clause-steps g c = search rules
