@@ -79,8 +79,14 @@ impl<F: Read + Drop> DiskFile<F> {
         ensures left { ReadConsumes self.old.left self.new.left result into.new }
         ensures tries { Tries result faults.old faults.new }
     {
-        self.bytes.reserve(into.len())?;
-        let n = patience::read(&mut self.reader, into, faults, cause)?;
+        match self.bytes.reserve(into.len()) {
+            Ok(()) => {}
+            Err(_refused) => return Err(Trouble::NoMemory),
+        }
+        let n = match patience::read(&mut self.reader, into, faults, cause) {
+            Ok(n) => n,
+            Err(trouble) => return Err(trouble),
+        };
         see(&mut self.bytes, &into[..n]);
         self.grew = self.grew || self.ended && n > 0;
         self.ended = self.ended || n == 0 && !into.is_empty();
@@ -255,8 +261,14 @@ impl<W: Write> StdSink<W> {
         ensures appends { WriteAppends self.old.contents self.new.contents result piece.now }
         ensures tries { Tries result self.old.faults self.new.faults }
     {
-        self.taken.reserve(piece.len())?;
-        let n = patience::write(&mut self.out, piece, &mut self.faults, &mut self.cause)?;
+        match self.taken.reserve(piece.len()) {
+            Ok(()) => {}
+            Err(_refused) => return Err(Trouble::NoMemory),
+        }
+        let n = match patience::write(&mut self.out, piece, &mut self.faults, &mut self.cause) {
+            Ok(n) => n,
+            Err(trouble) => return Err(trouble),
+        };
         see(&mut self.taken, &piece[..n]);
         self.lines = self.lines.saturating_add(line_feeds(&piece[..n]));
         Ok(n)

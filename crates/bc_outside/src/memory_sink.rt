@@ -72,9 +72,13 @@ impl MemorySink {
             return Err(Trouble::Failed);
         }
         let n = self.greatest.min(piece.len());
-        self.written.extend_from_slice(&piece[..n])?;
-        self.calls = call;
-        Ok(n)
+        match self.written.extend_from_slice(&piece[..n]) {
+            Ok(()) => {
+                self.calls = call;
+                Ok(n)
+            }
+            Err(_refused) => Err(Trouble::NoMemory),
+        }
     }
 }
 

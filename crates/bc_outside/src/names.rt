@@ -23,8 +23,10 @@ impl AskedName {
     pub fn new(alloc: Global, name: &str) -> Result<Self, AllocError>
         ensures { IfOk result (λ asked. asked ≡ name.now) }
     {
-        let bytes = Vec::from_slice(alloc, name.as_bytes())?;
-        Ok(AskedName { bytes })
+        match Vec::from_slice(alloc, name.as_bytes()) {
+            Ok(bytes) => Ok(AskedName { bytes }),
+            Err(refused) => Err(refused),
+        }
     }
 
     /// The bytes of the name.

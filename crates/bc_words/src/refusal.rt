@@ -6,8 +6,10 @@
 ghost use Rattle.std.specs.Prelude.{◌≡◌};
 ghost use Rattle.bc_words.specs.Refusals.{number_of, name_of};
 
+use std::fmt::{Debug, Formatter, Result, Write};
+
 /// The first check that failed. Each has a number from 1 to 45, in the order that is listed here.
-#[derive(Clone, Copy, Debug, PartialEq, Eq)]
+#[derive(Clone, Copy, PartialEq, Eq)]
 pub enum Refusal {
     /// A tick's time is before the store's time.
     TickBack = 1,
@@ -162,5 +164,11 @@ impl Refusal {
             Refusal::FcBitsShort => "FcBitsShort",
             Refusal::FcEmpty => "FcEmpty",
         }
+    }
+}
+
+impl Debug for Refusal {
+    fn fmt<W: Write>(&self, f: &mut Formatter<W>) -> Result {
+        f.write_str(self.name())
     }
 }

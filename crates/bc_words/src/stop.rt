@@ -6,6 +6,7 @@ ghost use Rattle.std.specs.Prelude.{◌≡◌};
 
 use crate::refusal::Refusal;
 use std::alloc::{AllocError, AllocFailed};
+use std::fmt::{self, Formatter, Write};
 use thiserror::Error;
 
 /// A bound of this program that an event reached.
@@ -19,20 +20,20 @@ pub enum Limit {
 
 /// Memory was refused. What was lent to the call is as before it.
 #[derive(Clone, Copy, Debug, PartialEq, Eq, Error)]
-#[error("out of memory")]
+#[error(fmt = out_of_memory)]
 pub struct NoMemory;
 
 /// Why a step of the state transition gives no value.
 #[derive(Clone, Copy, Debug, PartialEq, Eq, Error)]
 pub enum Stop {
     /// The first check that failed.
-    #[error("refused: {0:?}")]
+    #[error(fmt = refused)]
     Refused(Refusal),
     /// A bound of this program.
-    #[error("limit: {0:?}")]
+    #[error(fmt = limited)]
     Limit(Limit),
     /// Memory was refused.
-    #[error("out of memory")]
+    #[error(fmt = out_of_memory)]
     NoMemory,
 }
 
@@ -43,8 +44,23 @@ pub enum PushStop {
     #[error("the list is full")]
     Full,
     /// Memory was refused.
-    #[error("out of memory")]
+    #[error(fmt = out_of_memory)]
     NoMemory,
+}
+
+/// Writes that a check failed.
+pub(crate) fn refused<W: Write>(why: &Refusal, f: &mut Formatter<W>) -> fmt::Result {
+    write!(f, "refused: {why:?}")
+}
+
+/// Writes that a bound of this program was reached.
+pub(crate) fn limited<W: Write>(bound: &Limit, f: &mut Formatter<W>) -> fmt::Result {
+    write!(f, "limit: {bound:?}")
+}
+
+/// Writes that memory was refused.
+pub(crate) fn out_of_memory<W: Write>(f: &mut Formatter<W>) -> fmt::Result {
+    f.write_str("out of memory")
 }
 
 impl From<AllocError> for NoMemory {

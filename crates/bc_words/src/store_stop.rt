@@ -5,7 +5,7 @@
 ghost use Rattle.std.specs.Prelude.{◌≡◌};
 
 use crate::refusal::Refusal;
-use crate::stop::{Limit, NoMemory, Stop};
+use crate::stop::{Limit, NoMemory, Stop, limited, out_of_memory, refused};
 use std::alloc::{AllocError, AllocFailed};
 use thiserror::Error;
 
@@ -25,16 +25,16 @@ pub enum ClashKind {
 #[derive(Clone, Copy, Debug, PartialEq, Eq, Error)]
 pub enum StoreStop {
     /// The first check that failed.
-    #[error("refused: {0:?}")]
+    #[error(fmt = refused)]
     Refused(Refusal),
     /// A bound of this program.
-    #[error("limit: {0:?}")]
+    #[error(fmt = limited)]
     Limit(Limit),
     /// The block would be accepted, and its root is no name for it alone.
     #[error("clash: {0:?}")]
     Clash(ClashKind),
     /// Memory was refused.
-    #[error("out of memory")]
+    #[error(fmt = out_of_memory)]
     NoMemory,
 }
 

@@ -9,7 +9,7 @@ use crate::limits::CommitteeLimit;
 use bc_words::NoMemory;
 use hash_tree::{Leaf, Root};
 use ssz_codec::{
-    Field, ListValue, NumberList, Offset, Ssz, SszFault, VariableSsz, Writer, read_container,
+    Field, NumberList, Offset, Ssz, SszFault, VariableSsz, Writer, read_container,
     root_of_container, write_pieces,
 };
 use std::alloc::Global;
@@ -95,14 +95,4 @@ impl VariableSsz for IndexedAttestation {
     }
 
     ghost is_variable = { refl };
-}
-
-impl ListValue for IndexedAttestation {
-    fn copied(&self) -> Result<IndexedAttestation, NoMemory> {
-        self.copy()
-    }
-
-    fn same(&self, other: &IndexedAttestation) -> bool {
-        self.equals(other)
-    }
 }

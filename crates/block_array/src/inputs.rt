@@ -237,8 +237,10 @@ impl Inputs {
         ensures message_room { OnOk result (places ≤ self.new.message_room) }
         ensures changed_room { OnOk result (places ≤ self.new.changed_room) }
     {
-        make_room(&mut self.messages, places)?;
-        make_room(&mut self.changed, places)
+        match make_room(&mut self.messages, places) {
+            Ok(()) => make_room(&mut self.changed, places),
+            Err(refused) => Err(refused),
+        }
     }
 
     /// Takes so much to be spare. There is room for it.

@@ -11,10 +11,13 @@ pub(crate) fn make_room<T: Drop>(items: &mut Vec<T>, places: usize) -> Result<()
     ensures room { OnOk result (places ≤ vec_capacity items.new) }
 {
     let len = items.len();
-    if len < places {
-        items.reserve(places - len)?;
+    if places <= len {
+        return Ok(());
     }
-    Ok(())
+    match items.reserve(places - len) {
+        Ok(()) => Ok(()),
+        Err(_refused) => Err(NoMemory),
+    }
 }
 
 /// Puts an item behind the others. There is room for it.

@@ -28,9 +28,13 @@ pub(crate) fn grow_nodes(
     ensures ranks_room { OnOk result (length inputs.old.array.nodes + 1 ≤ vec_capacity ranks.new) }
 {
     let places = inputs.nodes().len() + 1;
-    inputs.reserve_nodes(places)?;
-    tally.reserve_nodes(places)?;
-    make_room(ranks, places)
+    match inputs.reserve_nodes(places) {
+        Ok(()) => match tally.reserve_nodes(places) {
+            Ok(()) => make_room(ranks, places),
+            Err(refused) => Err(refused),
+        },
+        Err(refused) => Err(refused),
+    }
 }
 
 /// Makes room for one node more, where none is spare.
@@ -77,8 +81,10 @@ pub(crate) fn grow_validators(
     if places > VALIDATOR_LIMIT {
         return Err(NoMemory);
     }
-    inputs.reserve_validators(places as usize)?;
-    tally.reserve_validators(places as usize)
+    match inputs.reserve_validators(places as usize) {
+        Ok(()) => tally.reserve_validators(places as usize),
+        Err(refused) => Err(refused),
+    }
 }
 
 /// Makes room for the vote of a validator, where its isn't spare.

@@ -51,13 +51,15 @@ impl Tally {
         ensures room { IfOk result (λ tally. 1 ≤ tally.node_room) }
     {
         let mut own = Vec::new(alloc);
-        own.push(0)?;
-        Ok(Tally {
-            own,
-            counted: Vec::new(alloc),
-            boosted_node: 0,
-            boost: 0,
-        })
+        match own.push(0) {
+            Ok(()) => Ok(Tally {
+                own,
+                counted: Vec::new(alloc),
+                boosted_node: 0,
+                boost: 0,
+            }),
+            Err(_refused) => Err(NoMemory),
+        }
     }
 
     /// What is counted at a node, in Gwei.

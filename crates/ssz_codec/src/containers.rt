@@ -7,9 +7,9 @@
 #[macro_export]
 macro_rules! read_container {
     ($alloc:ident, $bytes:ident, $name:ident { $($field:ident: $type:ty),+ $(,)? }) => {{
-        let fields = [$(<$type as $crate::Ssz>::field()),+];
-        let mut parts = [$($crate::bytes_of_field!($bytes, $field)),+];
-        match $crate::read_row($alloc, $bytes, &fields, &mut parts) {
+        let mut fields = [$($crate::place_of_field!($crate::Field::Variable, $field)),+];
+        let mut parts = [$($crate::place_of_field!($bytes, $field)),+];
+        match $crate::read_row::<$crate::row_type!($($type,)+)>($alloc, $bytes, &mut fields, &mut parts) {
             Ok(row) => {
                 let $crate::row_of!($($field)+) = row;
                 Ok($name { $($field),+ })
@@ -26,11 +26,18 @@ macro_rules! row_of {
     ($first:ident $($more:ident)*) => { ($first, $crate::row_of!($($more)*)) };
 }
 
-/// The bytes, once for each field.
+/// The type of a row of values of these types.
 #[macro_export]
-macro_rules! bytes_of_field {
-    ($bytes:ident, $field:ident) => {
-        $bytes
+macro_rules! row_type {
+    () => { () };
+    ($first:ty, $($more:ty,)*) => { ($first, $crate::row_type!($($more,)*)) };
+}
+
+/// What stands in the place of a field before it is looked at.
+#[macro_export]
+macro_rules! place_of_field {
+    ($place:expr, $field:ident) => {
+        $place
     };
 }
 

@@ -34,7 +34,7 @@ pub use number_list::NumberList;
 pub use parts_writer::{FieldRow, PartsWriter, append_fields};
 pub use pieces::{Cut, Parts};
 pub use root_vector::{RootVector, VectorLength};
-pub use roots::{list_root, number_list_root, number_vector_root, variable_list_root, vector_root};
+pub use roots::{list_root, number_list_root, variable_list_root, vector_root};
 pub use rows::{Offset, Piece, Pieces, Row, read_row};
 pub use ssz::{FixedSsz, Ssz, one_writing, reads_back};
 pub use variable_list::{VariableList, VariableSsz};

@@ -167,6 +167,22 @@ impl<'a, T: Ssz, R: FieldRow> FieldRow for (&'a T, R) {
     }
 }
 
+/// Adds the fields to what is written of a container, and all of it goes behind these bytes. Where memory is refused, a part
+/// of it may stand there.
+fn append_with<R: FieldRow>(
+    fields: &R,
+    parts: &mut PartsWriter,
+    out: &mut Writer,
+) -> Result<(), NoMemory>
+    ensures ok { OnOk result (out.new ≡ out.old ++ whole_of (R.adding fields.now parts.old)) }
+    ensures err { OnErr result (take (length out.old) out.new ≡ out.old) }
+{
+    match fields.add_to(parts) {
+        Ok(()) => parts.append_to(out),
+        Err(refused) => Err(refused),
+    }
+}
+
 /// Writes a container whose fixed part has that length. Where memory is refused, a part of it may stand there.
 pub fn append_fields<R: FieldRow>(
     fields: &R,
@@ -177,8 +193,5 @@ pub fn append_fields<R: FieldRow>(
     ensures err { OnErr result (take (length out.old) out.new ≡ out.old) }
 {
     let mut parts = PartsWriter::beside(out, fixed_length);
-    match fields.add_to(&mut parts) {
-        Ok(()) => parts.append_to(out),
-        Err(refused) => Err(refused),
-    }
+    append_with(fields, &mut parts, out)
 }

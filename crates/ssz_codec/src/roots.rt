@@ -66,16 +66,6 @@ pub fn variable_list_root<T: Ssz>(values: &[T], limit: u64) -> Root
     mix_in_length(&leaves_root(values, limit), values.len() as u64)
 }
 
-/// The root of a vector of so many numbers.
-#[tactic(auto, unfolding(hash_tree::specs::Merkle::u64s_bytes))]
-pub fn number_vector_root(numbers: &[u64], count: u64) -> Root
-    requires low { count ≤ 2 ^ 40 }
-    requires len { length numbers.now ≡ count }
-    ensures { result ≡ (vector_codec uint64 count).hash_tree_root numbers.now }
-{
-    numbers_root(numbers, count)
-}
-
 /// The root of a list of at most so many numbers.
 #[tactic(auto, unfolding(hash_tree::specs::Merkle::u64s_bytes))]
 pub fn number_list_root(numbers: &[u64], limit: u64) -> Root

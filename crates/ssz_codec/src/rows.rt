@@ -1,7 +1,7 @@
 //! The values of a container's fields, read or written one behind another. The parts come from cutting the container,
 //! and the values go into it; those that are written come from it.
 
-ghost use Rattle.std.specs.Prelude.{◌≡◌, ◌<◌, ◌^◌, ◌++◌, List, [], ℕ, Option, OnOk, OnErr, length, map, take};
+ghost use Rattle.std.specs.Prelude.{◌≡◌, ◌<◌, ◌^◌, ◌∷◌, ◌++◌, List, [], ℕ, Option, OnOk, OnErr, length, map, take};
 ghost use Rattle.ssz_codec.specs.Layout.{◌and_then◌, fixed_length, offset_bytes, cut as cut_of};
 ghost use Rattle.ssz_codec.specs.Reads.{ReadsAs};
 ghost use Rattle.ssz_codec.specs.inside.Rows.{nothing_read, read_before};
@@ -15,8 +15,19 @@ use std::alloc::Global;
 
 /// Values one behind another: a value and the others, or none.
 pub trait Row: Drop {
+    ghost use Rattle.ssz_codec.specs.declared.layout.Field.{Field};
+    ghost use Rattle.std.specs.Prelude.{List, ℕ, Option};
+
+    /// How the values stand in the fixed part of a container, in their order.
+    ghost layout: { List Field };
+
     /// The values that the parts have, one each.
     ghost reading: { List (List ℕ) → Option Self };
+
+    /// Notes how each value stands in the fixed part.
+    fn put_fields(fields: &mut [Field])
+        requires { length fields.old ≡ length layout }
+        ensures { fields.new ≡ layout };
 
     /// Reads a value of each part.
     fn read_parts(alloc: Global, parts: &[&[u8]]) -> Result<Self, SszFault>
@@ -24,7 +35,11 @@ pub trait Row: Drop {
 }
 
 impl Row for () {
+    ghost layout = { [] };
+
     ghost reading = { nothing_read };
+
+    fn put_fields(_fields: &mut [Field]) {}
 
     fn read_parts(_alloc: Global, parts: &[&[u8]]) -> Result<(), SszFault> {
         match parts {
@@ -35,7 +50,14 @@ impl Row for () {
 }
 
 impl<A: Ssz, R: Row> Row for (A, R) {
+    ghost layout = { A.codec.field ∷ R.layout };
+
     ghost reading = { read_before A.codec R.reading };
+
+    fn put_fields(fields: &mut [Field]) {
+        fields[0] = A::field();
+        R::put_fields(&mut fields[1..]);
+    }
 
     fn read_parts(alloc: Global, parts: &[&[u8]]) -> Result<(A, R), SszFault> {
         match parts {
@@ -54,17 +76,20 @@ impl<A: Ssz, R: Row> Row for (A, R) {
     }
 }
 
-/// Reads the values of the fields of a container. `parts` is what it is cut into.
+/// Reads the values of the fields of a container. `fields` and `parts` have a place for each: how it stands in the fixed
+/// part, and the bytes that the container is cut into for it.
 pub fn read_row<'a, R: Row>(
     alloc: Global,
     bytes: &'a [u8],
-    fields: &[Field],
+    fields: &mut [Field],
     parts: &mut [&'a [u8]],
 ) -> Result<R, SszFault>
-    requires same { length parts.old ≡ length fields.now }
-    requires room { fixed_length fields.now < 2 ^ 32 }
-    ensures { ReadsAs result (cut_of fields.now bytes.now and_then R.reading) }
+    requires fields { length fields.old ≡ length R.layout }
+    requires parts { length parts.old ≡ length R.layout }
+    requires room { fixed_length R.layout < 2 ^ 32 }
+    ensures { ReadsAs result (cut_of R.layout bytes.now and_then R.reading) }
 {
+    R::put_fields(fields);
     match cut(bytes, fields, parts) {
         Ok(()) => R::read_parts(alloc, parts),
         Err(fault) => Err(fault),
