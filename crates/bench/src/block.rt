@@ -3,7 +3,7 @@
 
 ghost use Rattle.std.specs.Prelude.{◌<◌};
 
-use crate::ratio::{Ratio, time_since};
+use crate::ratio::{Ratio, now, time_since};
 use crate::states::{put, put_vote};
 use anyhow::Result;
 use beacon_body::SignedBeaconBlock;
@@ -108,13 +108,13 @@ fn pass_over(bytes: &[u8]) -> u8 {
 /// Reads, roots, hashes, and prints both times.
 fn measure_bytes(rt: &(impl AllocGlobal + Print + CpuClock), bytes: &[u8]) -> Result<()> {
     let first = first_of_root(rt.alloc(), bytes).unwrap_or(0);
-    let begin = rt.process_cpu_time()?;
+    let begin = now(rt);
     let mut roots = 0;
     for _ in 0..TIMES {
         roots ^= first_of_root(rt.alloc(), bytes).unwrap_or(1);
     }
     let whole = time_since(rt, begin)?;
-    let middle = rt.process_cpu_time()?;
+    let middle = now(rt);
     let mut joined = 0;
     for _ in 0..TIMES {
         joined ^= pair_hashes() ^ pass_over(bytes);
