@@ -2,22 +2,17 @@
 #![tactic(auto)]
 
 mod events;
-mod explanation;
 mod genesis;
 mod head;
 mod law;
 mod lines;
-mod program;
-mod progress;
 mod reading;
 mod replay;
 mod status;
 mod top;
 mod words;
 
-pub use explanation::{Cause, Explanation};
 pub use law::runs_in_memory;
-pub use program::run;
-pub use progress::Progress;
 pub use status::Status;
 pub use top::beacon_main;
+pub use words::{ReplayFiles, replay_files};

@@ -2,7 +2,8 @@
 
 use bc_preset::ConfigFault;
 use bc_words::{ClashKind, Limit};
-use beacon_node::{Cause, Explanation, Status};
+use beacon_node::Status;
+use beacon_terminal::{Cause, Explanation};
 use record_file::RecordFault;
 use spec_state::GenesisFault;
 use std::alloc::{AllocError, Global};

@@ -1,20 +1,13 @@
 -- What a list keeps after a change.
-use Rattle.std.proofs.Common.{◌≡◌, ℕ, zero, suc, ◌+◌, ◌-◌, ◌*◌, ◌<◌, ◌≤◌, ◌^◌, inl, inr, List, [], ◌∷◌, ◌++◌, length, map, max, cond, sym, ap, ap₂, subst, ◌∙◌, arith}
-use Rattle.std.proofs.Math.Pow.{pow_mono}
-use Rattle.std.proofs.lemmas.Bool.{lt-ltb, le-ltb, cases_lt}
+use Rattle.std.proofs.Common.{◌≡◌, ℕ, ◌<◌, ◌≤◌, ◌^◌, List, [], ◌∷◌, ◌++◌, length, map, cond, sym, ap, ap₂, subst, ◌∙◌, arith}
+use Rattle.std.proofs.lemmas.Bool.{lt-ltb, le-ltb}
 use Rattle.bc_words.specs.Outcome.{done, refused, checked_push}
 use Rattle.bc_words.specs.declared.refusal.Refusal.TheVariants.{ListFull}
 use Rattle.hash_tree.specs.Merkle.{merkle_root, merkleize, mix_in_length, depth_of}
 use Rattle.shared_tree.specs.Lists.{Limited}
-use Rattle.tree_nodes.specs.Changes.{changed}
-use Rattle.shared_tree.specs.inside.Kept.{IsTree, IsKept}
-use Rattle.tree_nodes.specs.inside.Puts.{put_at, Grows}
-use Rattle.tree_nodes.specs.inside.Lifts.{Lifts}
-use Rattle.hash_tree.proofs.Halves.{width_halves}
-use Rattle.std.proofs.Math.Nat.{suc-mul}
-use Rattle.std.proofs.lemmas.List.{length-map}
-use Rattle.tree_nodes.proofs.Changes.{length_changed}
-use Rattle.tree_nodes.proofs.Puts.{put_push, length_put}
+use Rattle.shared_tree.specs.inside.Kept.{IsKept}
+use Rattle.tree_nodes.specs.inside.Puts.{put_at}
+use Rattle.tree_nodes.proofs.Puts.{put_push}
 
 -- a list after a change of its tree
 pub kept_after : {A : Type 0} (root_of : A → List ℕ) (tree new : ℕ × List A) (items : List A) (limit len : ℕ) (old_root root top : List ℕ) → IsKept root_of tree limit old_root → new ≡ (tree.0, items) → len ≡ length items → len ≤ limit → top ≡ merkle_root new.0 (map root_of new.1) → root ≡ mix_in_length top len → IsKept root_of new limit root

@@ -4,7 +4,7 @@ use Rattle.std.proofs.lemmas.List.{append-nil, append_assoc}
 use Rattle.std.proofs.lemmas.Bool.{ltb-true, not-false, false≢true}
 use Rattle.bc_words.specs.Outcome.{Outcome, done, refused, limited, Becomes}
 use Rattle.bc_words.specs.declared.stop.NoMemory.{NoMemory}
-use Rattle.beacon_state.proofs.Within.{all_push}
+use Rattle.state_parts.proofs.Within.{all_push}
 use Rattle.bc_preset.specs.declared.configuration.ConfigValues.{ConfigValues}
 use Rattle.beacon_body.specs.declared.signed_block.SignedBeaconBlock.{SignedBeaconBlock}
 use Rattle.spec_state.specs.declared.plain.PlainState.{PlainState}

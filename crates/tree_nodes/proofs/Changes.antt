@@ -1,9 +1,8 @@
 -- Changes made one after another, from the last one on.
-use Rattle.std.proofs.Common.{◌≡◌, ℕ, suc, ◌+◌, ◌*◌, ◌<◌, List, [], ◌∷◌, ◌++◌, length, refl, ap, ◌∙◌, arith}
+use Rattle.std.proofs.Common.{◌≡◌, ℕ, List, [], ◌∷◌, ◌++◌, length, refl, ap, ◌∙◌, arith}
 use Rattle.std.specs.Prelude.{slice_set}
 use Rattle.std.proofs.lemmas.List.{length-set}
-use Rattle.std.proofs.Math.Nat.{suc-mul}
-use Rattle.tree_nodes.specs.Changes.{AreChanges, changed}
+use Rattle.tree_nodes.specs.Changes.{changed}
 
 pub changed_last : {A : Type 0} (items : List A) (changes : List (ℕ × A)) (change : ℕ × A) → changed items (changes ++ change ∷ []) ≡ changed (slice_set items change.0 change.1) changes
 unfolding changed

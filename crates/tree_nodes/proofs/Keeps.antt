@@ -1,19 +1,17 @@
 -- What a tree keeps after a change.
-use Rattle.std.proofs.Common.{◌≡◌, ℕ, zero, suc, ◌+◌, ◌-◌, ◌*◌, ◌<◌, ◌≤◌, ◌^◌, inl, inr, List, [], ◌∷◌, ◌++◌, length, map, max, cond, sym, ap, ap₂, subst, ◌∙◌, arith}
+use Rattle.std.proofs.Common.{◌≡◌, ℕ, zero, suc, ◌+◌, ◌-◌, ◌*◌, ◌<◌, ◌≤◌, ◌^◌, inl, inr, List, length, map, max, sym, ap, ◌∙◌, arith}
 use Rattle.std.proofs.Math.Pow.{pow_mono}
-use Rattle.std.proofs.lemmas.Bool.{lt-ltb, le-ltb, cases_lt}
-use Rattle.bc_words.specs.Outcome.{done, refused, checked_push}
-use Rattle.bc_words.specs.declared.refusal.Refusal.TheVariants.{ListFull}
-use Rattle.hash_tree.specs.Merkle.{merkle_root, merkleize, mix_in_length, depth_of}
-use Rattle.tree_nodes.specs.Changes.{Limited, changed}
-use Rattle.tree_nodes.specs.inside.Kept.{IsTree, IsKept}
+use Rattle.std.proofs.lemmas.Bool.{cases_lt}
+use Rattle.hash_tree.specs.Merkle.{merkle_root}
+use Rattle.tree_nodes.specs.Changes.{changed}
+use Rattle.tree_nodes.specs.inside.Kept.{IsTree}
 use Rattle.tree_nodes.specs.inside.Puts.{put_at, Grows}
 use Rattle.tree_nodes.specs.inside.Lifts.{Lifts}
 use Rattle.hash_tree.proofs.Halves.{width_halves}
 use Rattle.std.proofs.Math.Nat.{suc-mul}
 use Rattle.std.proofs.lemmas.List.{length-map}
 use Rattle.tree_nodes.proofs.Changes.{length_changed}
-use Rattle.tree_nodes.proofs.Puts.{put_push, length_put}
+use Rattle.tree_nodes.proofs.Puts.{length_put}
 
 -- the widest tree
 pub width_low : (depth : ℕ) → depth ≤ 40 → 2 ^ depth ≤ 2 ^ 40

@@ -1,16 +1,13 @@
 -- Paths of a walk over a tree, and what is left behind a place.
-use Rattle.std.proofs.Common.{◌≡◌, ℕ, zero, suc, ◌+◌, ◌-◌, ◌<◌, ◌≤◌, ◌^◌, List, [], ◌∷◌, ◌++◌, length, map, take, drop, refl, sym, ap, subst, ◌∙◌, arith, length-append}
+use Rattle.std.proofs.Common.{◌≡◌, ℕ, zero, suc, ◌+◌, ◌-◌, ◌<◌, ◌≤◌, ◌^◌, List, [], ◌∷◌, ◌++◌, length, map, drop, refl, sym, ap, subst, ◌∙◌, arith, length-append}
 use Rattle.std.specs.Prelude.{get_or, slice_get, slice_set, Option, Some, None}
 use Rattle.std.specs.Borrow.{Bor}
-use Rattle.std.specs.List.{flat_map}
-use Rattle.tree_nodes.specs.declared.four.Four.{Four}
 use Rattle.std.proofs.lemmas.List.{append_assoc, append-nil, drop_all}
 use Rattle.std.proofs.lemmas.Grind.{drop-set_at}
 use Rattle.hash_tree.proofs.Halves.{width_halves}
 use Rattle.tree_nodes.specs.inside.Nodes.{AreHalves}
 use Rattle.tree_nodes.specs.inside.Layers.{held}
-use Rattle.tree_nodes.specs.inside.Fours.{numbers_in}
-use Rattle.tree_nodes.specs.inside.Walks.{Joins, IsPath, Enters, ahead, waiting, behind, numbers_left}
+use Rattle.tree_nodes.specs.inside.Walks.{Joins, IsPath, Enters, ahead, waiting}
 
 pow_some : (depth : ℕ) → 0 < 2 ^ depth
 pow_some zero = omega arith

@@ -1,5 +1,5 @@
 -- Half as many roots are written.
-use Rattle.std.proofs.Common.{◌≡◌, ◌/◌, ℕ, List, length, ap, ◌∙◌, arith}
+use Rattle.std.proofs.Common.{◌/◌, ℕ, List, length, ap, ◌∙◌, arith}
 use Rattle.pair_lanes.specs.Pairs.{parents}
 use Rattle.tree_nodes.specs.inside.Layers.{node_roots}
 use Rattle.tree_nodes.proofs.Climbs.{length_roots, length_parents, written_back}

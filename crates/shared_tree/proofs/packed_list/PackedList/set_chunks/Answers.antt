@@ -7,7 +7,8 @@ use Rattle.shared_tree.specs.Lists.{Limited}
 use Rattle.tree_nodes.specs.Changes.{changed}
 use Rattle.tree_nodes.proofs.Changes.{length_changed}
 use Rattle.shared_tree.specs.inside.Fours.{numbers_in}
-use Rattle.shared_tree.proofs.Keeps.{seen_after, fewer_items}
+use Rattle.shared_tree.proofs.Keeps.{seen_after}
+use Rattle.tree_nodes.proofs.Keeps.{fewer_items}
 use Rattle.shared_tree.proofs.Packing.{length_packed, unpacked}
 use Rattle.shared_tree.proofs.Packs.{packed_now}
 use Rattle.shared_tree.proofs.packed_list.PackedList.set_chunks.Goals as goal

@@ -6,7 +6,8 @@ use Rattle.ssz_codec.specs.Basic.{uint64}
 use Rattle.ssz_codec.specs.Lists.{leaf_count}
 use Rattle.shared_tree.specs.Lists.{Limited}
 use Rattle.shared_tree.specs.inside.Fours.{packed, numbers_in}
-use Rattle.shared_tree.proofs.Keeps.{seen_after, fewer_items}
+use Rattle.shared_tree.proofs.Keeps.{seen_after}
+use Rattle.tree_nodes.proofs.Keeps.{fewer_items}
 use Rattle.shared_tree.proofs.Packing.{length_packed, unpacked}
 use Rattle.shared_tree.proofs.Packs.{packed_now}
 use Rattle.shared_tree.proofs.packed_list.PackedList.set_every.Goals as goal

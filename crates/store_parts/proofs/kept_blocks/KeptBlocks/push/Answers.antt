@@ -3,7 +3,7 @@ use Rattle.std.proofs.Common.{◌≡◌, ◌∙◌, ◌++◌, ◌∷◌, [], sym
 use Rattle.std.specs.List.{AllByRecursion}
 use Rattle.bc_preset.specs.declared.configuration.ConfigValues.{ConfigValues}
 use Rattle.beacon_body.specs.declared.signed_block.SignedBeaconBlock.{SignedBeaconBlock}
-use Rattle.beacon_state.proofs.Within.{all_push}
+use Rattle.state_parts.proofs.Within.{all_push}
 use Rattle.spec_fork_choice.specs.Store.{KeptBlock}
 use Rattle.state_keeper.specs.Chain.{Kept}
 use Rattle.store_parts.specs.inside.Accepted.{kept_of}

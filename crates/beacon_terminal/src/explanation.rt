@@ -1,10 +1,9 @@
 //! What a status says to a person: its name, the file, the place in it, and the cause.
 
-use crate::status::Status;
-use crate::words::replay_files;
 use bc_preset::Preset;
 use bc_preset::constants::{MAX_PROPOSER_CANDIDATES, MAX_SLOTS};
 use bc_words::{ClashKind, Limit};
+use beacon_node::{Status, replay_files};
 use beacon_state::shortest_state;
 use spec_state::GenesisFault;
 use std::fmt;

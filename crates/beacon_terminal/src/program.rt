@@ -2,9 +2,8 @@
 
 use crate::explanation::{Cause, Explanation};
 use crate::progress::{Progress, Watch, WatchedOut, WatchedShelf, WatchedSink};
-use crate::status::Status;
-use crate::top::beacon_main;
 use bc_outside::{DiskShelf, StdSink};
+use beacon_node::{Status, beacon_main};
 use std::io::{Eprint, Print};
 use std::rt::{Env, Files};
 use std::time::Clock;
