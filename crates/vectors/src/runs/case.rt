@@ -92,7 +92,12 @@ fn load_numbers<R: Files + AllocGlobal>(rt: &R, case: &str, name: &str) -> Resul
 }
 
 /// Adds a word, and the file of that name, if there is one.
-fn load_word<R: Files + AllocGlobal>(rt: &R, name: &str, word: &str, case: &mut Case) -> Result<()> {
+fn load_word<R: Files + AllocGlobal>(
+    rt: &R,
+    name: &str,
+    word: &str,
+    case: &mut Case,
+) -> Result<()> {
     case.words.push(word.to_string(rt.alloc())?)?;
     match load_file(rt, name, word)? {
         Some(bytes) => Ok(case.files.push((word.to_string(rt.alloc())?, bytes))?),
@@ -101,7 +106,12 @@ fn load_word<R: Files + AllocGlobal>(rt: &R, name: &str, word: &str, case: &mut 
 }
 
 /// Adds the words of the case, and the files that they name.
-fn load_words<R: Files + AllocGlobal>(rt: &R, name: &str, words: &str, case: &mut Case) -> Result<()> {
+fn load_words<R: Files + AllocGlobal>(
+    rt: &R,
+    name: &str,
+    words: &str,
+    case: &mut Case,
+) -> Result<()> {
     for word in words.lines() {
         load_word(rt, name, word, case)?;
     }
@@ -175,7 +185,12 @@ impl Case {
     }
 
     /// Runs the program over these.
-    fn run_over(&self, alloc: Global, shelf: &mut MemoryShelf, sink: &mut MemorySink) -> Result<Answer> {
+    fn run_over(
+        &self,
+        alloc: Global,
+        shelf: &mut MemoryShelf,
+        sink: &mut MemorySink,
+    ) -> Result<Answer> {
         let status = beacon_main(alloc, &self.words, shelf, sink);
         Ok(Answer {
             lines: Vec::from_slice(alloc, sink.written())?,
