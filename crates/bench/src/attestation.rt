@@ -3,11 +3,12 @@
 ghost use Rattle.std.specs.Prelude.{◌≡◌};
 ghost use Rattle.spec_state.specs.Accessors.{get_current_epoch, get_previous_epoch, epoch_committees};
 
-use crate::ratio::{Ratio, time_since};
+use crate::ratio::{Ratio, now, time_since};
 use crate::states::{Shape, mainnet_state, put, put_vote};
 use anyhow::Result;
 use attest_ops::process_attestation::process_attestation;
 use balance_totals::{committees_of_epoch, current_epoch, previous_epoch};
+use bc_words::Stop;
 use beacon_body::Attestation;
 use beacon_state::State;
 use committees::EpochCommittees;
@@ -16,6 +17,19 @@ use std::time::{CpuClock, Duration};
 
 /// How often an attestation goes into an equal state.
 const TIMES: u32 = 32;
+
+/// Takes one attestation.
+fn take(
+    state: &mut State,
+    attestation: &Attestation,
+    previous: &EpochCommittees,
+    current: &EpochCommittees,
+) -> Result<(), Stop>
+    requires previous { previous.now ≡ epoch_committees state.old (get_previous_epoch state.old) }
+    requires current { current.now ≡ epoch_committees state.old (get_current_epoch state.old) }
+{
+    process_attestation(state, attestation, 0, previous, current)
+}
 
 /// The time of one attestation.
 fn time_one(
@@ -28,8 +42,8 @@ fn time_one(
     requires previous { previous.now ≡ epoch_committees state.old (get_previous_epoch state.old) }
     requires current { current.now ≡ epoch_committees state.old (get_current_epoch state.old) }
 {
-    let begin = rt.process_cpu_time()?;
-    process_attestation(state, attestation, 0, previous, current)?;
+    let begin = now(rt);
+    take(state, attestation, previous, current)?;
     time_since(rt, begin)
 }
 
@@ -69,15 +83,31 @@ fn time_times(
     Ok(sum)
 }
 
+/// The same with the committees of the previous epoch alone.
+fn time_with(
+    rt: &(impl AllocGlobal + CpuClock),
+    state: &State,
+    attestation: &Attestation,
+    previous: &EpochCommittees,
+) -> Result<Duration>
+    requires { previous.now ≡ epoch_committees state.now (get_previous_epoch state.now) }
+{
+    match committees_of_epoch(rt.alloc(), state, current_epoch(state)) {
+        Ok(current) => time_times(rt, state, attestation, previous, &current),
+        Err(refused) => Err(refused.into()),
+    }
+}
+
 /// The time of so many attestations, each into an equal state.
 fn time_all(
     rt: &(impl AllocGlobal + CpuClock),
     state: &State,
     attestation: &Attestation,
 ) -> Result<Duration> {
-    let previous = committees_of_epoch(rt.alloc(), state, previous_epoch(state))?;
-    let current = committees_of_epoch(rt.alloc(), state, current_epoch(state))?;
-    time_times(rt, state, attestation, &previous, &current)
+    match committees_of_epoch(rt.alloc(), state, previous_epoch(state)) {
+        Ok(previous) => time_with(rt, state, attestation, &previous),
+        Err(refused) => Err(refused.into()),
+    }
 }
 
 /// The time of so many votes of the first committee of slot 0.

@@ -3,7 +3,7 @@
 
 ghost use Rattle.std.specs.Prelude.{◌<◌};
 
-use crate::ratio::{Ratio, time_since};
+use crate::ratio::{Ratio, now, time_since};
 use crate::states::{put, put_vote};
 use anyhow::Result;
 use beacon_body::SignedBeaconBlock;
@@ -11,7 +11,7 @@ use hash_tree::Leaf;
 use sha2::{Digest, Sha256};
 use ssz_codec::Ssz;
 use std::alloc::{AllocError, Global};
-use std::time::CpuClock;
+use std::time::{CpuClock, Duration};
 
 /// How many attestations the block carries.
 const ATTESTATIONS: u32 = 128;
@@ -105,24 +105,32 @@ fn pass_over(bytes: &[u8]) -> u8 {
     joined
 }
 
-/// Reads, roots, hashes, and prints both times.
-fn measure_bytes(rt: &(impl AllocGlobal + Print + CpuClock), bytes: &[u8]) -> Result<()> {
-    let first = first_of_root(rt.alloc(), bytes).unwrap_or(0);
-    let begin = rt.process_cpu_time()?;
+/// The time of reading and rooting so many times, and what the roots are joined to.
+fn time_reading(rt: &(impl AllocGlobal + CpuClock), bytes: &[u8]) -> Result<(Duration, u8)> {
+    let begin = now(rt);
     let mut roots = 0;
     for _ in 0..TIMES {
         roots ^= first_of_root(rt.alloc(), bytes).unwrap_or(1);
     }
-    let whole = time_since(rt, begin)?;
-    let middle = rt.process_cpu_time()?;
+    Ok((time_since(rt, begin)?, roots))
+}
+
+/// The time of as many hashes and passes, and what they are joined to.
+fn time_hashes(rt: &impl CpuClock, bytes: &[u8]) -> Result<(Duration, u8)> {
+    let begin = now(rt);
     let mut joined = 0;
     for _ in 0..TIMES {
         joined ^= pair_hashes() ^ pass_over(bytes);
     }
-    let ratio = Ratio {
-        whole,
-        measure: time_since(rt, middle)?,
-    };
+    Ok((time_since(rt, begin)?, joined))
+}
+
+/// Reads, roots, hashes, and prints both times.
+fn measure_bytes(rt: &(impl AllocGlobal + Print + CpuClock), bytes: &[u8]) -> Result<()> {
+    let first = first_of_root(rt.alloc(), bytes).unwrap_or(0);
+    let (whole, roots) = time_reading(rt, bytes)?;
+    let (measure, joined) = time_hashes(rt, bytes)?;
+    let ratio = Ratio { whole, measure };
     println!(rt;
         "block of {ATTESTATIONS} attestations, {TIMES} times, with one pass over the bytes: {ratio} (root {first:02x}.., joined {roots} {joined})"
     )?;

@@ -12,6 +12,7 @@ use balance_totals::{block_root, committees_of_epoch, current_epoch};
 use bc_preset::Config;
 use beacon_body::{BeaconBlock, SignedBeaconBlock};
 use beacon_state::State;
+use beacon_types::Checkpoint;
 use committees::EpochCommittees;
 use hash_tree::{Leaf, Root};
 use sha2::{Digest, Sha256};
@@ -53,6 +54,16 @@ fn salt(slot: u64) -> Root {
     Sha256::digest(&bytes)
 }
 
+/// The source of the votes of a slot.
+fn source_of(state: &State, slot: u64) -> Checkpoint {
+    let slots = state.preset().slots_per_epoch.max(1);
+    if slot / slots == state.slot() / slots {
+        state.current_justified_checkpoint()
+    } else {
+        state.previous_justified_checkpoint()
+    }
+}
+
 /// The writing of a vote of all members, for the chain that the state of the next slot ends.
 fn vote_bytes(
     alloc: Global,
@@ -62,13 +73,7 @@ fn vote_bytes(
 ) -> Result<Vec<u8>, AllocError> {
     let members = vote.members.min(2048);
     let mut bytes = vec![in alloc; 255u8; ATTESTATION + members / 8 + 1]?;
-    let source = if vote.slot / state.preset().slots_per_epoch.max(1)
-        == state.slot() / state.preset().slots_per_epoch.max(1)
-    {
-        state.current_justified_checkpoint()
-    } else {
-        state.previous_justified_checkpoint()
-    };
+    let source = source_of(state, vote.slot);
     put(&mut bytes, 0, &228u32.to_le_bytes());
     put(&mut bytes, 4, &vote.slot.to_le_bytes());
     put(&mut bytes, 12, &vote.index.to_le_bytes());
@@ -84,6 +89,20 @@ fn vote_bytes(
         &[(2u8 << (members % 8)).wrapping_sub(1)],
     );
     Ok(bytes)
+}
+
+/// Appends the writing of a vote.
+fn push_vote(
+    alloc: Global,
+    state: &State,
+    vote: &Vote,
+    target: &Root,
+    votes: &mut Vec<Vec<u8>>,
+) -> Result<()> {
+    match vote_bytes(alloc, state, vote, target) {
+        Ok(bytes) => Ok(votes.push(bytes)?),
+        Err(refused) => Err(refused.into()),
+    }
 }
 
 /// Appends the writings of the votes of these committees of a slot, in their order.
@@ -109,7 +128,7 @@ fn append_committees(
             epoch,
             members,
         };
-        votes.push(vote_bytes(alloc, state, &vote, &target)?)?;
+        push_vote(alloc, state, &vote, &target, votes)?;
     }
     Ok(())
 }
@@ -252,6 +271,21 @@ pub struct Told {
     pub pairs: Pairs,
 }
 
+/// Tells the block with this writing of no state root yet, takes the state through it, and tells its votes again.
+fn tell_written(
+    alloc: Global,
+    state: &mut State,
+    config: &Config,
+    bytes: &mut [u8],
+    votes: &[Vec<u8>],
+    events: &mut Vec<Event>,
+) -> Result<()> {
+    let root = take_written(alloc, state, bytes, config)?;
+    put(bytes, 148, &root);
+    push_event(alloc, events, 2, bytes)?;
+    push_votes(alloc, events, 4, votes)
+}
+
 /// Tells the block of the state's slot with these votes, takes the state through it, and tells the votes again.
 fn tell_block(
     alloc: Global,
@@ -261,11 +295,10 @@ fn tell_block(
     events: &mut Vec<Event>,
 ) -> Result<()> {
     let proposer = proposer_index(alloc, state)?;
-    let mut bytes = block_bytes(alloc, state, proposer, votes)?;
-    let root = take_written(alloc, state, &bytes, config)?;
-    put(&mut bytes, 148, &root);
-    push_event(alloc, events, 2, &bytes)?;
-    push_votes(alloc, events, 4, votes)
+    match block_bytes(alloc, state, proposer, votes) {
+        Ok(mut bytes) => tell_written(alloc, state, config, &mut bytes, votes, events),
+        Err(error) => Err(error),
+    }
 }
 
 /// Tells these votes on the wire, and takes the state through the slot's block with them, if it has one.
@@ -298,8 +331,10 @@ fn tell_slot(
         .wrapping_mul(config.seconds_per_slot())
         .wrapping_add(state.genesis_time());
     push_event(alloc, &mut told.events, 1, &time.to_le_bytes())?;
-    let votes = votes(alloc, state, slot.votes)?;
-    tell_votes(alloc, state, config, slot.has_block, &votes, told)
+    match votes(alloc, state, slot.votes) {
+        Ok(votes) => tell_votes(alloc, state, config, slot.has_block, &votes, told),
+        Err(error) => Err(error),
+    }
 }
 
 /// Adds the pairs that the step from a state to that of the next slot needs: those of the new state's root, and of the header's where
@@ -324,6 +359,21 @@ fn tell_next(
     count(alloc, old, new, &mut told.pairs)
 }
 
+/// The state that a slot was told of, where it has entered that slot.
+fn told_of(
+    alloc: Global,
+    old: &State,
+    mut new: State,
+    config: &Config,
+    slot: Slot,
+    told: &mut Told,
+) -> Result<State> {
+    match tell_next(alloc, old, &mut new, config, slot, told) {
+        Ok(()) => Ok(new),
+        Err(error) => Err(error),
+    }
+}
+
 /// The state of the next slot, and the events of that slot.
 fn next(
     alloc: Global,
@@ -335,9 +385,55 @@ fn next(
     if !is_sound(alloc, state)? {
         bail!("the state isn't sound");
     }
-    let mut step = process_slots(alloc, state, state.slot().saturating_add(1), config)?;
-    tell_next(alloc, state, &mut step.state, config, slot, told)?;
-    Ok(step.state)
+    match process_slots(alloc, state, state.slot().saturating_add(1), config) {
+        Ok(step) => told_of(alloc, state, step.state, config, slot, told),
+        Err(stop) => Err(stop.into()),
+    }
+}
+
+/// Takes the state to the next slot, and tells the events of that slot.
+fn advance(
+    alloc: Global,
+    state: &mut State,
+    config: &Config,
+    slot: Slot,
+    told: &mut Told,
+) -> Result<()> {
+    *state = next(alloc, state, config, slot, told)?;
+    Ok(())
+}
+
+/// Takes the state through so many slots, and tells the events of each.
+fn advance_all(
+    alloc: Global,
+    state: &mut State,
+    config: &Config,
+    slots: u64,
+    shape: Shape,
+    told: &mut Told,
+) -> Result<()> {
+    for number in 0..slots {
+        let slot = Slot {
+            has_block: number % shape.every.max(1) != 5,
+            votes: shape.votes,
+        };
+        advance(alloc, state, config, slot, told)?;
+    }
+    Ok(())
+}
+
+/// Tells what so many slots behind genesis tell.
+fn tell_from(
+    alloc: Global,
+    genesis: &Genesis,
+    slots: u64,
+    shape: Shape,
+    told: &mut Told,
+) -> Result<()> {
+    match genesis.state.share() {
+        Ok(mut state) => advance_all(alloc, &mut state, &genesis.config, slots, shape, told),
+        Err(refused) => Err(refused.into()),
+    }
 }
 
 /// What a chain of so many slots behind genesis tells.
@@ -346,13 +442,8 @@ pub fn chain(alloc: Global, genesis: &Genesis, slots: u64, shape: Shape) -> Resu
         events: Vec::new(alloc),
         pairs: Pairs::none(),
     };
-    let mut state = genesis.state.share()?;
-    for number in 0..slots {
-        let slot = Slot {
-            has_block: number % shape.every.max(1) != 5,
-            votes: shape.votes,
-        };
-        state = next(alloc, &state, &genesis.config, slot, &mut told)?;
+    match tell_from(alloc, genesis, slots, shape, &mut told) {
+        Ok(()) => Ok(told),
+        Err(error) => Err(error),
     }
-    Ok(told)
 }

@@ -1,15 +1,15 @@
 //! The parts of an epoch's end on a state whose validators all attested, without roots: on 16,384 validators against
 //! passes of reading registry and balances, and against 4,096 validators.
 
-ghost use Rattle.std.specs.Prelude.{◌≡◌, ◌≤◌};
+ghost use Rattle.std.specs.Prelude.{◌≡◌, ◌≤◌, ◌^◌};
 ghost use Rattle.spec_state.specs.Accessors.{get_current_epoch, get_previous_epoch, epoch_committees};
 ghost use Rattle.spec_state.specs.Soundness.{IsSound, IsSoundWithinEpoch};
 
-use crate::ratio::{Ratio, time_since};
+use crate::ratio::{Ratio, now, time_since};
 use crate::states::{Shape, mainnet_state};
 use anyhow::{Result, bail};
 use balance_totals::{committees_of_epoch, current_epoch, previous_epoch};
-use bc_words::Stop;
+use bc_words::{NoMemory, Stop};
 use beacon_state::State;
 use committees::EpochCommittees;
 use epoch_close::process_effective_balance_updates::process_effective_balances;
@@ -21,6 +21,7 @@ use epoch_close::process_slashings::process_slashings;
 use epoch_close::process_slashings_reset::process_slashings_reset;
 use epoch_rewards::process_rewards;
 use justification::process_justification;
+use std::alloc::Global;
 use std::time::{CpuClock, Duration};
 use transition::{is_sound, is_sound_within_epoch};
 
@@ -58,7 +59,7 @@ fn read_all(state: &State) -> u64 {
 
 /// The time of so many passes over registry and balances.
 fn time_reading(rt: &(impl AllocGlobal + Print + CpuClock), state: &State) -> Result<Duration> {
-    let begin = rt.process_cpu_time()?;
+    let begin = now(rt);
     let mut joined = 0;
     for _ in 0..PASSES {
         joined ^= read_all(state);
@@ -73,18 +74,23 @@ fn told(rt: &impl Print, part: &str, time: Duration, joined: u64) -> Result<Dura
     Ok(time)
 }
 
+/// How many committees a slot of an epoch has.
+fn per_slot(alloc: Global, state: &State, epoch: u64) -> Result<u64, NoMemory>
+    requires { epoch ≤ 2 ^ 61 }
+{
+    match committees_of_epoch(alloc, state, epoch) {
+        Ok(committees) => Ok(committees.per_slot()),
+        Err(refused) => Err(refused),
+    }
+}
+
 /// The time of the committees of two epochs.
 fn time_committees(rt: &(impl AllocGlobal + Print + CpuClock), state: &State) -> Result<Duration> {
-    let begin = rt.process_cpu_time()?;
-    let previous = committees_of_epoch(rt.alloc(), state, previous_epoch(state))?.per_slot();
-    let current = committees_of_epoch(rt.alloc(), state, current_epoch(state))?.per_slot();
-    let end = rt.process_cpu_time()?;
-    told(
-        rt,
-        "committees",
-        end.saturating_sub(begin),
-        previous ^ current,
-    )
+    let begin = now(rt);
+    let previous = per_slot(rt.alloc(), state, previous_epoch(state))?;
+    let current = per_slot(rt.alloc(), state, current_epoch(state))?;
+    let time = time_since(rt, begin)?;
+    told(rt, "committees", time, previous ^ current)
 }
 
 /// The time of justification with these committees.
@@ -98,9 +104,24 @@ fn time_justified(
     requires previous { previous.now ≡ epoch_committees state.old (get_previous_epoch state.old) }
     requires current { current.now ≡ epoch_committees state.old (get_current_epoch state.old) }
 {
-    let begin = rt.process_cpu_time()?;
+    let begin = now(rt);
     process_justification(rt.alloc(), state, previous, current)?;
     told(rt, "justification", time_since(rt, begin)?, 0)
+}
+
+/// The same with the committees of the previous epoch alone.
+fn time_justified_with(
+    rt: &(impl AllocGlobal + Print + CpuClock),
+    state: &mut State,
+    previous: &EpochCommittees,
+) -> Result<Duration>
+    requires sound { IsSound state.old }
+    requires previous { previous.now ≡ epoch_committees state.old (get_previous_epoch state.old) }
+{
+    match committees_of_epoch(rt.alloc(), state, current_epoch(state)) {
+        Ok(current) => time_justified(rt, state, previous, &current),
+        Err(refused) => Err(refused.into()),
+    }
 }
 
 /// The time of justification.
@@ -111,9 +132,10 @@ fn time_justification(
     if !is_sound(rt.alloc(), state)? {
         bail!("the state isn't sound");
     }
-    let previous = committees_of_epoch(rt.alloc(), state, previous_epoch(state))?;
-    let current = committees_of_epoch(rt.alloc(), state, current_epoch(state))?;
-    time_justified(rt, state, &previous, &current)
+    match committees_of_epoch(rt.alloc(), state, previous_epoch(state)) {
+        Ok(previous) => time_justified_with(rt, state, &previous),
+        Err(refused) => Err(refused.into()),
+    }
 }
 
 /// The time of rewards with these committees.
@@ -125,7 +147,7 @@ fn time_rewarded(
     requires sound { IsSoundWithinEpoch state.old }
     requires previous { previous.now ≡ epoch_committees state.old (get_previous_epoch state.old) }
 {
-    let begin = rt.process_cpu_time()?;
+    let begin = now(rt);
     process_rewards(rt.alloc(), state, previous)?;
     told(rt, "rewards", time_since(rt, begin)?, 0)
 }
@@ -135,28 +157,10 @@ fn time_rewards(rt: &(impl AllocGlobal + Print + CpuClock), state: &mut State) -
     if !is_sound_within_epoch(rt.alloc(), state)? {
         bail!("the state isn't sound within its epoch's end");
     }
-    let previous = committees_of_epoch(rt.alloc(), state, previous_epoch(state))?;
-    time_rewarded(rt, state, &previous)
-}
-
-/// The time of the penalties of the slashed.
-fn time_slashings(
-    rt: &(impl AllocGlobal + Print + CpuClock),
-    state: &mut State,
-) -> Result<Duration> {
-    let begin = rt.process_cpu_time()?;
-    process_slashings(rt.alloc(), state)?;
-    told(rt, "slashings", time_since(rt, begin)?, 0)
-}
-
-/// The time of effective balances.
-fn time_balances(
-    rt: &(impl AllocGlobal + Print + CpuClock),
-    state: &mut State,
-) -> Result<Duration> {
-    let begin = rt.process_cpu_time()?;
-    process_effective_balances(rt.alloc(), state)?;
-    told(rt, "effective balances", time_since(rt, begin)?, 0)
+    match committees_of_epoch(rt.alloc(), state, previous_epoch(state)) {
+        Ok(previous) => time_rewarded(rt, state, &previous),
+        Err(refused) => Err(refused.into()),
+    }
 }
 
 /// The short closing parts.
@@ -168,31 +172,68 @@ fn reset(state: &mut State) -> Result<(), Stop> {
     process_rotation(state)
 }
 
-/// The time of the short closing parts.
-fn time_resets(rt: &(impl AllocGlobal + Print + CpuClock), state: &mut State) -> Result<Duration> {
-    let begin = rt.process_cpu_time()?;
-    reset(state)?;
-    told(rt, "resets", time_since(rt, begin)?, 0)
+/// A closing part, or the short ones.
+#[derive(Clone, Copy)]
+enum Closing {
+    Slashings,
+    EffectiveBalances,
+    Resets,
+}
+
+/// The closing parts, by what they are printed as.
+const CLOSING: &[(Closing, &str)] = &[
+    (Closing::Slashings, "slashings"),
+    (Closing::EffectiveBalances, "effective balances"),
+    (Closing::Resets, "resets"),
+];
+
+/// Makes a closing part.
+fn close(alloc: Global, state: &mut State, part: Closing) -> Result<(), Stop> {
+    match part {
+        Closing::Slashings => process_slashings(alloc, state),
+        Closing::EffectiveBalances => process_effective_balances(alloc, state),
+        Closing::Resets => reset(state),
+    }
+}
+
+/// The time of a closing part.
+fn time_part(
+    rt: &(impl AllocGlobal + Print + CpuClock),
+    state: &mut State,
+    part: Closing,
+    name: &str,
+) -> Result<Duration> {
+    let begin = now(rt);
+    close(rt.alloc(), state, part)?;
+    told(rt, name, time_since(rt, begin)?, 0)
 }
 
 /// The time of the closing parts.
 fn time_closing(rt: &(impl AllocGlobal + Print + CpuClock), state: &mut State) -> Result<Duration> {
-    let slashings = time_slashings(rt, state)?;
-    let balances = time_balances(rt, state)?;
-    let resets = time_resets(rt, state)?;
-    Ok(slashings.saturating_add(balances).saturating_add(resets))
+    let mut sum = Duration::ZERO;
+    for (part, name) in CLOSING.iter() {
+        sum = sum.saturating_add(time_part(rt, state, *part, name)?);
+    }
+    Ok(sum)
+}
+
+/// The time of all parts but reading and committees.
+fn time_passes(rt: &(impl AllocGlobal + Print + CpuClock), state: &mut State) -> Result<Duration> {
+    let justification = time_justification(rt, state)?;
+    let rewards = time_rewards(rt, state)?;
+    let closing = time_closing(rt, state)?;
+    Ok(
+        justification
+            .saturating_add(rewards)
+            .saturating_add(closing),
+    )
 }
 
 /// The time of all parts.
 fn time_parts(rt: &(impl AllocGlobal + Print + CpuClock), state: &mut State) -> Result<Times> {
     let reading = time_reading(rt, state)?;
     let committees = time_committees(rt, state)?;
-    let justification = time_justification(rt, state)?;
-    let rewards = time_rewards(rt, state)?;
-    let closing = time_closing(rt, state)?;
-    let passes = justification
-        .saturating_add(rewards)
-        .saturating_add(closing);
+    let passes = time_passes(rt, state)?;
     Ok(Times {
         reading,
         committees,

@@ -63,9 +63,13 @@ fn measure_slots(
         every: EVERY,
         votes: 1,
     };
-    let mut told = chain(rt.alloc(), genesis, slots, shape)?;
-    add_others(&mut told, slots);
-    measure_told(rt, genesis, &told)
+    match chain(rt.alloc(), genesis, slots, shape) {
+        Ok(mut told) => {
+            add_others(&mut told, slots);
+            measure_told(rt, genesis, &told)
+        }
+        Err(error) => Err(error),
+    }
 }
 
 /// Measures the short record and the long one, and prints how many times the short one's time the long one took.

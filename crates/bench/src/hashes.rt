@@ -3,7 +3,7 @@
 
 ghost use Rattle.std.specs.Prelude.{◌<◌};
 
-use crate::ratio::{Ratio, time_since};
+use crate::ratio::{Ratio, now, time_since};
 use anyhow::Result;
 use beacon_state::State;
 use hash_tree::{Root, depth_of, hash_pair};
@@ -53,6 +53,20 @@ enum Field {
     Current,
 }
 
+/// All of them.
+const LISTS: &[Field] = &[
+    Field::BlockRoots,
+    Field::StateRoots,
+    Field::Historical,
+    Field::Votes,
+    Field::Validators,
+    Field::Balances,
+    Field::Mixes,
+    Field::Slashings,
+    Field::Previous,
+    Field::Current,
+];
+
 /// A state and the next one, a slot later.
 #[derive(Clone, Copy)]
 pub struct Step<'a> {
@@ -97,26 +111,22 @@ impl Step<'_> {
         }
     }
 
-    /// Whether four numbers differ.
-    fn balances_differ(&self, chunk: u64) -> bool {
-        let from = chunk.min(1 << 40) * 4;
-        for place in from..from + 4 {
-            if self.old.balances_at(place) != self.new.balances_at(place) {
-                return true;
-            }
+    /// Whether a number of a list of numbers differs.
+    fn number_differs(&self, field: Field, place: u64) -> bool {
+        match field {
+            Field::Slashings => self.old.slashings_at(place) != self.new.slashings_at(place),
+            _ => self.old.balances_at(place) != self.new.balances_at(place),
         }
-        false
     }
 
-    /// Whether four slashed balances differ.
-    fn slashings_differ(&self, chunk: u64) -> bool {
+    /// Whether four numbers differ.
+    fn numbers_differ(&self, field: Field, chunk: u64) -> bool {
         let from = chunk.min(1 << 40) * 4;
+        let mut differ = false;
         for place in from..from + 4 {
-            if self.old.slashings_at(place) != self.new.slashings_at(place) {
-                return true;
-            }
+            differ |= self.number_differs(field, place);
         }
-        false
+        differ
     }
 
     /// Whether a validator differs.
@@ -142,8 +152,7 @@ impl Step<'_> {
         match field {
             Field::Historical => leaf >= self.old.historical_roots_len(),
             Field::Votes => leaf >= self.votes_kept(),
-            Field::Balances => self.balances_differ(leaf),
-            Field::Slashings => self.slashings_differ(leaf),
+            Field::Balances | Field::Slashings => self.numbers_differ(field, leaf),
             Field::Previous => leaf >= self.previous_kept(),
             Field::Current => leaf >= self.current_kept(),
             _ => self.is_new_value(field, leaf),
@@ -196,63 +205,48 @@ impl Step<'_> {
         Ok(places)
     }
 
-    /// Adds the pairs of a list: of each new leaf, of each node above one, and of its length.
-    fn add_list(&self, alloc: Global, field: Field, pairs: &mut Pairs) -> Result<()> {
-        let places = self.new_leaves(alloc, field)?;
+    /// Adds the pairs of a list where these leaves are new: of each of them, of each node above one, and of its length.
+    fn add_leaves(&self, field: Field, places: &[u64], pairs: &mut Pairs) {
         if places.is_empty() {
-            return Ok(());
+            return;
         }
-        let leaf = pairs_of_leaf(field);
-        pairs.add((places.len() as u64).saturating_mul(leaf));
-        let whole = places.len() as u64 == self.leaves(field);
-        add_above(
-            &places,
-            depth_of(self.limit(field).min(1 << 40)),
-            whole,
-            pairs,
-        );
-        if has_length(field) {
-            pairs.add(1);
+        let count = places.len() as u64;
+        pairs.add(count.saturating_mul(pairs_of_leaf(field)));
+        let depth = depth_of(self.limit(field).min(1 << 40));
+        add_above(places, depth, count == self.leaves(field), pairs);
+        pairs.add(u64::from(has_length(field)));
+    }
+
+    /// Adds the pairs of a list.
+    fn add_list(&self, alloc: Global, field: Field, pairs: &mut Pairs) -> Result<()> {
+        match self.new_leaves(alloc, field) {
+            Ok(places) => Ok(self.add_leaves(field, &places, pairs)),
+            Err(error) => Err(error),
         }
-        Ok(())
+    }
+
+    /// How many of the three checkpoints changed.
+    fn checkpoints_changed(&self) -> u64 {
+        let (old, new) = (self.old, self.new);
+        u64::from(old.previous_justified_checkpoint() != new.previous_justified_checkpoint())
+            + u64::from(old.current_justified_checkpoint() != new.current_justified_checkpoint())
+            + u64::from(old.finalized_checkpoint() != new.finalized_checkpoint())
     }
 
     /// Adds the pairs of the fields that are no lists and that changed.
     fn add_fields(&self, pairs: &mut Pairs) {
         let (old, new) = (self.old, self.new);
-        if old.latest_block_header() != new.latest_block_header() {
-            pairs.add(6);
-        }
-        if old.eth1_data() != new.eth1_data() {
-            pairs.add(3);
-        }
-        if old.previous_justified_checkpoint() != new.previous_justified_checkpoint() {
-            pairs.add(1);
-        }
-        if old.current_justified_checkpoint() != new.current_justified_checkpoint() {
-            pairs.add(1);
-        }
-        if old.finalized_checkpoint() != new.finalized_checkpoint() {
-            pairs.add(1);
-        }
+        let header = u64::from(old.latest_block_header() != new.latest_block_header());
+        let eth1_data = u64::from(old.eth1_data() != new.eth1_data());
+        pairs.add(6 * header + 3 * eth1_data);
+        pairs.add(self.checkpoints_changed());
     }
 
     /// Adds the pairs that the next state's root needs, where that of the state is known: its changes, and the tree of its 21
     /// fields.
     pub fn add_root(&self, alloc: Global, pairs: &mut Pairs) -> Result<()> {
-        for field in [
-            Field::BlockRoots,
-            Field::StateRoots,
-            Field::Historical,
-            Field::Votes,
-            Field::Validators,
-            Field::Balances,
-            Field::Mixes,
-            Field::Slashings,
-            Field::Previous,
-            Field::Current,
-        ] {
-            self.add_list(alloc, field, pairs)?;
+        for field in LISTS.iter() {
+            self.add_list(alloc, *field, pairs)?;
         }
         self.add_fields(pairs);
         pairs.add(TOP);
@@ -336,29 +330,33 @@ fn add_above(places: &[u64], depth: u32, whole: bool, pairs: &mut Pairs) {
 /// The time of hashing so many pairs one by one.
 fn time_alone(rt: &impl CpuClock, count: u64) -> Result<(Duration, u8)> {
     let mut root = [7u8; 32];
-    let begin = rt.process_cpu_time()?;
+    let begin = now(rt);
     for _pair in 0..count {
         root = hash_pair(&root, &[9; 32]);
     }
-    let end = rt.process_cpu_time()?;
-    Ok((end.saturating_sub(begin), root[0]))
+    Ok((time_since(rt, begin)?, root[0]))
+}
+
+/// Hashes so many pairs in lanes, at least.
+fn hash_layers(layer: &[[Root; 2]], out: &mut [Root], count: u64) {
+    for _layer in 0..count.div_ceil(64) {
+        if out.len() == layer.len() {
+            hash_pairs(layer, out);
+        }
+    }
 }
 
 /// The time of hashing so many pairs in lanes, at least.
-fn time_lanes(rt: &(impl AllocGlobal + CpuClock), count: u64) -> Result<Duration> {
-    let layer = vec![in rt.alloc(); [[7u8; 32]; 2]; 64]?;
-    let mut out: Vec<Root> = vec![in rt.alloc(); [0u8; 32]; 64]?;
-    let begin = rt.process_cpu_time()?;
-    for _layer in 0..count.div_ceil(64) {
-        if out.len() == layer.len() {
-            hash_pairs(&layer, &mut out);
-        }
-    }
+fn time_lanes(rt: &impl CpuClock, count: u64) -> Result<Duration> {
+    let layer = [[[7u8; 32]; 2]; 64];
+    let mut out = [[0u8; 32]; 64];
+    let begin = now(rt);
+    hash_layers(&layer, &mut out, count);
     time_since(rt, begin)
 }
 
 /// The time of hashing these pairs.
-fn time_pairs(rt: &(impl AllocGlobal + CpuClock), pairs: &Pairs) -> Result<Duration> {
+fn time_pairs(rt: &impl CpuClock, pairs: &Pairs) -> Result<Duration> {
     let (alone, _first) = time_alone(rt, pairs.alone)?;
     let lanes = time_lanes(rt, pairs.lanes)?;
     Ok(alone.saturating_add(lanes))

@@ -4,7 +4,7 @@
 ghost use Rattle.std.specs.Prelude.{◌≡◌, ◌+◌, ◌*◌, ◌<◌, ◌≤◌, ◌^◌, [], false, length, IfOk, OnOk};
 ghost use Rattle.block_array.specs.PlainArray.{slot_at};
 
-use crate::ratio::{Ratio, time_since};
+use crate::ratio::{Ratio, now, time_since};
 use anyhow::Result;
 use bc_words::{NoMemory, Steps};
 use beacon_types::Checkpoint;
@@ -161,7 +161,7 @@ fn time_pass(
     balances: &[u64],
     weights: &mut [u128],
 ) -> Result<Duration> {
-    let begin = rt.process_cpu_time()?;
+    let begin = now(rt);
     pass(votes, balances, weights);
     time_since(rt, begin)
 }
@@ -176,7 +176,7 @@ fn time_moved<L: Ledger>(
     ensures made { OnOk result (array.new.changed_validators ≡ []) }
     ensures set { OnOk result (array.new.balances_set ≡ false) }
 {
-    let begin = rt.process_cpu_time()?;
+    let begin = now(rt);
     array.apply(steps);
     time_since(rt, begin)
 }
@@ -193,7 +193,7 @@ fn time_unmoved<L: Ledger>(
     ensures nodes { array.new.nodes ≡ array.old.nodes }
     ensures steps { steps.new ≤ steps.old + 2 * length array.old.nodes }
 {
-    let begin = rt.process_cpu_time()?;
+    let begin = now(rt);
     array.apply(steps);
     time_since(rt, begin)
 }
@@ -218,6 +218,54 @@ fn time_round<L: Ledger>(
     Ok(())
 }
 
+/// The same of a round's votes, with a pass over them.
+fn time_votes<L: Ledger>(
+    rt: &(impl AllocGlobal + CpuClock),
+    array: &mut BlockArray,
+    votes: &[Message],
+    balances: &[u64],
+    weights: &mut [u128],
+    apart: usize,
+    steps: &mut Steps<L>,
+    times: &mut Times,
+) -> Result<()>
+    requires nodes { length array.old.nodes ≡ 1024 }
+    ensures nodes { length array.new.nodes ≡ 1024 }
+{
+    time_round(rt, array, votes, apart, steps, times)?;
+    let passed = time_pass(rt, votes, balances, weights)?;
+    times.passes = times.passes.saturating_add(passed);
+    Ok(())
+}
+
+/// The same of the votes of this epoch.
+fn time_epoch<L: Ledger>(
+    rt: &(impl AllocGlobal + CpuClock),
+    array: &mut BlockArray,
+    balances: &[u64],
+    weights: &mut [u128],
+    arrival: Arrival,
+    steps: &mut Steps<L>,
+    times: &mut Times,
+) -> Result<()>
+    requires nodes { length array.old.nodes ≡ 1024 }
+    ensures nodes { length array.new.nodes ≡ 1024 }
+{
+    match votes_of(rt.alloc(), arrival.epoch) {
+        Ok(votes) => time_votes(
+            rt,
+            array,
+            &votes,
+            balances,
+            weights,
+            arrival.apart,
+            steps,
+            times,
+        ),
+        Err(refused) => Err(refused.into()),
+    }
+}
+
 /// All rounds.
 fn time_rounds<L: Ledger>(
     rt: &(impl AllocGlobal + CpuClock),
@@ -226,26 +274,23 @@ fn time_rounds<L: Ledger>(
     weights: &mut [u128],
     arrival: Arrival,
     steps: &mut Steps<L>,
-) -> Result<Times>
+    times: &mut Times,
+) -> Result<()>
     requires nodes { length array.old.nodes ≡ 1024 }
     ensures nodes { length array.new.nodes ≡ 1024 }
 {
-    let mut times = Times {
-        moved: Duration::ZERO,
-        unmoved: Duration::ZERO,
-        passes: Duration::ZERO,
-    };
     for round in 0..ROUNDS {
-        let votes = votes_of(rt.alloc(), arrival.epoch.wrapping_add(round))?;
-        time_round(rt, array, &votes, arrival.apart, steps, &mut times)?;
-        let passed = time_pass(rt, &votes, balances, weights)?;
-        times.passes = times.passes.saturating_add(passed);
+        let arrival = Arrival {
+            epoch: arrival.epoch.wrapping_add(round),
+            apart: arrival.apart,
+        };
+        time_epoch(rt, array, balances, weights, arrival, steps, times)?;
     }
-    Ok(times)
+    Ok(())
 }
 
 /// Prints what was timed.
-fn tell(rt: &impl Print, order: &str, times: Times, joined: u128) -> Result<()> {
+fn tell(rt: &impl Print, order: &str, times: &Times, joined: u128) -> Result<()> {
     let unmoved = times.unmoved.as_micros();
     let ratio = Ratio {
         whole: times.moved,
@@ -259,6 +304,28 @@ fn tell(rt: &impl Print, order: &str, times: Times, joined: u128) -> Result<()> 
 }
 
 /// Times rounds, and prints what they took.
+fn measure_weighing<L: Ledger>(
+    rt: &(impl AllocGlobal + Print + CpuClock),
+    array: &mut BlockArray,
+    balances: &[u64],
+    weights: &mut [u128],
+    order: &str,
+    arrival: Arrival,
+    steps: &mut Steps<L>,
+) -> Result<()>
+    requires nodes { length array.old.nodes ≡ 1024 }
+    ensures nodes { length array.new.nodes ≡ 1024 }
+{
+    let mut times = Times {
+        moved: Duration::ZERO,
+        unmoved: Duration::ZERO,
+        passes: Duration::ZERO,
+    };
+    time_rounds(rt, array, balances, weights, arrival, steps, &mut times)?;
+    tell(rt, order, &times, weights.first().copied().unwrap_or(0))
+}
+
+/// The same with weights of its own.
 fn measure_rounds<L: Ledger>(
     rt: &(impl AllocGlobal + Print + CpuClock),
     array: &mut BlockArray,
@@ -270,9 +337,18 @@ fn measure_rounds<L: Ledger>(
     requires nodes { length array.old.nodes ≡ 1024 }
     ensures nodes { length array.new.nodes ≡ 1024 }
 {
-    let mut weights = vec![in rt.alloc(); 0u128; NODES as usize]?;
-    let times = time_rounds(rt, array, balances, &mut weights, arrival, steps)?;
-    tell(rt, order, times, weights.first().copied().unwrap_or(0))
+    match vec![in rt.alloc(); 0u128; NODES as usize] {
+        Ok(mut weights) => measure_weighing(
+            rt,
+            array,
+            balances,
+            &mut weights,
+            order,
+            arrival,
+            steps,
+        ),
+        Err(refused) => Err(refused.into()),
+    }
 }
 
 /// Times the rounds in each order.

@@ -2,7 +2,7 @@
 //! roots alone.
 
 use crate::block::block_bytes;
-use crate::ratio::Ratio;
+use crate::ratio::{Ratio, now, time_since};
 use crate::states::{CONFIG, Shape, mainnet_state};
 use anyhow::Result;
 use bc_preset::Config;
@@ -20,15 +20,12 @@ fn time_operations(
     block: &BeaconBlock,
     config: &Config,
 ) -> Result<()> {
-    let begin = rt.process_cpu_time()?;
+    let begin = now(rt);
     let joined = block.root()[0] ^ state.root()[0];
-    let middle = rt.process_cpu_time()?;
+    let measure = time_since(rt, begin)?;
     let done = process_operations(rt.alloc(), state, &block.body, 0, config).is_ok();
-    let end = rt.process_cpu_time()?;
-    let ratio = Ratio {
-        whole: end.saturating_sub(begin),
-        measure: middle.saturating_sub(begin),
-    };
+    let whole = time_since(rt, begin)?;
+    let ratio = Ratio { whole, measure };
     println!(rt;
         "operations of a block of 128 attestations on 16,384 validators, with roots against roots: {ratio} (done {done}, joined {joined})"
     )?;

@@ -1,6 +1,6 @@
 //! The parents of 4,096 pairs of nodes in lanes, against as many calls of `sha2`.
 
-use crate::ratio::{Ratio, time_since};
+use crate::ratio::{Ratio, now, time_since};
 use anyhow::Result;
 use pair_lanes::hash_pairs;
 use sha2::{Digest, Sha256};
@@ -46,22 +46,13 @@ fn hash_all(pairs: &[[[u8; 32]; 2]]) -> u8 {
     joined
 }
 
-/// Room for the hashes.
-fn room(alloc: Global) -> Result<Vec<[u8; 32]>, AllocError> {
-    let mut out = Vec::new(alloc);
-    for _ in 0..PAIRS {
-        out.push([0; 32])?;
-    }
-    Ok(out)
-}
-
 /// The time of hashing the pairs in lanes.
 fn time_lanes(
     rt: &impl CpuClock,
     pairs: &[[[u8; 32]; 2]],
     out: &mut [[u8; 32]],
 ) -> Result<Duration> {
-    let begin = rt.process_cpu_time()?;
+    let begin = now(rt);
     for _ in 0..TIMES {
         if out.len() == pairs.len() {
             hash_pairs(pairs, out);
@@ -77,7 +68,7 @@ fn measure_both(
     out: &mut [[u8; 32]],
 ) -> Result<()> {
     let whole = time_lanes(rt, pairs, out)?;
-    let begin = rt.process_cpu_time()?;
+    let begin = now(rt);
     let mut joined = 0;
     for _ in 0..TIMES {
         joined ^= hash_all(pairs);
@@ -91,6 +82,6 @@ fn measure_both(
 /// Makes the pairs, and measures.
 pub fn measure(rt: &(impl AllocGlobal + Print + CpuClock)) -> Result<()> {
     let pairs = pairs(rt.alloc())?;
-    let mut out = room(rt.alloc())?;
+    let mut out = vec![in rt.alloc(); [0; 32]; PAIRS as usize]?;
     measure_both(rt, &pairs, &mut out)
 }

@@ -1,13 +1,21 @@
 //! Two processor times of one run, and how many times the second the first is.
 
-use anyhow::Result;
+use anyhow::{Result, bail};
 use std::fmt;
 use std::time::{CpuClock, Duration};
 
+/// The processor time now, if the clock tells it. Where it doesn't, `time_since` has no answer either.
+pub fn now(rt: &impl CpuClock) -> Option<Duration> {
+    rt.process_cpu_time().ok()
+}
+
 /// The processor time since then.
-pub fn time_since(rt: &impl CpuClock, begin: Duration) -> Result<Duration> {
+pub fn time_since(rt: &impl CpuClock, begin: Option<Duration>) -> Result<Duration> {
     let end = rt.process_cpu_time()?;
-    Ok(end.saturating_sub(begin))
+    match begin {
+        Some(begin) => Ok(end.saturating_sub(begin)),
+        None => bail!("the clock told no time"),
+    }
 }
 
 /// What was measured, and what it is measured by: the hashes that it can't do without, or another part of the run.

@@ -69,6 +69,14 @@ fn measure_states(
     Ok(state)
 }
 
+/// Reads a block and keeps it.
+fn read_block(alloc: Global, blocks: &mut Vec<SignedBeaconBlock>, bytes: &[u8]) -> Result<()> {
+    match SignedBeaconBlock::read(alloc, bytes) {
+        Ok(block) => Ok(blocks.push(block)?),
+        Err(fault) => Err(fault.into()),
+    }
+}
+
 /// Reads all blocks and keeps them. Gives the bytes of their writings.
 fn read_blocks(
     alloc: Global,
@@ -78,10 +86,7 @@ fn read_blocks(
     let mut written = 0u64;
     for event in events {
         if event.kind == 2 {
-            match SignedBeaconBlock::read(alloc, &event.payload) {
-                Ok(block) => blocks.push(block)?,
-                Err(fault) => return Err(fault.into()),
-            }
+            read_block(alloc, blocks, &event.payload)?;
             written = written.saturating_add(event.payload.len() as u64);
         }
     }
@@ -101,6 +106,18 @@ fn read_times(
     Ok(())
 }
 
+/// The bytes of memory that these readings of all blocks take.
+fn grown_by_reading(
+    rt: &(impl AllocGlobal + Files),
+    blocks: &mut Vec<SignedBeaconBlock>,
+    events: &[Event],
+    times: u64,
+) -> Result<u64> {
+    let before = resident(rt)?;
+    read_times(rt.alloc(), blocks, events, times)?;
+    Ok(resident(rt)?.saturating_sub(before))
+}
+
 /// Reads all blocks many times and keeps them, so that memory let go before is used up. Gives the bytes of memory and of its
 /// writing that a block takes.
 fn measure_blocks(
@@ -112,9 +129,7 @@ fn measure_blocks(
     let once = blocks.len() as u64;
     let times = (FILL / written.max(1)).saturating_add(1);
     read_times(rt.alloc(), blocks, events, times)?;
-    let before = resident(rt)?;
-    read_times(rt.alloc(), blocks, events, times)?;
-    let grown = resident(rt)?.saturating_sub(before);
+    let grown = grown_by_reading(rt, blocks, events, times)?;
     let later = once.saturating_mul(times);
     Ok((grown / later.max(1), written / once.max(1)))
 }
@@ -190,8 +205,10 @@ fn measure_told(
     requires preset { genesis.now.state.preset ≡ genesis.now.config.preset }
 {
     let mut blocks = Vec::new(rt.alloc());
-    let sizes = measure_blocks(rt, &mut blocks, &told.events)?;
-    measure_kept(rt, genesis, told, sizes)
+    match measure_blocks(rt, &mut blocks, &told.events) {
+        Ok(sizes) => measure_kept(rt, genesis, told, sizes),
+        Err(error) => Err(error),
+    }
 }
 
 /// Makes the record, takes it, and prints what it took.
@@ -203,8 +220,10 @@ fn measure_from(
     requires preset { genesis.now.state.preset ≡ genesis.now.config.preset }
 {
     let shape = Shape { every: 1, votes };
-    let told = chain(rt.alloc(), genesis, SLOTS, shape)?;
-    measure_told(rt, genesis, &told)
+    match chain(rt.alloc(), genesis, SLOTS, shape) {
+        Ok(told) => measure_told(rt, genesis, &told),
+        Err(error) => Err(error),
+    }
 }
 
 /// Reads the configuration and the genesis state of a network, and measures a record from there, in which each vote is told so

@@ -7,7 +7,7 @@ ghost use Rattle.spec_state.specs.Genesis.{genesis_fault};
 use crate::chain::Event;
 use crate::genesis::Genesis;
 use crate::memory::resident;
-use crate::ratio::time_since;
+use crate::ratio::{now, time_since};
 use anyhow::{Result, bail};
 use bc_words::Steps;
 use beacon_state::genesis_check;
@@ -75,6 +75,28 @@ fn is_taken(alloc: Global, store: &mut Store, event: &Event) -> Result<bool> {
     Ok(store.on_event(alloc, event.kind, &event.payload).is_ok())
 }
 
+/// Takes one event.
+fn take_event(
+    rt: &(impl AllocGlobal + CpuClock),
+    store: &mut Store,
+    event: &Event,
+    times: &mut Times,
+) -> Result<()> {
+    let begin = now(rt);
+    let taken = is_taken(rt.alloc(), store, event)?;
+    times.add(event.kind, time_since(rt, begin)?);
+    times.accepted = times.accepted.saturating_add(u64::from(taken));
+    Ok(())
+}
+
+/// Takes the head.
+fn take_head(rt: &impl CpuClock, store: &mut Store, times: &mut Times) -> Result<()> {
+    let begin = now(rt);
+    let _head = counted::<Brand>(store, Blank::new(1));
+    times.heads = times.heads.saturating_add(time_since(rt, begin)?);
+    Ok(())
+}
+
 /// Takes one event, and the head behind it.
 fn take(
     rt: &(impl AllocGlobal + CpuClock),
@@ -82,14 +104,8 @@ fn take(
     event: &Event,
     times: &mut Times,
 ) -> Result<()> {
-    let begin = rt.process_cpu_time()?;
-    let taken = is_taken(rt.alloc(), store, event)?;
-    times.add(event.kind, time_since(rt, begin)?);
-    times.accepted = times.accepted.saturating_add(u64::from(taken));
-    let middle = rt.process_cpu_time()?;
-    let _head = counted::<Brand>(store, Blank::new(1));
-    times.heads = times.heads.saturating_add(time_since(rt, middle)?);
-    Ok(())
+    take_event(rt, store, event, times)?;
+    take_head(rt, store, times)
 }
 
 /// Takes these events.
@@ -138,15 +154,25 @@ pub fn run_store(
 ) -> Result<Times>
     requires preset { genesis.now.state.preset ≡ genesis.now.config.preset }
 {
-    let mut store = store_at(rt.alloc(), genesis)?;
-    run(rt, &mut store, events)
+    match store_at(rt.alloc(), genesis) {
+        Ok(mut store) => run(rt, &mut store, events),
+        Err(error) => Err(error),
+    }
 }
 
 /// A part of a run, and its share of the whole in hundredths.
-pub fn tell_part(rt: &impl Print, part: &str, time: Duration, whole: Duration) -> Result<()> {
+fn tell_part(rt: &impl Print, part: &str, time: Duration, whole: Duration) -> Result<()> {
     let micros = time.as_micros();
     let share = micros.saturating_mul(100) / whole.as_micros().max(1);
     println!(rt; "  {part}: {micros} us, {share} in 100")?;
+    Ok(())
+}
+
+/// The parts of a run, and their shares.
+fn tell_parts(rt: &impl Print, parts: &[(&str, Duration)], whole: Duration) -> Result<()> {
+    for (part, time) in parts {
+        tell_part(rt, part, *time, whole)?;
+    }
     Ok(())
 }
 
@@ -164,10 +190,13 @@ impl Times {
         let whole = self.whole();
         let micros = whole.as_micros();
         println!(rt; "a store with {events} events, {accepted} of them accepted: {micros} us")?;
-        tell_part(rt, "ticks", self.ticks, whole)?;
-        tell_part(rt, "blocks", self.blocks, whole)?;
-        tell_part(rt, "votes on the wire", self.wire, whole)?;
-        tell_part(rt, "carried votes", self.carried, whole)?;
-        tell_part(rt, "heads", self.heads, whole)
+        let parts = [
+            ("ticks", self.ticks),
+            ("blocks", self.blocks),
+            ("votes on the wire", self.wire),
+            ("carried votes", self.carried),
+            ("heads", self.heads),
+        ];
+        tell_parts(rt, &parts, whole)
     }
 }

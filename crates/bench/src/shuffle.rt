@@ -2,7 +2,7 @@
 //! round's pivot, and one for each 256 of the positions whose bits say which pairs swap. Those are half of all positions,
 //! the later one of each pair.
 
-use crate::ratio::{Ratio, time_since};
+use crate::ratio::{Ratio, now, time_since};
 use anyhow::Result;
 use sha2::{Digest, Sha256};
 use shuffling::shuffle_all;
@@ -43,14 +43,14 @@ fn round_hashes(round: u8) -> u8 {
 }
 
 /// Hashes behind the shuffling that began then, and prints both times.
-fn measure_shuffled(rt: &(impl Print + CpuClock), shuffled: &[u64], begin: Duration) -> Result<()> {
-    let middle = rt.process_cpu_time()?;
+fn measure_shuffled(rt: &(impl Print + CpuClock), shuffled: &[u64], whole: Duration) -> Result<()> {
+    let middle = now(rt);
     let mut joined = 0;
     for round in 0..ROUNDS {
         joined ^= round_hashes(round);
     }
     let ratio = Ratio {
-        whole: middle.saturating_sub(begin),
+        whole,
         measure: time_since(rt, middle)?,
     };
     let first = shuffled.get(0).copied().unwrap_or(0);
@@ -63,12 +63,12 @@ fn measure_shuffled(rt: &(impl Print + CpuClock), shuffled: &[u64], begin: Durat
 /// Shuffles, hashes, and prints both times.
 pub fn measure(rt: &(impl AllocGlobal + Print + CpuClock)) -> Result<()> {
     let list = numbers(rt.alloc(), ITEMS)?;
-    let begin = rt.process_cpu_time()?;
+    let begin = now(rt);
     if list.len() > 1 << 40 {
         return Ok(());
     }
     match shuffle_all(rt.alloc(), list, &[7; 32], u32::from(ROUNDS)) {
-        Ok(shuffled) => measure_shuffled(rt, &shuffled, begin),
+        Ok(shuffled) => measure_shuffled(rt, &shuffled, time_since(rt, begin)?),
         Err(_) => Ok(println!(rt; "shuffle: out of memory")?),
     }
 }

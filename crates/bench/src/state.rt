@@ -2,11 +2,12 @@
 
 ghost use Rattle.std.specs.Prelude.{◌≤◌};
 
-use crate::ratio::Ratio;
+use crate::ratio::{Ratio, now, time_since};
 use crate::states::{MOST, Shape, state_bytes};
 use anyhow::Result;
 use bc_preset::Preset;
 use beacon_state::{State, genesis_check};
+use hash_tree::Root;
 use sha2::{Digest, Sha256};
 use std::time::{CpuClock, Duration};
 
@@ -32,27 +33,18 @@ fn pair_hashes(pairs: u32) -> u8 {
     joined
 }
 
-/// Checks, roots and hashes a state that was read, and prints both times.
-fn time_root(
-    rt: &(impl AllocGlobal + Print + CpuClock),
-    state: &State,
+/// Prints what checking and rooting a state took, with the reading before it, against the hashes.
+fn tell(
+    rt: &impl Print,
     validators: u32,
-    begin: Duration,
-) -> Result<()>
-    requires { validators ≤ 262144 }
-{
-    let read = rt.process_cpu_time()?;
-    let checked = genesis_check(state);
-    let root = state.root();
-    let middle = rt.process_cpu_time()?;
-    let joined = pair_hashes(pairs_of(validators));
-    let end = rt.process_cpu_time()?;
-    let ratio = Ratio {
-        whole: middle.saturating_sub(begin),
-        measure: end.saturating_sub(middle),
-    };
-    let reading = read.saturating_sub(begin).as_micros();
-    let verdict = if checked.is_ok() {
+    is_genesis: bool,
+    reading: Duration,
+    ratio: &Ratio,
+    root: &Root,
+    joined: u8,
+) -> Result<()> {
+    let reading = reading.as_micros();
+    let verdict = if is_genesis {
         "a genesis"
     } else {
         "no genesis"
@@ -64,11 +56,38 @@ fn time_root(
     Ok(())
 }
 
+/// Checks, roots and hashes a state that was read, and prints both times.
+fn time_root(
+    rt: &(impl AllocGlobal + Print + CpuClock),
+    state: &State,
+    validators: u32,
+    begin: Option<Duration>,
+) -> Result<()>
+    requires { validators ≤ 262144 }
+{
+    let reading = time_since(rt, begin)?;
+    let is_genesis = genesis_check(state).is_ok();
+    let root = state.root();
+    let whole = time_since(rt, begin)?;
+    let middle = now(rt);
+    let joined = pair_hashes(pairs_of(validators));
+    let measure = time_since(rt, middle)?;
+    tell(
+        rt,
+        validators,
+        is_genesis,
+        reading,
+        &Ratio { whole, measure },
+        &root,
+        joined,
+    )
+}
+
 /// Reads, checks, roots, hashes, and prints both times.
 pub fn measure(rt: &(impl AllocGlobal + Print + CpuClock), validators: u32) -> Result<()> {
     let validators = validators.min(MOST);
     let bytes = state_bytes(rt.alloc(), &Shape::at_genesis(validators))?;
-    let begin = rt.process_cpu_time()?;
+    let begin = now(rt);
     match State::read(rt.alloc(), &Preset::mainnet(), &bytes) {
         Ok(state) => time_root(rt, &state, validators, begin),
         Err(fault) => Err(fault.into()),

@@ -2,6 +2,7 @@
 //! states behind them, all of which are kept.
 
 use crate::chain::Event;
+use crate::ratio::{now, time_since};
 use anyhow::{Result, bail};
 use bc_preset::Config;
 use beacon_body::SignedBeaconBlock;
@@ -10,6 +11,22 @@ use ssz_codec::Ssz;
 use std::time::{CpuClock, Duration};
 use transition::is_sound;
 use transition::state_transition::state_transition;
+
+/// The state behind a block, where its transition began then: the time of that is added.
+fn timed(
+    rt: &impl CpuClock,
+    state: State,
+    begin: Option<Duration>,
+    time: &mut Duration,
+) -> Result<State> {
+    match time_since(rt, begin) {
+        Ok(since) => {
+            *time = time.saturating_add(since);
+            Ok(state)
+        }
+        Err(error) => Err(error),
+    }
+}
 
 /// The state behind a block, and the time of its transition, which is added.
 fn time_block(
@@ -22,11 +39,11 @@ fn time_block(
     if !is_sound(rt.alloc(), state)? {
         bail!("the state isn't sound");
     }
-    let begin = rt.process_cpu_time()?;
-    let step = state_transition(rt.alloc(), state, block, config)?;
-    let end = rt.process_cpu_time()?;
-    *time = time.saturating_add(end.saturating_sub(begin));
-    Ok(step.state)
+    let begin = now(rt);
+    match state_transition(rt.alloc(), state, block, config) {
+        Ok(step) => timed(rt, step.state, begin, time),
+        Err(stop) => Err(stop.into()),
+    }
 }
 
 /// The same for a block's writing.
@@ -65,9 +82,10 @@ fn pass(
     bytes: &[u8],
     time: &mut Duration,
 ) -> Result<()> {
-    let state = time_on_last(rt, config, states, bytes, time)?;
-    states.push(state)?;
-    Ok(())
+    match time_on_last(rt, config, states, bytes, time) {
+        Ok(state) => Ok(states.push(state)?),
+        Err(error) => Err(error),
+    }
 }
 
 /// Takes the last of these states through the blocks among these events, and puts each state behind it. Gives the time of the

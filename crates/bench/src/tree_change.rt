@@ -1,7 +1,7 @@
 //! The root of a state of 262,144 validators after one balance, one vote and one mix changed, against the hashes of pairs, and
 //! reading the state, which roots it from nothing, against that root.
 
-use crate::ratio::Ratio;
+use crate::ratio::{Ratio, now, time_since};
 use crate::states::{Shape, state_bytes};
 use anyhow::Result;
 use bc_preset::Preset;
@@ -59,10 +59,54 @@ fn time_one(
     number: u64,
 ) -> Result<(Duration, u8)> {
     change(state, number)?;
-    let begin = rt.process_cpu_time()?;
+    let begin = now(rt);
     let root = state.root();
-    let end = rt.process_cpu_time()?;
-    Ok((end.saturating_sub(begin), root[0]))
+    Ok((time_since(rt, begin)?, root[0]))
+}
+
+/// The time of the state's root after each of so many changes, and their first bytes joined.
+fn time_all(rt: &(impl AllocGlobal + CpuClock), state: &mut State) -> Result<(Duration, u8)> {
+    let mut roots = Duration::ZERO;
+    let mut joined = 0;
+    for number in 0..TIMES {
+        let (time, first) = time_one(rt, state, number)?;
+        roots = roots.saturating_add(time);
+        joined ^= first;
+    }
+    Ok((roots, joined))
+}
+
+/// The time of the hashes, and what they are joined to.
+fn time_hashes(rt: &impl CpuClock) -> Result<(Duration, u8)> {
+    let begin = now(rt);
+    let joined = pair_hashes();
+    Ok((time_since(rt, begin)?, joined))
+}
+
+/// Prints the time of the roots, of them with their changes, and of the hashes, and that of reading.
+fn tell(
+    rt: &impl Print,
+    roots: Duration,
+    whole: Duration,
+    measure: Duration,
+    read: Duration,
+    joined: u8,
+) -> Result<()> {
+    let hashes = Ratio {
+        whole: roots,
+        measure,
+    };
+    let changes = Ratio { whole, measure };
+    let nothing = Ratio {
+        whole: read.saturating_mul(1000),
+        measure: roots,
+    };
+    println!(rt; "{TIMES} roots after changes, against 60 hashes of pairs each: {hashes}")?;
+    println!(rt; "with the changes, against the same: {changes}")?;
+    println!(rt;
+        "reading the state, {TIMES} times, against these roots: {nothing} (joined {joined})"
+    )?;
+    Ok(())
 }
 
 /// The time of the state's root after each of so many changes.
@@ -71,46 +115,29 @@ fn time_roots(
     state: &mut State,
     read: Duration,
 ) -> Result<()> {
-    let begin = rt.process_cpu_time()?;
-    let mut roots = Duration::ZERO;
-    let mut joined = 0;
-    for number in 0..TIMES {
-        let (time, first) = time_one(rt, state, number)?;
-        roots = roots.saturating_add(time);
-        joined ^= first;
-    }
-    let middle = rt.process_cpu_time()?;
-    joined ^= pair_hashes();
-    let end = rt.process_cpu_time()?;
-    let hashes = Ratio {
-        whole: roots,
-        measure: end.saturating_sub(middle),
-    };
-    println!(rt; "{TIMES} roots after changes, against 60 hashes of pairs each: {hashes}")?;
-    let changes = Ratio {
-        whole: middle.saturating_sub(begin),
-        measure: end.saturating_sub(middle),
-    };
-    println!(rt; "with the changes, against the same: {changes}")?;
-    let nothing = Ratio {
-        whole: read.saturating_mul(1000),
-        measure: roots,
-    };
-    println!(rt;
-        "reading the state, {TIMES} times, against these roots: {nothing} (joined {joined})"
-    )?;
-    Ok(())
+    let begin = now(rt);
+    let (roots, joined) = time_all(rt, state)?;
+    let whole = time_since(rt, begin)?;
+    let (measure, hashed) = time_hashes(rt)?;
+    tell(rt, roots, whole, measure, read, joined ^ hashed)
+}
+
+/// The same of a state that was begun to be read then.
+fn time_read(
+    rt: &(impl AllocGlobal + Print + CpuClock),
+    state: &mut State,
+    begin: Option<Duration>,
+) -> Result<()> {
+    let read = time_since(rt, begin)?;
+    time_roots(rt, state, read)
 }
 
 /// Reads the state, changes and roots it, hashes, and prints the times.
 pub fn measure(rt: &(impl AllocGlobal + Print + CpuClock)) -> Result<()> {
     let bytes = state_bytes(rt.alloc(), &Shape::at_genesis(VALIDATORS))?;
-    let begin = rt.process_cpu_time()?;
+    let begin = now(rt);
     match State::read(rt.alloc(), &Preset::mainnet(), &bytes) {
-        Ok(mut state) => {
-            let end = rt.process_cpu_time()?;
-            time_roots(rt, &mut state, end.saturating_sub(begin))
-        }
+        Ok(mut state) => time_read(rt, &mut state, begin),
         Err(fault) => Err(fault.into()),
     }
 }

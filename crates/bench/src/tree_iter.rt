@@ -1,13 +1,13 @@
 //! A pass over the registry and the balances of a state of 262,144 validators by their iterators, against a pass over vectors of
 //! the same.
 
-use crate::ratio::Ratio;
+use crate::ratio::{Ratio, now, time_since};
 use crate::states::{Shape, mainnet_state};
 use anyhow::Result;
 use beacon_state::State;
 use beacon_types::Validator;
 use std::alloc::{AllocError, Global};
-use std::time::CpuClock;
+use std::time::{CpuClock, Duration};
 
 /// How many validators there are.
 const VALIDATORS: u32 = 262_144;
@@ -80,37 +80,63 @@ fn balances_of(alloc: Global, state: &State) -> Result<Vec<u64>, AllocError> {
     Ok(balances)
 }
 
+/// What is passed over.
+#[derive(Clone, Copy)]
+enum Pass<'a> {
+    /// The registry of a state by its iterator.
+    Registry(&'a State),
+    /// The same by a walk to each validator.
+    Walks(&'a State),
+    /// A vector of validators.
+    Vector(&'a [Validator]),
+    /// The balances of a state by their iterator.
+    Balances(&'a State),
+    /// A vector of numbers.
+    Numbers(&'a [u64]),
+}
+
+/// One pass.
+fn pass_once(pass: Pass<'_>) -> u64 {
+    match pass {
+        Pass::Registry(state) => pass_tree(state),
+        Pass::Walks(state) => pass_walks(state),
+        Pass::Vector(validators) => pass_vector(validators),
+        Pass::Balances(state) => pass_balances(state),
+        Pass::Numbers(numbers) => pass_numbers(numbers),
+    }
+}
+
+/// The time of so many passes, and what they are joined to.
+fn time_pass(rt: &impl CpuClock, pass: Pass<'_>) -> Result<(Duration, u64)> {
+    let begin = now(rt);
+    let mut joined = 0;
+    for _ in 0..PASSES {
+        joined ^= pass_once(pass);
+    }
+    Ok((time_since(rt, begin)?, joined))
+}
+
 /// Passes over both registries, and prints their times.
 fn time_registry(
     rt: &(impl AllocGlobal + Print + CpuClock),
     state: &State,
     validators: &[Validator],
 ) -> Result<()> {
-    let begin = rt.process_cpu_time()?;
-    let mut joined = 0;
-    for _ in 0..PASSES {
-        joined ^= pass_tree(state);
-    }
-    let middle = rt.process_cpu_time()?;
-    for _ in 0..PASSES {
-        joined ^= pass_vector(validators);
-    }
-    let end = rt.process_cpu_time()?;
-    for _ in 0..PASSES {
-        joined ^= pass_walks(state);
-    }
-    let walked = rt.process_cpu_time()?;
+    let (tree, first) = time_pass(rt, Pass::Registry(state))?;
+    let (vector, second) = time_pass(rt, Pass::Vector(validators))?;
+    let (walked, third) = time_pass(rt, Pass::Walks(state))?;
     let passes = Ratio {
-        whole: middle.saturating_sub(begin),
-        measure: end.saturating_sub(middle),
+        whole: tree,
+        measure: vector,
     };
+    let walks = Ratio {
+        whole: walked,
+        measure: tree,
+    };
+    let joined = first ^ second ^ third;
     println!(rt;
         "{PASSES} passes over {VALIDATORS} validators, against a vector: {passes} (joined {joined})"
     )?;
-    let walks = Ratio {
-        whole: walked.saturating_sub(end),
-        measure: middle.saturating_sub(begin),
-    };
     println!(rt; "a walk to each of them, against these passes: {walks}")?;
     Ok(())
 }
@@ -121,32 +147,31 @@ fn time_balances(
     state: &State,
     balances: &[u64],
 ) -> Result<()> {
-    let begin = rt.process_cpu_time()?;
-    let mut joined = 0;
-    for _ in 0..PASSES {
-        joined ^= pass_balances(state);
-    }
-    let middle = rt.process_cpu_time()?;
-    for _ in 0..PASSES {
-        joined ^= pass_numbers(balances);
-    }
-    let end = rt.process_cpu_time()?;
-    let passes = Ratio {
-        whole: middle.saturating_sub(begin),
-        measure: end.saturating_sub(middle),
-    };
+    let (whole, first) = time_pass(rt, Pass::Balances(state))?;
+    let (measure, second) = time_pass(rt, Pass::Numbers(balances))?;
+    let passes = Ratio { whole, measure };
+    let joined = first ^ second;
     println!(rt;
         "{PASSES} passes over {VALIDATORS} balances, against a vector: {passes} (joined {joined})"
     )?;
     Ok(())
 }
 
+/// The same of the registry, with a vector of it.
+fn time_registries(rt: &(impl AllocGlobal + Print + CpuClock), state: &State) -> Result<()> {
+    match registry_of(rt.alloc(), state) {
+        Ok(validators) => time_registry(rt, state, &validators),
+        Err(refused) => Err(refused.into()),
+    }
+}
+
 /// Makes the vectors, and passes over all.
 fn time_passes(rt: &(impl AllocGlobal + Print + CpuClock), state: &State) -> Result<()> {
-    let validators = registry_of(rt.alloc(), state)?;
-    time_registry(rt, state, &validators)?;
-    let balances = balances_of(rt.alloc(), state)?;
-    time_balances(rt, state, &balances)
+    time_registries(rt, state)?;
+    match balances_of(rt.alloc(), state) {
+        Ok(balances) => time_balances(rt, state, &balances),
+        Err(refused) => Err(refused.into()),
+    }
 }
 
 /// Reads the state, passes over it, and prints the times.

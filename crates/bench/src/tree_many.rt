@@ -3,7 +3,7 @@
 ghost use Rattle.std.specs.Prelude.{◌≡◌, ◌<◌, ◌≤◌, ◌^◌, length, IfOk};
 ghost use Rattle.tree_nodes.specs.Changes.{AreChanges};
 
-use crate::ratio::{Ratio, time_since};
+use crate::ratio::{Ratio, now, time_since};
 use anyhow::Result;
 use bc_words::{NoMemory, Steps};
 use beacon_types::Validator;
@@ -92,7 +92,7 @@ fn time_set<L: Ledger>(
     requires places { AreChanges 0 (length list.old.items) changes.items }
 {
     let mut steps = Steps::<L>::new(blank);
-    let begin = rt.process_cpu_time()?;
+    let begin = now(rt);
     list.set_many(changes, &mut steps)?;
     time_since(rt, begin)
 }
@@ -110,7 +110,7 @@ fn time_set_numbers<L: Ledger>(
     requires places { AreChanges 0 (length list.old.items) changes.items }
 {
     let mut steps = Steps::<L>::new(blank);
-    let begin = rt.process_cpu_time()?;
+    let begin = now(rt);
     list.set_many(changes, &mut steps)?;
     time_since(rt, begin)
 }
@@ -127,7 +127,7 @@ fn tell(rt: &impl Print, items: &str, times: &Ratio, first: u8) -> Result<()> {
 fn measure_setting(
     rt: &(impl AllocGlobal + Print + CpuClock),
     list: &mut SharedList<Validator>,
-    begin: Duration,
+    begin: Option<Duration>,
 ) -> Result<()>
     requires all { length list.old.items ≡ 262144 }
 {
@@ -141,7 +141,7 @@ fn measure_setting(
 fn measure_setting_numbers(
     rt: &(impl AllocGlobal + Print + CpuClock),
     list: &mut PackedList,
-    begin: Duration,
+    begin: Option<Duration>,
 ) -> Result<()>
     requires all { length list.old.items ≡ 262144 }
 {
@@ -154,7 +154,7 @@ fn measure_setting_numbers(
 /// Makes a list of validators, sets each, and prints both times.
 fn measure_validators(rt: &(impl AllocGlobal + Print + CpuClock)) -> Result<()> {
     let items = validators(rt.alloc())?;
-    let begin = rt.process_cpu_time()?;
+    let begin = now(rt);
     match SharedList::from_vec(items, LIMIT) {
         Ok(mut list) => measure_setting(rt, &mut list, begin),
         Err(stop) => Err(stop.into()),
@@ -164,7 +164,7 @@ fn measure_validators(rt: &(impl AllocGlobal + Print + CpuClock)) -> Result<()> 
 /// Makes a list of numbers, sets each, and prints both times.
 fn measure_numbers(rt: &(impl AllocGlobal + Print + CpuClock)) -> Result<()> {
     let items = numbers(rt.alloc())?;
-    let begin = rt.process_cpu_time()?;
+    let begin = now(rt);
     match PackedList::from_vec(items, LIMIT) {
         Ok(mut list) => measure_setting_numbers(rt, &mut list, begin),
         Err(stop) => Err(stop.into()),

@@ -3,7 +3,7 @@
 
 ghost use Rattle.spec_state.specs.Soundness.{IsSound};
 
-use crate::ratio::{Ratio, time_since};
+use crate::ratio::{Ratio, now, time_since};
 use crate::states::{CONFIG, Shape, mainnet_state};
 use anyhow::{Result, bail};
 use bc_preset::Config;
@@ -24,7 +24,7 @@ fn time_to(
 ) -> Result<Duration>
     requires { IsSound state.now }
 {
-    let begin = rt.process_cpu_time()?;
+    let begin = now(rt);
     let _step = process_slots(rt.alloc(), state, slot, config)?;
     time_since(rt, begin)
 }
@@ -35,22 +35,36 @@ fn time_behind(
     state: &State,
     next: &State,
     config: &Config,
-    begin: Duration,
+    measure: Duration,
 ) -> Result<()>
     requires sound { IsSound state.now }
     requires next { IsSound next.now }
 {
-    let end = rt.process_cpu_time()?;
     let rest = time_to(rt, next, 127, config)?.as_micros();
     let ratio = Ratio {
         whole: time_to(rt, state, 95 + 128, config)?,
-        measure: end.saturating_sub(begin),
+        measure,
     };
     println!(rt;
         "128 slots on {VALIDATORS} validators, with votes of two epochs, against the first, which ends one: {ratio}"
     )?;
     println!(rt; "the 31 behind the first, which end none: {rest} us")?;
     Ok(())
+}
+
+/// The same behind the first slot, which was begun then.
+fn time_stepped(
+    rt: &(impl AllocGlobal + Print + CpuClock),
+    state: &State,
+    next: &State,
+    config: &Config,
+    begin: Option<Duration>,
+) -> Result<()>
+    requires sound { IsSound state.now }
+    requires next { IsSound next.now }
+{
+    let measure = time_since(rt, begin)?;
+    time_behind(rt, state, next, config, measure)
 }
 
 /// Takes the sound state through its first slot, and then through the others.
@@ -61,9 +75,9 @@ fn time_slots(
 ) -> Result<()>
     requires { IsSound state.now }
 {
-    let begin = rt.process_cpu_time()?;
+    let begin = now(rt);
     match process_slots(rt.alloc(), state, 96, config) {
-        Ok(step) => time_behind(rt, state, &step.state, config, begin),
+        Ok(step) => time_stepped(rt, state, &step.state, config, begin),
         Err(stop) => Err(stop.into()),
     }
 }

@@ -2,10 +2,8 @@
 
 use beacon_body::{Attestation, AttesterSlashing, BeaconBlock, SignedBeaconBlock, empty_body_root};
 use hash_tree::{Leaf, Root};
-use ssz_codec::{ListValue, Ssz, SszFault, one_writing, reads_back};
+use ssz_codec::{ListValue, Ssz, one_writing, reads_back};
 use std::alloc::Global;
-use std::process::Abort;
-use std::test::Fail;
 use store_parts::root_clash::clash;
 
 // The roots below were computed beside this code, from simple-serialize.md alone.
@@ -28,28 +26,38 @@ fn is_written<T: Ssz>(alloc: Global, value: &T, bytes: &[u8]) -> bool {
     }
 }
 
-/// The roots of the default block, and that it is written so.
-fn default_block_holds(rt: &(impl AllocGlobal + Abort), block: &SignedBeaconBlock, bytes: &[u8]) {
-    assert_eq!(rt; block.message.body.root(), DEFAULT_BODY);
-    assert_eq!(rt; block.root(), DEFAULT_SIGNED_BLOCK);
-    assert!(rt; is_written(rt.alloc(), block, bytes));
+/// Whether the default block is written so, and has these roots.
+fn default_block_holds(alloc: Global, block: &SignedBeaconBlock, bytes: &[u8]) -> bool {
     reads_back::<SignedBeaconBlock>();
     one_writing::<BeaconBlock>();
+    (block.message.body.root() == DEFAULT_BODY)
+        & (block.root() == DEFAULT_SIGNED_BLOCK)
+        & is_written(alloc, block, bytes)
 }
 
-#[test]
-fn default_roots(rt: HostRuntime) -> Result<(), Fail> {
-    assert_eq!(rt; empty_body_root(), DEFAULT_BODY);
+/// The writing of the default block.
+fn default_block() -> [u8; 404] {
     let mut bytes = [0; 404];
     bytes[0] = 100;
     bytes[180] = 84;
     for at in [384, 388, 392, 396, 400] {
         bytes[at] = 220;
     }
-    match SignedBeaconBlock::read(rt.alloc(), &bytes) {
-        Ok(block) => Ok(default_block_holds(&rt, &block, &bytes)),
-        Err(fault) => Err(fault.into()),
+    bytes
+}
+
+/// Whether the default block is read of its writing.
+fn default_block_is_read(alloc: Global, bytes: &[u8]) -> bool {
+    match SignedBeaconBlock::read(alloc, bytes) {
+        Ok(block) => default_block_holds(alloc, &block, bytes),
+        Err(_fault) => false,
     }
+}
+
+#[test]
+fn default_roots(rt: HostRuntime) {
+    assert!(rt; empty_body_root() == DEFAULT_BODY);
+    assert!(rt; default_block_is_read(rt.alloc(), &default_block()));
 }
 
 /// Whether a value equals its copy.
@@ -68,30 +76,40 @@ fn differs<T: Ssz + ListValue>(alloc: Global, value: &T, bytes: &[u8]) -> bool {
     }
 }
 
-#[test]
-fn attestations_are_copied(rt: HostRuntime) -> Result<(), Fail> {
-    let mut bytes = [0; 229];
-    bytes[0] = 228;
-    bytes[228] = 5;
-    let attestation = Attestation::read(rt.alloc(), &bytes)?;
-    assert!(rt; is_copied(&attestation));
-    bytes[228] = 7;
-    assert!(rt; differs(rt.alloc(), &attestation, &bytes));
-    Ok(())
+/// Whether what is read of some bytes equals its copy, and differs from what is read of the others.
+fn is_told_apart<T: Ssz + ListValue>(alloc: Global, bytes: &[u8], others: &[u8]) -> bool {
+    match T::read(alloc, bytes) {
+        Ok(value) => is_copied(&value) & differs(alloc, &value, others),
+        Err(_fault) => false,
+    }
 }
 
-#[test]
-fn slashings_are_copied(rt: HostRuntime) -> Result<(), Fail> {
+/// The writing of an attestation with these bits.
+fn attestation(bits: u8) -> [u8; 229] {
+    let mut bytes = [0; 229];
+    bytes[0] = 228;
+    bytes[228] = bits;
+    bytes
+}
+
+/// The writing of an attester slashing with this last byte.
+fn attester_slashing(last: u8) -> [u8; 464] {
     let mut bytes = [0; 464];
     bytes[0] = 8;
     bytes[4] = 236;
     bytes[8] = 228;
     bytes[236] = 228;
-    let slashing = AttesterSlashing::read(rt.alloc(), &bytes)?;
-    assert!(rt; is_copied(&slashing));
-    bytes[463] = 1;
-    assert!(rt; differs(rt.alloc(), &slashing, &bytes));
-    Ok(())
+    bytes[463] = last;
+    bytes
+}
+
+#[test]
+fn operations_are_copied(rt: HostRuntime) {
+    let alloc = rt.alloc();
+    assert!(rt; is_told_apart::<Attestation>(alloc, &attestation(5), &attestation(7)));
+    assert!(rt;
+        is_told_apart::<AttesterSlashing>(alloc, &attester_slashing(0), &attester_slashing(1))
+    );
 }
 
 /// The writing of a block that is empty but for its graffiti's first byte.
@@ -105,53 +123,37 @@ fn empty_block(graffiti: u8) -> [u8; 304] {
     bytes
 }
 
-/// Whether an empty block with these roots clashes where none is kept.
-fn clashes_alone(alloc: Global, root: Root, state_root: Root) -> Result<bool, SszFault> {
-    let block = BeaconBlock::read(alloc, &empty_block(0))?;
-    Ok(clash(root, state_root, None, &block))
+/// Whether an empty block clashes by its roots alone.
+fn clashes_alone(block: &BeaconBlock) -> bool {
+    !clash([1; 32], [2; 32], None, block)
+        & clash([0; 32], [2; 32], None, block)
+        & clash([1; 32], [0; 32], None, block)
 }
 
-/// Whether an empty block with this graffiti clashes with a kept one.
-fn clashes_with(alloc: Global, kept: &BeaconBlock, graffiti: u8) -> Result<bool, SszFault> {
+/// Whether a block equals a kept one where it is the same, and clashes with it where it is another one.
+fn is_compared(kept: &BeaconBlock, block: &BeaconBlock, same: bool) -> bool {
+    (kept.equals(block) == same) & (clash([1; 32], [2; 32], Some(kept), block) != same)
+}
+
+/// Whether the empty block with this graffiti is compared so with a kept one.
+fn with_kept(alloc: Global, kept: &BeaconBlock, graffiti: u8) -> bool {
     match BeaconBlock::read(alloc, &empty_block(graffiti)) {
-        Ok(block) => Ok(clash([1; 32], [2; 32], Some(kept), &block)),
-        Err(fault) => Err(fault),
+        Ok(block) => is_compared(kept, &block, graffiti == 0),
+        Err(_fault) => false,
     }
 }
 
-/// Whether a block clashes with the empty one that is kept.
-fn clashes_with_a_kept(alloc: Global, graffiti: u8) -> Result<bool, SszFault> {
+/// Whether the empty block clashes by its roots, and is compared so with itself and with another one.
+fn empty_block_holds(alloc: Global) -> bool {
     match BeaconBlock::read(alloc, &empty_block(0)) {
-        Ok(kept) => clashes_with(alloc, &kept, graffiti),
-        Err(fault) => Err(fault),
+        Ok(kept) => {
+            clashes_alone(&kept) & with_kept(alloc, &kept, 0) & with_kept(alloc, &kept, 1)
+        }
+        Err(_fault) => false,
     }
 }
 
 #[test]
-fn roots_clash(rt: HostRuntime) {
-    assert_eq!(rt; clashes_alone(rt.alloc(), [1; 32], [2; 32]), Ok(false));
-    assert_eq!(rt; clashes_alone(rt.alloc(), [0; 32], [2; 32]), Ok(true));
-    assert_eq!(rt; clashes_alone(rt.alloc(), [1; 32], [0; 32]), Ok(true));
-    assert_eq!(rt; clashes_with_a_kept(rt.alloc(), 0), Ok(false));
-    assert_eq!(rt; clashes_with_a_kept(rt.alloc(), 1), Ok(true));
-}
-
-/// Whether a block equals the empty one with this graffiti.
-fn equals_empty(alloc: Global, block: &BeaconBlock, graffiti: u8) -> Result<bool, SszFault> {
-    let other = BeaconBlock::read(alloc, &empty_block(graffiti))?;
-    Ok(block.equals(&other))
-}
-
-/// An empty block equals the one with its graffiti, and no other.
-fn equals_one_graffiti(rt: &(impl AllocGlobal + Abort), block: &BeaconBlock) {
-    assert_eq!(rt; equals_empty(rt.alloc(), block, 0), Ok(true));
-    assert_eq!(rt; equals_empty(rt.alloc(), block, 1), Ok(false));
-}
-
-#[test]
-fn blocks_are_compared(rt: HostRuntime) -> Result<(), Fail> {
-    match BeaconBlock::read(rt.alloc(), &empty_block(0)) {
-        Ok(block) => Ok(equals_one_graffiti(&rt, &block)),
-        Err(fault) => Err(fault.into()),
-    }
+fn blocks_clash_or_are_equal(rt: HostRuntime) {
+    assert!(rt; empty_block_holds(rt.alloc()));
 }

@@ -8,7 +8,6 @@ use beacon_state::{State, genesis_check};
 use hash_tree::Root;
 use ssz_codec::SszFault;
 use std::alloc::{AllocError, Global};
-use std::process::Abort;
 use std::test::Fail;
 
 const MIX: Root = [
@@ -36,8 +35,18 @@ const STATE_ROOT: Root = [
     0x83, 0x0e, 0xe8, 0xbb, 0xe0, 0x7f, 0x32, 0xd6, 0xbc, 0xd5, 0x86, 0xce, 0xd0, 0x84, 0x05, 0xe1,
 ];
 
+/// Where the six lists of the genesis of 64 validators begin.
+const STARTS: &[(usize, u32)] = &[
+    (4272, 7057),
+    (4348, 7057),
+    (4360, 7057),
+    (4364, 14_801),
+    (6928, 15_313),
+    (6932, 15_313),
+];
+
 /// Puts bytes at a place.
-fn place(bytes: &mut Vec<u8>, at: usize, part: &[u8]) {
+pub fn place(bytes: &mut Vec<u8>, at: usize, part: &[u8]) {
     let mut next = at;
     for byte in part {
         if let Some(here) = bytes.get_mut(next) {
@@ -47,36 +56,28 @@ fn place(bytes: &mut Vec<u8>, at: usize, part: &[u8]) {
     }
 }
 
-/// What is not zero in the fixed part of a state of the minimal preset.
+/// So many bytes of a state of the minimal preset: zero but for the offsets, which say where its lists begin.
+pub fn state_bytes(
+    alloc: Global,
+    len: usize,
+    starts: &[(usize, u32)],
+) -> Result<Vec<u8>, AllocError> {
+    let mut bytes = vec![in alloc; 0; len]?;
+    for (at, start) in starts {
+        place(&mut bytes, *at, &start.to_le_bytes());
+    }
+    Ok(bytes)
+}
+
+/// What is not zero in the fixed part of the genesis beside offsets, the validators and their balances.
 fn place_fields(bytes: &mut Vec<u8>) {
+    let balance = 32_000_000_000u64.to_le_bytes();
     place(bytes, 0, &1000u64.to_le_bytes());
     place(bytes, 8, &VALIDATORS_ROOT);
     place(bytes, 144, &BODY_ROOT);
     for i in 0..64 {
-        place(bytes, 4368 + 32 * i, &MIX);
-    }
-}
-
-/// The offsets of the six lists.
-fn place_offsets(bytes: &mut Vec<u8>) {
-    let starts = [
-        (4272, 7057u32),
-        (4348, 7057),
-        (4360, 7057),
-        (4364, 14_801),
-        (6928, 15_313),
-        (6932, 15_313),
-    ];
-    for (at, start) in starts {
-        place(bytes, at, &start.to_le_bytes());
-    }
-}
-
-/// The validators and their balances.
-fn place_validators(bytes: &mut Vec<u8>) {
-    let balance = 32_000_000_000u64.to_le_bytes();
-    for i in 0..64 {
         let at = 7057 + 121 * i;
+        place(bytes, 4368 + 32 * i, &MIX);
         place(bytes, at, &[i as u8]);
         place(bytes, at + 80, &balance);
         place(bytes, at + 105, &[255; 16]);
@@ -86,10 +87,8 @@ fn place_validators(bytes: &mut Vec<u8>) {
 
 /// A genesis of 64 validators.
 pub fn genesis(alloc: Global) -> Result<Vec<u8>, AllocError> {
-    let mut bytes = vec![in alloc; 0; 15_313]?;
+    let mut bytes = state_bytes(alloc, 15_313, STARTS)?;
     place_fields(&mut bytes);
-    place_offsets(&mut bytes);
-    place_validators(&mut bytes);
     Ok(bytes)
 }
 
@@ -103,45 +102,46 @@ fn is_written(alloc: Global, state: &State, bytes: &[u8]) -> bool
     }
 }
 
-/// The roots of the genesis of 64 validators.
-fn roots_are(rt: &impl Abort, state: &State) {
-    assert_eq!(rt; state.root(), STATE_ROOT);
-    assert_eq!(rt; state.header_root(), BLOCK_ROOT);
-    assert_eq!(rt; empty_body_root(), BODY_ROOT);
+/// Whether the genesis of 64 validators has its roots and what is read of it, and the check takes it.
+fn genesis_holds(state: &State) -> bool {
+    let roots = (state.root() == STATE_ROOT)
+        & (state.header_root() == BLOCK_ROOT)
+        & (empty_body_root() == BODY_ROOT);
+    let fields = (state.genesis_time() == 1000)
+        & (state.validators_len() == 64)
+        & (state.balances_at(63) == Some(32_000_000_000))
+        & state.balances_at(64).is_none();
+    roots & fields & genesis_check(state).is_ok()
 }
 
-/// What is read of the genesis of 64 validators.
-fn fields_are(rt: &impl Abort, state: &State) {
-    assert_eq!(rt; state.genesis_time(), 1000);
-    assert_eq!(rt; state.validators_len(), 64);
-    assert_eq!(rt; state.balances_at(63), Some(32_000_000_000));
-    assert_eq!(rt; state.balances_at(64), None);
+/// Whether these bytes are read as the genesis of 64 validators, which is written as they are.
+fn is_genesis(alloc: Global, bytes: &[u8]) -> bool {
+    match State::read(alloc, &Preset::minimal(), bytes) {
+        Ok(state) => is_written(alloc, &state, bytes) & genesis_holds(&state),
+        Err(_fault) => false,
+    }
 }
 
-/// The genesis of 64 validators with its writing and its roots, which the check takes.
-fn genesis_holds(rt: &(impl AllocGlobal + Abort), state: &State, bytes: &[u8])
-    requires { HasWriting state.now }
-{
-    assert!(rt; is_written(rt.alloc(), state, bytes));
-    roots_are(rt, state);
-    fields_are(rt, state);
-    assert_eq!(rt; genesis_check(state), Ok(()));
+/// Whether these bytes are no state.
+fn is_no_state(alloc: Global, bytes: &[u8]) -> bool {
+    matches!(
+        State::read(alloc, &Preset::minimal(), bytes),
+        Err(SszFault::NotAWriting)
+    )
 }
 
 #[test]
 fn roots_of_a_genesis(rt: HostRuntime) -> Result<(), Fail> {
     let bytes = genesis(rt.alloc())?;
-    match State::read(rt.alloc(), &Preset::minimal(), &bytes) {
-        Ok(state) => Ok(genesis_holds(&rt, &state, &bytes)),
-        Err(fault) => Err(fault.into()),
-    }
+    let holds = is_genesis(rt.alloc(), &bytes);
+    assert!(rt; holds);
+    Ok(())
 }
 
 #[test]
 fn a_byte_less_is_no_state(rt: HostRuntime) -> Result<(), Fail> {
     let bytes = genesis(rt.alloc())?;
-    assert_eq!(rt; bytes.len(), 15_313);
-    let short = State::read(rt.alloc(), &Preset::minimal(), &bytes.as_slice()[1..]);
-    assert_eq!(rt; short.err(), Some(SszFault::NotAWriting));
+    let holds = bytes.len() == 15_313 && is_no_state(rt.alloc(), &bytes.as_slice()[1..]);
+    assert!(rt; holds);
     Ok(())
 }

@@ -11,7 +11,6 @@ use bc_outside::{
 use made_up::{OneFile, TakesNothing, ThreeBytes};
 use std::alloc::{AllocError, Global};
 use std::path::{Path, PathBuf};
-use std::process::Abort;
 use std::rt::{Env, Files};
 use std::test::Fail;
 use std::{env, fs, io, process};
@@ -30,19 +29,22 @@ fn shelf_of_fox(alloc: Global, greatest: usize) -> Result<MemoryShelf, AllocErro
     Ok(MemoryShelf::new(alloc, files, failing, greatest))
 }
 
-/// Whether a shelf hands out these bytes of an opened file, up to a limit.
+/// Whether a shelf hands out these bytes of an opened file, up to a limit; where there are none, whether it fails.
 fn hands_out<F: Shelf>(
     alloc: Global,
     shelf: &mut F,
     file: u32,
     limit: usize,
-    bytes: &[u8],
-) -> Result<bool, Trouble>
+    bytes: Option<&[u8]>,
+) -> bool
     requires { file < length (F.told shelf.old).files }
     ensures { length (F.told shelf.old).files ≤ length (F.told shelf.new).files }
 {
-    let read = read_at_most(alloc, shelf, file, limit)?;
-    Ok(read.as_slice() == bytes)
+    match (read_at_most(alloc, shelf, file, limit), bytes) {
+        (Ok(read), Some(bytes)) => read.as_slice() == bytes,
+        (Err(_trouble), None) => true,
+        _ => false,
+    }
 }
 
 /// Whether the shelf was asked for three files, first for this one.
@@ -53,53 +55,63 @@ fn asked_first(shelf: &MemoryShelf, name: &str) -> bool {
     }
 }
 
-/// Opens the file twice, and reads it whole and up to a limit.
-fn fox_is_read(rt: &impl Abort, alloc: Global, shelf: &mut MemoryShelf) -> Result<(), Trouble>
-    requires { shelf.old.opened ≡ [] }
+/// Reads the file whole, and up to a limit, where each is opened: the second read is the shelf's fifth call.
+fn fox_is_read(alloc: Global, shelf: &mut MemoryShelf, whole: u32, start: u32) -> bool
+    requires whole { whole < length shelf.old.opened }
+    requires start { start < length shelf.old.opened }
 {
     let text = TEXT.as_slice();
-    assert!(rt; shelf.open("dog").is_err());
+    let first = hands_out(alloc, shelf, start, 1, Some(&text[..1]));
+    let fails = hands_out(alloc, shelf, whole, 100, None);
+    let counted = (shelf.faults() == 2) & (shelf.calls() == 5) & asked_first(shelf, "dog");
+    let next = hands_out(alloc, shelf, start, 4, Some(&text[1..5]));
+    let all = hands_out(alloc, shelf, whole, 100, Some(text));
+    let end = hands_out(alloc, shelf, whole, 100, Some(&[]));
+    first & fails & counted & next & all & end
+}
+
+/// Whether the file, opened twice, is read so, and no other is opened.
+fn fox_is_opened(alloc: Global, shelf: &mut MemoryShelf) -> Result<bool, Trouble>
+    requires { shelf.old.opened ≡ [] }
+{
+    let no_dog = shelf.open("dog").is_err();
     let whole = shelf.open("fox")?;
     let start = shelf.open("fox")?;
-    assert!(rt; hands_out(alloc, shelf, start, 1, &text[..1])?);
-    assert!(rt; hands_out(alloc, shelf, whole, 100, text).is_err());
-    assert_eq!(rt; shelf.faults(), 2);
-    assert_eq!(rt; shelf.calls(), 5);
-    assert!(rt; asked_first(shelf, "dog"));
-    assert!(rt; hands_out(alloc, shelf, start, 4, &text[1..5])?);
-    assert!(rt; hands_out(alloc, shelf, whole, 100, text)?);
-    assert!(rt; hands_out(alloc, shelf, whole, 100, &[])?);
-    Ok(())
+    Ok(no_dog & fox_is_read(alloc, shelf, whole, start))
 }
 
 /// The same over a shelf that hands out at most so many bytes a call.
-fn reads(rt: &impl Abort, alloc: Global, greatest: usize) -> Result<(), Fail>
+fn reads(alloc: Global, greatest: usize) -> Result<bool, Fail>
     requires { 1 ≤ greatest }
 {
     let mut shelf = shelf_of_fox(alloc, greatest)?;
-    Ok(fox_is_read(rt, alloc, &mut shelf)?)
+    Ok(fox_is_opened(alloc, &mut shelf)?)
 }
 
-// Writes a text to a sink that takes at most `greatest` bytes a call, and fails at the third one.
-fn writes(rt: &impl Abort, alloc: Global, greatest: usize, before: usize) -> Result<(), Fail>
+/// Whether a sink that takes at most so many bytes a call, and fails at the third one, has so many of the text.
+fn writes(alloc: Global, greatest: usize, before: usize) -> Result<bool, AllocError>
     requires some { 1 ≤ greatest }
     requires part { before ≤ 43 }
 {
     let mut sink = MemorySink::new(alloc, Vec::from_array(alloc, [3u64])?, greatest);
     let _ = write_all(&mut sink, TEXT.as_slice());
-    assert_eq!(rt; sink.written(), &TEXT[..before]);
-    Ok(())
+    Ok(sink.written() == &TEXT[..before])
 }
 
 #[test]
 fn memory(rt: HostRuntime) -> Result<(), Fail> {
-    reads(&rt, rt.alloc(), 1)?;
-    reads(&rt, rt.alloc(), 3)?;
-    reads(&rt, rt.alloc(), 7)?;
-    reads(&rt, rt.alloc(), 100)?;
-    writes(&rt, rt.alloc(), 1, 2)?;
-    writes(&rt, rt.alloc(), 7, 14)?;
-    writes(&rt, rt.alloc(), 43, 43)
+    for greatest in [1, 3, 7, 100] {
+        assert!(rt; greatest >= 1 && reads(rt.alloc(), greatest)?);
+    }
+    Ok(())
+}
+
+#[test]
+fn sink_in_memory(rt: HostRuntime) -> Result<(), Fail> {
+    for (greatest, before) in [(1, 2), (7, 14), (43, 43)] {
+        assert!(rt; greatest >= 1 && before <= 43 && writes(rt.alloc(), greatest, before)?);
+    }
+    Ok(())
 }
 
 /// What a shelf hands out of the file of this name, up to a limit.
@@ -179,30 +191,50 @@ fn long_text(alloc: Global) -> Result<Vec<u8>, AllocError> {
     Ok(text)
 }
 
-/// What was handed out of each of two opened files.
-fn handed_out_is(rt: &impl Abort, shelf: &DiskShelf<'_, OneFile>) {
-    assert_eq!(rt; shelf.handed_out(0), Some(150_000));
-    assert_eq!(rt; shelf.handed_out(1), Some(70_001));
-    assert_eq!(rt; shelf.handed_out(2), None);
+/// Whether so much was handed out of each of two opened files.
+fn handed_out_is(shelf: &DiskShelf<'_, OneFile>) -> bool {
+    (shelf.handed_out(0) == Some(150_000))
+        & (shelf.handed_out(1) == Some(70_001))
+        & shelf.handed_out(2).is_none()
 }
 
-/// Opens the file twice, and reads it whole and up to a limit.
+/// Whether the file, where it is opened twice, is read whole and up to a limit.
 fn long_file_is_read(
-    rt: &impl Abort,
+    alloc: Global,
+    shelf: &mut DiskShelf<'_, OneFile>,
+    whole: u32,
+    front: u32,
+    text: &[u8],
+) -> bool
+    requires whole { whole < length shelf.old.files }
+    requires front { front < length shelf.old.files }
+{
+    if text.len() < 70_001 {
+        return false;
+    }
+    let all = hands_out(alloc, shelf, whole, 1_000_000, Some(text));
+    let part = hands_out(alloc, shelf, front, 70_001, Some(&text[..70_001]));
+    all & part & handed_out_is(shelf)
+}
+
+/// Whether the file, opened twice, is read so, and no other is opened.
+fn long_file_is_opened(
     alloc: Global,
     shelf: &mut DiskShelf<'_, OneFile>,
     text: &[u8],
-) -> Result<(), Trouble>
+) -> Result<bool, Trouble>
     requires { shelf.old.files ≡ [] }
 {
-    assert!(rt; 70_001 <= text.len());
-    assert!(rt; shelf.open("a name").is_err());
+    let no_other = shelf.open("a name").is_err();
     let whole = shelf.open(" a name ")?;
     let front = shelf.open(" a name ")?;
-    assert!(rt; hands_out(alloc, shelf, whole, 1_000_000, text)?);
-    assert!(rt; hands_out(alloc, shelf, front, 70_001, &text[..70_001])?);
-    handed_out_is(rt, shelf);
-    Ok(())
+    Ok(no_other & long_file_is_read(alloc, shelf, whole, front, text))
+}
+
+/// The same of a file system that has the file alone.
+fn long_file_holds(alloc: Global, files: &OneFile) -> Result<bool, Trouble> {
+    let mut shelf = DiskShelf::new(alloc, files);
+    long_file_is_opened(alloc, &mut shelf, &files.bytes)
 }
 
 #[test]
@@ -212,8 +244,9 @@ fn made_up_files(rt: HostRuntime) -> Result<(), Fail> {
         name: " a name ",
         bytes: long_text(rt.alloc())?,
     };
-    let mut shelf = DiskShelf::new(rt.alloc(), &files);
-    Ok(long_file_is_read(&rt, rt.alloc(), &mut shelf, &files.bytes)?)
+    let holds = long_file_holds(rt.alloc(), &files);
+    assert!(rt; matches!(holds, Ok(true)));
+    Ok(())
 }
 
 #[test]

@@ -5,7 +5,6 @@ ghost use Rattle.std.specs.Prelude.{◌≤◌, ◌<◌, ◌≡◌, ◌^◌, [], 
 use bc_outside::{MemoryFile, MemoryShelf, Shelf};
 use record_file::{FrameStop, Frames, RecordFault};
 use std::alloc::{AllocError, Global};
-use std::process::Abort;
 use std::test::Fail;
 
 // Three ticks: of times 999, 1000 and 4126.
@@ -29,11 +28,19 @@ fn shelf_of(
 }
 
 /// Whether an event comes next.
-fn is_event<F: Shelf>(frames: &mut Frames, shelf: &mut F) -> Result<bool, FrameStop>
+fn has_event<F: Shelf>(frames: &mut Frames, shelf: &mut F) -> bool
     requires { frames.old.file < length (F.told shelf.old).files }
     ensures { frames.new.file < length (F.told shelf.new).files }
 {
-    Ok(frames.next(shelf)?.is_some())
+    matches!(frames.next(shelf), Ok(Some(_)))
+}
+
+/// Whether what comes next is the record's end.
+fn is_at_end<F: Shelf>(frames: &mut Frames, shelf: &mut F) -> bool
+    requires { frames.old.file < length (F.told shelf.old).files }
+    ensures { frames.new.file < length (F.told shelf.new).files }
+{
+    matches!(frames.next(shelf), Ok(None))
 }
 
 /// Whether what comes next is this stop.
@@ -53,21 +60,20 @@ fn frames_end<F: Shelf>(
     shelf: &mut F,
     events: u32,
     stop: Option<(RecordFault, u32)>,
-) -> Result<bool, FrameStop>
+) -> bool
     requires { frames.old.file < length (F.told shelf.old).files }
 {
+    let mut all = true;
     for _ in 0..events {
-        if !is_event(frames, shelf)? {
-            return Ok(false);
-        }
+        all &= has_event(frames, shelf);
     }
-    match stop {
-        None => Ok(!is_event(frames, shelf)?),
-        Some((fault, event)) => Ok(
+    all & match stop {
+        None => is_at_end(frames, shelf),
+        Some((fault, event)) => {
             stops_by(frames, shelf, FrameStop::Fault(fault))
-                && stops_by(frames, shelf, FrameStop::Fault(fault))
-                && frames.event_of(fault) == event,
-        ),
+                & stops_by(frames, shelf, FrameStop::Fault(fault))
+                & (frames.event_of(fault) == event)
+        }
     }
 }
 
@@ -82,7 +88,7 @@ fn record_ends<F: Shelf>(
 {
     let file = shelf.open("record")?;
     let mut frames = Frames::new(alloc, file);
-    Ok(frames_end(&mut frames, shelf, events, stop)?)
+    Ok(frames_end(&mut frames, shelf, events, stop))
 }
 
 /// The same of these bytes, where the shelf hands out at most so many a call.
@@ -114,31 +120,36 @@ fn ends_however_cut(
     Ok(true)
 }
 
+/// Records, how many events they have, and what stops them, if anything does, with the number of its event.
+const RECORDS: &[(&[u8], u32, Option<(RecordFault, u32)>)] = &[
+    (TICKS, 3, None),
+    (b"BCR1", 0, None),
+    (b"BCR1\x01\x07\0\0\0\0\0\0\0\0\0\0", 1, None),
+    (b"", 0, Some((RecordFault::BadMagic, 0))),
+    (b"BC", 0, Some((RecordFault::BadMagic, 0))),
+    (b"BCR2", 0, Some((RecordFault::BadMagic, 0))),
+    (b"BCR1\0", 0, Some((RecordFault::BadKind(0), 1))),
+    (b"BCR1\x09", 0, Some((RecordFault::BadKind(9), 1))),
+    (b"BCR1\x01\0\0\0\0\x02\x10", 1, Some((RecordFault::Torn, 2))),
+    (b"BCR1\x02\0\0\0\0\x03\0\0\0\0\x04\0\0\0\0", 3, None),
+    (b"BCR1\x01", 0, Some((RecordFault::Torn, 1))),
+    (b"BCR1\x01\x10", 0, Some((RecordFault::Torn, 1))),
+    (
+        b"BCR1\x01\x08\0\0\0\xe7\x03\0\0\0\0\0\0\x01\x08\0\0\0\xe8\x03\0",
+        1,
+        Some((RecordFault::Torn, 2)),
+    ),
+    (
+        b"BCR1\x01\x01\0\x40\0",
+        0,
+        Some((RecordFault::TooLong(4_194_305), 1)),
+    ),
+];
+
 #[test]
 fn records(rt: HostRuntime) -> Result<(), Fail> {
-    let ticks = TICKS.as_slice();
-    let cases: [(&[u8], u32, Option<(RecordFault, u32)>); 14] = [
-        (ticks, 3, None),
-        (b"BCR1", 0, None),
-        (b"BCR1\x01\x07\0\0\0\0\0\0\0\0\0\0", 1, None),
-        (b"", 0, Some((RecordFault::BadMagic, 0))),
-        (b"BC", 0, Some((RecordFault::BadMagic, 0))),
-        (b"BCR2", 0, Some((RecordFault::BadMagic, 0))),
-        (b"BCR1\0", 0, Some((RecordFault::BadKind(0), 1))),
-        (b"BCR1\x09", 0, Some((RecordFault::BadKind(9), 1))),
-        (b"BCR1\x01\0\0\0\0\x02\x10", 1, Some((RecordFault::Torn, 2))),
-        (b"BCR1\x02\0\0\0\0\x03\0\0\0\0\x04\0\0\0\0", 3, None),
-        (b"BCR1\x01", 0, Some((RecordFault::Torn, 1))),
-        (b"BCR1\x01\x10", 0, Some((RecordFault::Torn, 1))),
-        (&ticks[..25], 1, Some((RecordFault::Torn, 2))),
-        (
-            b"BCR1\x01\x01\0\x40\0",
-            0,
-            Some((RecordFault::TooLong(4_194_305), 1)),
-        ),
-    ];
-    for (bytes, events, stop) in cases {
-        assert!(rt; ends_however_cut(rt.alloc(), bytes, events, stop)?);
+    for (bytes, events, stop) in RECORDS.iter() {
+        assert!(rt; ends_however_cut(rt.alloc(), bytes, *events, *stop)?);
     }
     Ok(())
 }
@@ -158,45 +169,44 @@ fn the_longest_event(rt: HostRuntime) -> Result<(), Fail> {
 }
 
 /// Whether what comes next is the first tick.
-fn is_first_tick<F: Shelf>(frames: &mut Frames, shelf: &mut F) -> Result<bool, FrameStop>
+fn is_first_tick<F: Shelf>(frames: &mut Frames, shelf: &mut F) -> bool
     requires { frames.old.file < length (F.told shelf.old).files }
     ensures { frames.new.file < length (F.told shelf.new).files }
 {
-    match frames.next(shelf)? {
-        Some(event) => Ok(
-            event.kind == 1 && event.payload.as_slice() == b"\xe7\x03\0\0\0\0\0\0".as_slice(),
-        ),
-        None => Ok(false),
+    match frames.next(shelf) {
+        Ok(Some(event)) => {
+            event.kind == 1 && event.payload.as_slice() == b"\xe7\x03\0\0\0\0\0\0".as_slice()
+        }
+        _ => false,
     }
 }
 
-/// Three failures, then the three ticks.
-fn goes_on<F: Shelf>(rt: &impl Abort, frames: &mut Frames, shelf: &mut F) -> Result<(), FrameStop>
+/// Whether there are three failures, and then the three ticks.
+fn goes_on<F: Shelf>(frames: &mut Frames, shelf: &mut F) -> bool
     requires { frames.old.file < length (F.told shelf.old).files }
 {
-    assert!(rt; stops_by(frames, shelf, FrameStop::ReadFault));
-    assert!(rt; stops_by(frames, shelf, FrameStop::ReadFault));
-    assert!(rt; stops_by(frames, shelf, FrameStop::ReadFault));
-    assert!(rt; is_first_tick(frames, shelf)?);
-    assert!(rt; is_event(frames, shelf)?);
-    assert!(rt; is_event(frames, shelf)?);
-    assert!(rt; !is_event(frames, shelf)?);
-    assert_eq!(rt; frames.events(), 3);
-    Ok(())
+    let fails = stops_by(frames, shelf, FrameStop::ReadFault)
+        & stops_by(frames, shelf, FrameStop::ReadFault)
+        & stops_by(frames, shelf, FrameStop::ReadFault);
+    let first = is_first_tick(frames, shelf);
+    let others = has_event(frames, shelf) & has_event(frames, shelf);
+    let end = is_at_end(frames, shelf);
+    fails & first & others & end & (frames.events() == 3)
 }
 
 /// The same of the record of a shelf.
-fn record_goes_on<F: Shelf>(rt: &impl Abort, alloc: Global, shelf: &mut F) -> Result<(), Fail>
+fn record_goes_on<F: Shelf>(alloc: Global, shelf: &mut F) -> Result<bool, Fail>
     requires { length (F.told shelf.old).files < 2 ^ 32 }
 {
     let file = shelf.open("record")?;
     let mut frames = Frames::new(alloc, file);
-    Ok(goes_on(rt, &mut frames, shelf)?)
+    Ok(goes_on(&mut frames, shelf))
 }
 
 #[test]
 fn a_failing_read_loses_nothing(rt: HostRuntime) -> Result<(), Fail> {
     let failing = Vec::from_array(rt.alloc(), [2u64, 5, 8])?;
     let mut shelf = shelf_of(rt.alloc(), TICKS.as_slice(), failing, 3)?;
-    record_goes_on(&rt, rt.alloc(), &mut shelf)
+    assert!(rt; record_goes_on(rt.alloc(), &mut shelf)?);
+    Ok(())
 }

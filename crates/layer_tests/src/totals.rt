@@ -1,87 +1,63 @@
 //! Sixty-four validators, as a small network begins with, the last of which leaves at epoch 5.
 
-ghost use Rattle.std.specs.Prelude.{◌<◌, ◌^◌};
-
+use crate::genesis::{genesis, place};
 use balance_totals::{active, committees_of_epoch, total_active, total_of};
 use bc_preset::Preset;
 use beacon_state::State;
 use std::alloc::{AllocError, Global};
-use std::process::Abort;
 use std::test::Fail;
 
-/// Puts bytes at a position.
-fn put(bytes: &mut Vec<u8>, position: usize, part: &[u8]) {
-    let mut next = position;
-    for byte in part {
-        if let Some(here) = bytes.get_mut(next) {
-            *here = *byte;
-        }
-        next = next.wrapping_add(1);
-    }
-}
-
-/// The bytes of a state of the minimal preset: the offsets of its six lists, the validators, and no balances.
+/// The genesis of 64 validators, the last of which leaves at epoch 5.
 fn network(alloc: Global) -> Result<Vec<u8>, AllocError> {
-    let mut bytes = vec![in alloc; 0; 14_801]?;
-    let starts = [
-        (4272, 7057u32),
-        (4348, 7057),
-        (4360, 7057),
-        (4364, 14_801),
-        (6928, 14_801),
-        (6932, 14_801),
-    ];
-    for (position, start) in starts {
-        put(&mut bytes, position, &start.to_le_bytes());
-    }
-    for i in 0..64 {
-        put_validator(&mut bytes, 7057 + 121 * i, u64::MAX);
-    }
-    put_validator(&mut bytes, 7057 + 121 * 63, 5);
+    let mut bytes = genesis(alloc)?;
+    place(&mut bytes, 7057 + 121 * 63 + 105, &5u64.to_le_bytes());
     Ok(bytes)
 }
 
-/// A validator with this exit epoch.
-fn put_validator(bytes: &mut Vec<u8>, start: usize, exit_epoch: u64)
-    requires { start < 2 ^ 16 }
-{
-    put(bytes, start + 80, &32_000_000_000u64.to_le_bytes());
-    put(bytes, start + 105, &exit_epoch.to_le_bytes());
-    put(bytes, start + 113, &[255; 8]);
+/// Whether the active validators weigh so much.
+fn active_weigh(state: &State) -> bool {
+    matches!(total_active(state, 0), Ok(2_048_000_000_000))
+        & matches!(total_active(state, 5), Ok(2_016_000_000_000))
+        & matches!(total_of(state, &[]), Ok(1_000_000_000))
+        & matches!(total_of(state, &[3, 63]), Ok(64_000_000_000))
 }
 
-/// What the active validators and some of them weigh.
-fn totals_are(rt: &impl Abort, state: &State) -> Result<(), Fail> {
-    assert_eq!(rt; total_active(state, 0)?, 2_048_000_000_000);
-    assert_eq!(rt; total_active(state, 5)?, 2_016_000_000_000);
-    assert_eq!(rt; total_of(state, &[])?, 1_000_000_000);
-    assert_eq!(rt; total_of(state, &[3, 63])?, 64_000_000_000);
-    Ok(())
+/// Whether so many validators are active, up to the last one.
+fn active_are(alloc: Global, state: &State, epoch: u64, count: usize, last: u64) -> bool {
+    match active(alloc, state, epoch) {
+        Ok(indices) => indices.len() == count && indices.last().copied() == Some(last),
+        Err(_stop) => false,
+    }
 }
 
-/// Who is active, and in which committees.
-fn active_are(rt: &impl Abort, alloc: Global, state: &State) -> Result<(), Fail> {
-    assert_eq!(rt; active(alloc, state, 4)?.len(), 64);
-    assert_eq!(rt; active(alloc, state, 5)?.last().copied(), Some(62));
-    let committees = committees_of_epoch(alloc, state, 0)?;
-    assert_eq!(rt; committees.per_slot(), 2);
-    assert_eq!(rt;
-        committees.committee(15, 1).map(|members| members.len()),
-        Some(4)
-    );
-    Ok(())
+/// Whether there are two committees a slot, of four members.
+fn committees_are(alloc: Global, state: &State) -> bool {
+    match committees_of_epoch(alloc, state, 0) {
+        Ok(committees) => {
+            committees.per_slot() == 2
+                && matches!(committees.committee(15, 1), Some(members) if members.len() == 4)
+        }
+        Err(_stop) => false,
+    }
 }
 
-fn network_holds(rt: &impl Abort, alloc: Global, state: &State) -> Result<(), Fail> {
-    totals_are(rt, state)?;
-    active_are(rt, alloc, state)
+/// Whether the state that is read of these bytes has these totals, active validators and committees.
+fn network_holds(alloc: Global, bytes: &[u8]) -> bool {
+    match State::read(alloc, &Preset::minimal(), bytes) {
+        Ok(state) => {
+            active_weigh(&state)
+                & active_are(alloc, &state, 4, 64, 63)
+                & active_are(alloc, &state, 5, 63, 62)
+                & committees_are(alloc, &state)
+        }
+        Err(_fault) => false,
+    }
 }
 
 #[test]
 fn totals_of_a_small_network(rt: HostRuntime) -> Result<(), Fail> {
     let bytes = network(rt.alloc())?;
-    match State::read(rt.alloc(), &Preset::minimal(), &bytes) {
-        Ok(state) => network_holds(&rt, rt.alloc(), &state),
-        Err(fault) => Err(Fail::from(fault)),
-    }
+    let holds = network_holds(rt.alloc(), &bytes);
+    assert!(rt; holds);
+    Ok(())
 }

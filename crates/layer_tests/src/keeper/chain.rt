@@ -1,11 +1,14 @@
 //! The step of the state transition, as the keeper of states takes it.
 
-ghost use Rattle.std.specs.Prelude.{◌≡◌, IfOk};
+ghost use Rattle.std.specs.Prelude.{◌≡◌, false, IfOk};
 ghost use Rattle.bc_preset.specs.Presets.{IsPreset};
 ghost use Rattle.store_parts.specs.ChainStep.{CanStep};
-ghost use Rattle.spec_state.specs.Genesis.{header_root_of};
+ghost use Rattle.beacon_types.specs.Equality.{same_root};
+ghost use Rattle.spec_state.specs.Genesis.{header_root_of, zero_root};
+ghost use Rattle.spec_state.specs.States.{state_codec};
 ghost use Rattle.spec_state.specs.Soundness.{IsSound};
 
+use crate::genesis::{place, state_bytes};
 use bc_preset::{Config, Preset};
 use bc_words::{Refusal, Stop};
 use beacon_body::{BeaconBlock, BeaconBlockBody, SignedBeaconBlock};
@@ -15,7 +18,6 @@ use hash_tree::Root;
 use ssz_codec::{Items, LimitedList, SszFault, VariableList};
 use state_keeper::Stepper;
 use std::alloc::{AllocError, Global};
-use std::process::Abort;
 use std::test::Fail;
 use store_parts::chain_stepper::ChainStepper;
 use transition::is_sound;
@@ -51,27 +53,23 @@ fn empty_body(alloc: Global) -> BeaconBlockBody {
     }
 }
 
-/// Puts bytes at a place.
-fn put(bytes: &mut Vec<u8>, at: usize, part: &[u8]) {
-    for (i, byte) in part.iter().enumerate() {
-        if let Some(here) = bytes.get_mut(at.wrapping_add(i)) {
-            *here = *byte;
-        }
-    }
-}
+/// Where the six lists of a state with one validator begin.
+const STARTS: &[(usize, u32)] = &[
+    (4272, 7057),
+    (4348, 7057),
+    (4360, 7057),
+    (4364, 7178),
+    (6928, 7186),
+    (6932, 7186),
+];
 
 /// A state of the minimal preset with one validator, which is active and has the largest effective balance.
 fn state_of_one(alloc: Global) -> Result<Vec<u8>, AllocError> {
-    let mut bytes = vec![in alloc; 0; 7186]?;
-    for at in [4272usize, 4348, 4360] {
-        put(&mut bytes, at, &7057u32.to_le_bytes());
-    }
-    put(&mut bytes, 4364, &7178u32.to_le_bytes());
-    put(&mut bytes, 6928, &7186u32.to_le_bytes());
-    put(&mut bytes, 6932, &7186u32.to_le_bytes());
-    put(&mut bytes, 7137, &32_000_000_000u64.to_le_bytes());
-    put(&mut bytes, 7162, &[255; 16]);
-    put(&mut bytes, 7178, &32_000_000_000u64.to_le_bytes());
+    let mut bytes = state_bytes(alloc, 7186, STARTS)?;
+    let balance = 32_000_000_000u64.to_le_bytes();
+    place(&mut bytes, 7137, &balance);
+    place(&mut bytes, 7162, &[255; 16]);
+    place(&mut bytes, 7178, &balance);
     Ok(bytes)
 }
 
@@ -141,7 +139,7 @@ fn root_of_step(
 
 /// The root of the state that a step by an empty block gives.
 fn step_root(
-    rt: &(impl AllocGlobal + Abort),
+    alloc: Global,
     config: &Config,
     state: &State,
     slot: u64,
@@ -149,32 +147,51 @@ fn step_root(
 ) -> Result<Root, Stop>
     requires sound { IsSound state.now }
     requires preset { state.now.preset ≡ config.now.preset }
+    requires some { same_root ((state_codec state.now.preset).hash_tree_root state.now) zero_root ≡ false }
 {
-    assert_ne!(rt; state.root(), [0; 32]);
-    let block = block_on(rt.alloc(), state, slot, state_root);
-    root_of_step(rt.alloc(), config, state, &block)
+    let block = block_on(alloc, state, slot, state_root);
+    root_of_step(alloc, config, state, &block)
 }
 
-/// A block of slot 0 isn't later, and one with a wrong state root is refused.
-fn refusals_hold(rt: &(impl AllocGlobal + Abort), config: &Config, state: &State)
+/// Whether a block with the root of the state behind it is taken.
+fn right_is_taken(alloc: Global, config: &Config, state: &State) -> bool
     requires sound { IsSound state.now }
     requires preset { state.now.preset ≡ config.now.preset }
+    requires some { same_root ((state_codec state.now.preset).hash_tree_root state.now) zero_root ≡ false }
 {
-    let early = step_root(rt, config, state, 0, [0; 32]);
-    assert!(rt; matches!(early, Err(Stop::Refused(Refusal::SlotNotLater))));
-    let wrong = step_root(rt, config, state, 1, [0; 32]);
-    assert!(rt; matches!(wrong, Err(Stop::Refused(Refusal::StateRoot))));
+    match root_behind(alloc, config, state, 1) {
+        Ok(root) => {
+            matches!(step_root(alloc, config, state, 1, root), Ok(found) if found == root)
+        }
+        Err(_stop) => false,
+    }
 }
 
-/// And a block with the right root is taken.
-fn steps_hold(rt: &(impl AllocGlobal + Abort), config: &Config, state: &State) -> Result<(), Fail>
+/// Whether a block of slot 0, which isn't later, and one with a wrong state root are refused.
+fn wrong_are_refused(alloc: Global, config: &Config, state: &State) -> bool
+    requires sound { IsSound state.now }
+    requires preset { state.now.preset ≡ config.now.preset }
+    requires some { same_root ((state_codec state.now.preset).hash_tree_root state.now) zero_root ≡ false }
+{
+    let early = step_root(alloc, config, state, 0, [0; 32]);
+    let wrong = step_root(alloc, config, state, 1, [0; 32]);
+    matches!(early, Err(Stop::Refused(Refusal::SlotNotLater)))
+        & matches!(wrong, Err(Stop::Refused(Refusal::StateRoot)))
+}
+
+/// Whether a sound state takes these steps.
+fn steps_hold(alloc: Global, config: &Config, state: &State) -> bool
     requires { state.now.preset ≡ config.now.preset }
 {
-    assert!(rt; is_sound(rt.alloc(), state)?);
-    refusals_hold(rt, config, state);
-    let root = root_behind(rt.alloc(), config, state, 1)?;
-    assert_eq!(rt; step_root(rt, config, state, 1, root)?, root);
-    Ok(())
+    if state.root() == [0; 32] {
+        return false;
+    }
+    match is_sound(alloc, state) {
+        Ok(true) => {
+            wrong_are_refused(alloc, config, state) & right_is_taken(alloc, config, state)
+        }
+        _ => false,
+    }
 }
 
 /// Reads a state of the preset.
@@ -186,10 +203,19 @@ fn read_state(alloc: Global, preset: &Preset, bytes: &[u8]) -> Result<State, Ssz
     State::read(alloc, preset, bytes)
 }
 
+/// Whether the state that is read of these bytes takes these steps.
+fn read_steps_hold(alloc: Global, config: &Config, bytes: &[u8]) -> bool {
+    match read_state(alloc, config.preset(), bytes) {
+        Ok(state) => steps_hold(alloc, config, &state),
+        Err(_fault) => false,
+    }
+}
+
 #[test]
 fn blocks_on_a_state_of_one_validator(rt: HostRuntime) -> Result<(), Fail> {
     let config = Config::read(MINIMAL)?;
     let bytes = state_of_one(rt.alloc())?;
-    let state = read_state(rt.alloc(), config.preset(), &bytes)?;
-    steps_hold(&rt, &config, &state)
+    let holds = read_steps_hold(rt.alloc(), &config, &bytes);
+    assert!(rt; holds);
+    Ok(())
 }

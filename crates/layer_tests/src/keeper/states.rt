@@ -4,14 +4,14 @@ ghost use Rattle.std.specs.Prelude.{◌≡◌, ◌+◌, ◌-◌, ◌<◌, ◌^�
 ghost use Rattle.bc_words.specs.Outcome.{done};
 ghost use Rattle.layer_tests.specs.Adder.{with_deposits};
 
+use crate::genesis::state_bytes;
 use crate::keeper::adder::{Adder, counting};
 use bc_preset::Preset;
 use bc_words::{NoMemory, Steps, Stop};
 use beacon_state::State;
 use state_keeper::{Keeper, Stepper};
-use std::alloc::{AllocError, Global};
+use std::alloc::Global;
 use std::marker::Brand;
-use std::process::Abort;
 use std::sync::ledger::{Blank, Ledger};
 use std::test::Fail;
 
@@ -24,22 +24,15 @@ const FORK: u32 = 12;
 /// How many blocks there are in all.
 const BLOCKS: u32 = 54;
 
-/// A state of the minimal preset without validators: its six lists are empty and begin at its end.
-fn empty_state(alloc: Global) -> Result<Vec<u8>, AllocError> {
-    let mut bytes = vec![in alloc; 0; 7057]?;
-    for at in [4272usize, 4348, 4360, 4364, 6928, 6932] {
-        place(&mut bytes, at, 0x91);
-        place(&mut bytes, at.wrapping_add(1), 0x1b);
-    }
-    Ok(bytes)
-}
-
-/// Puts a byte at a place.
-fn place(bytes: &mut Vec<u8>, at: usize, byte: u8) {
-    if let Some(here) = bytes.get_mut(at) {
-        *here = byte;
-    }
-}
+/// Where the six lists of a state without validators begin: they are empty.
+const STARTS: &[(usize, u32)] = &[
+    (4272, 7057),
+    (4348, 7057),
+    (4360, 7057),
+    (4364, 7057),
+    (6928, 7057),
+    (6932, 7057),
+];
 
 /// The answer, once what it was made with is let go.
 fn let_go<S: Drop, R>(_used: S, answer: R) -> R
@@ -83,6 +76,23 @@ fn extend<L: Ledger>(
     Ok(())
 }
 
+/// Behind which block one comes.
+fn parent_of(number: u32) -> u32
+    requires { 0 < number }
+    ensures { result < number }
+{
+    if number == CHAIN { FORK } else { number - 1 }
+}
+
+/// What a block adds.
+fn added_by(number: u32) -> u64 {
+    if number < CHAIN {
+        u64::from(number)
+    } else {
+        1000
+    }
+}
+
 /// Adds the blocks of the chain and of the fork.
 fn add_blocks<L: Ledger>(
     alloc: Global,
@@ -92,12 +102,8 @@ fn add_blocks<L: Ledger>(
     requires { length keeper.old.blocks ≡ 1 }
     ensures { OnOk result (length keeper.new.blocks ≡ 54) }
 {
-    for number in 1..CHAIN {
-        extend(alloc, keeper, number - 1, u64::from(number), steps)?;
-    }
-    for forked in CHAIN..BLOCKS {
-        let parent = if forked == CHAIN { FORK } else { forked - 1 };
-        extend(alloc, keeper, parent, 1000, steps)?;
+    for number in 1..BLOCKS {
+        extend(alloc, keeper, parent_of(number), added_by(number), steps)?;
     }
     Ok(())
 }
@@ -113,34 +119,35 @@ fn count_at(number: u64) -> u64
     }
 }
 
-/// The state is that of genesis but for its count.
-fn counts(rt: &impl Abort, state: &State, genesis: &State, count: u64) -> Result<(), Fail> {
-    let expected = counting(genesis, count)?;
-    assert_same(rt, state, &expected);
-    Ok(())
+/// Whether a state has the count and the root of the other one.
+fn is_same(state: &State, expected: &State) -> bool {
+    (state.eth1_deposit_index() == expected.eth1_deposit_index())
+        & (state.root() == expected.root())
 }
 
-/// Asserts that two states have the same count and the same root.
-fn assert_same(rt: &impl Abort, state: &State, expected: &State) {
-    assert!(rt; state.eth1_deposit_index() == expected.eth1_deposit_index());
-    assert!(rt; state.root() == expected.root());
+/// Whether the state is that of genesis but for its count.
+fn counts(state: &State, genesis: &State, count: u64) -> bool {
+    match counting(genesis, count) {
+        Ok(expected) => is_same(state, &expected),
+        Err(_refused) => false,
+    }
 }
 
-/// The state behind a block is the one with that count.
+/// Whether the state behind a block is the one with that count.
 fn state_holds<L: Ledger>(
-    rt: &impl Abort,
     keeper: &mut Keeper<Adder>,
     genesis: &State,
     number: u32,
     steps: &mut Steps<L>,
-) -> Result<(), Fail>
+) -> bool
     requires inside { number < length keeper.old.blocks }
     requires few { number < 54 }
     ensures { keeper.new ≡ keeper.old }
 {
-    let state = keeper.state_of(number, steps)?;
-    let answer = counts(rt, &state, genesis, count_at(u64::from(number)));
-    let_go(state, answer)
+    match keeper.state_of(number, steps) {
+        Ok(state) => counts(&state, genesis, count_at(u64::from(number))),
+        Err(_refused) => false,
+    }
 }
 
 /// Which block's state is asked for in a round: each one's twice, once with neighbours far away, and once in order.
@@ -155,43 +162,31 @@ fn asked_in(round: u32) -> u32
     }
 }
 
-/// The states behind all blocks, each asked for twice.
-fn states_hold<L: Ledger>(
-    rt: &impl Abort,
-    keeper: &mut Keeper<Adder>,
-    genesis: &State,
-    steps: &mut Steps<L>,
-) -> Result<(), Fail>
+/// Whether the states behind all blocks, each asked for twice, are those with their counts.
+fn states_hold<L: Ledger>(keeper: &mut Keeper<Adder>, genesis: &State, steps: &mut Steps<L>) -> bool
     requires { length keeper.old.blocks ≡ 54 }
     ensures { length keeper.new.blocks ≡ 54 }
 {
+    let mut all = true;
     for round in 0..2 * BLOCKS {
-        state_holds(rt, keeper, genesis, asked_in(round), steps)?;
+        all &= state_holds(keeper, genesis, asked_in(round), steps);
     }
-    Ok(())
+    all
 }
 
-/// The last block of the chain and the first one of the fork are those that were added.
-fn ends_hold(rt: &impl Abort, keeper: &Keeper<Adder>)
-    requires { length keeper.now.blocks ≡ 54 }
-{
-    assert!(rt; *keeper.block(43) == 43);
-    assert!(rt; *keeper.block(44) == 1000);
-}
-
-/// A chain and a fork behind genesis, and all their states.
+/// Whether a chain and a fork behind genesis have their states, the last block of the chain and the first one of the fork being
+/// those that were added.
 fn blocks_hold<L: Ledger>(
-    rt: &(impl AllocGlobal + Abort),
+    alloc: Global,
     keeper: &mut Keeper<Adder>,
     genesis: &State,
     steps: &mut Steps<L>,
-) -> Result<(), Fail>
+) -> Result<bool, Stop>
     requires { length keeper.old.blocks ≡ 1 }
 {
-    add_blocks(rt.alloc(), keeper, steps)?;
-    states_hold(rt, keeper, genesis, steps)?;
-    ends_hold(rt, keeper);
-    Ok(())
+    add_blocks(alloc, keeper, steps)?;
+    let states = states_hold(keeper, genesis, steps);
+    Ok(states & (*keeper.block(43) == 43) & (*keeper.block(44) == 1000))
 }
 
 /// A keeper of genesis alone.
@@ -201,36 +196,36 @@ fn keeper_of(alloc: Global, genesis: &State) -> Result<Keeper<Adder>, NoMemory>
     Keeper::new(alloc, Adder {}, 0, genesis.share()?)
 }
 
-/// The same with these steps.
-fn chain_holds<L: Ledger>(
-    rt: &(impl AllocGlobal + Abort),
-    keeper: &mut Keeper<Adder>,
-    genesis: &State,
-    blank: Blank,
-) -> Result<(), Fail>
+/// The same with a keeper and a count of steps of its own.
+fn chain_holds<L: Ledger>(alloc: Global, genesis: &State, blank: Blank) -> bool
     requires name { blank.name ≡ L.name }
     requires parts { blank.parts ≡ L.parts }
     requires some { 0 < blank.parts }
-    requires genesis { length keeper.old.blocks ≡ 1 }
 {
     let mut steps = Steps::<L>::new(blank);
-    blocks_hold(rt, keeper, genesis, &mut steps)
+    match keeper_of(alloc, genesis) {
+        Ok(mut keeper) => {
+            matches!(
+                blocks_hold(alloc, &mut keeper, genesis, &mut steps),
+                Ok(true)
+            )
+        }
+        Err(_refused) => false,
+    }
 }
 
-/// The same with a keeper and a count of steps of its own.
-fn counted_chain_holds(rt: &(impl AllocGlobal + Abort), genesis: &State) -> Result<(), Fail> {
-    let mut keeper = keeper_of(rt.alloc(), genesis)?;
-    chain_holds::<Brand>(rt, &mut keeper, genesis, Blank::new(1))
+/// The same behind the genesis that is read of these bytes.
+fn read_chain_holds(alloc: Global, bytes: &[u8]) -> bool {
+    match State::read(alloc, &Preset::minimal(), bytes) {
+        Ok(genesis) => chain_holds::<Brand>(alloc, &genesis, Blank::new(1)),
+        Err(_fault) => false,
+    }
 }
 
 #[test]
 fn states_of_a_chain_and_a_fork(rt: HostRuntime) -> Result<(), Fail> {
-    let bytes = empty_state(rt.alloc())?;
-    match State::read(rt.alloc(), &Preset::minimal(), &bytes) {
-        Ok(genesis) => {
-            let answer = counted_chain_holds(&rt, &genesis);
-            let_go(genesis, answer)
-        }
-        Err(fault) => Err(fault.into()),
-    }
+    let bytes = state_bytes(rt.alloc(), 7057, STARTS)?;
+    let holds = read_chain_holds(rt.alloc(), &bytes);
+    assert!(rt; holds);
+    Ok(())
 }

@@ -4,7 +4,7 @@ use crate::runs::expected::status_text;
 use anyhow::{Context, Result};
 use bc_outside::{MemoryFile, MemoryShelf, MemorySink};
 use beacon_node::beacon_main;
-use std::alloc::Global;
+use std::alloc::{AllocError, Global};
 use std::rt::Files;
 use std::{fs, io};
 
@@ -91,34 +91,83 @@ fn load_numbers<R: Files + AllocGlobal>(rt: &R, case: &str, name: &str) -> Resul
     Ok(numbers)
 }
 
+/// Adds a word, and the file of that name, if there is one.
+fn load_word<R: Files + AllocGlobal>(
+    rt: &R,
+    name: &str,
+    word: &str,
+    case: &mut Case,
+) -> Result<()> {
+    case.words.push(word.to_string(rt.alloc())?)?;
+    match load_file(rt, name, word)? {
+        Some(bytes) => Ok(case.files.push((word.to_string(rt.alloc())?, bytes))?),
+        None => Ok(()),
+    }
+}
+
+/// Adds the words of the case, and the files that they name.
+fn load_words<R: Files + AllocGlobal>(
+    rt: &R,
+    name: &str,
+    words: &str,
+    case: &mut Case,
+) -> Result<()> {
+    for word in words.lines() {
+        load_word(rt, name, word, case)?;
+    }
+    Ok(())
+}
+
+/// Fills in what is expected of the case, and how it is run.
+fn load_expected<R: Files + AllocGlobal>(rt: &R, name: &str, case: &mut Case) -> Result<()> {
+    case.lines = load_file(rt, name, "stdout")?.unwrap_or(Vec::new(rt.alloc()));
+    case.status = load_text(rt, name, "status")?;
+    case.failing_calls = load_numbers(rt, name, "failing_calls")?;
+    case.failing_writes = load_numbers(rt, name, "failing_writes")?;
+    case.pieces = load_numbers(rt, name, "pieces")?;
+    Ok(())
+}
+
+/// Fills in a case of this name.
+fn load_into<R: Files + AllocGlobal>(rt: &R, name: &str, case: &mut Case) -> Result<()> {
+    load_expected(rt, name, case)?;
+    match load_text(rt, name, "words") {
+        Ok(words) => load_words(rt, name, words.as_str(), case),
+        Err(error) => Err(error),
+    }
+}
+
+/// A file in memory.
+fn memory_file(alloc: Global, name: &String, bytes: &Vec<u8>) -> Result<MemoryFile, AllocError> {
+    Ok(MemoryFile::new(name.clone()?, Vec::from_slice(alloc, bytes)?))
+}
+
 impl Case {
-    /// Reads the case of this name.
-    pub fn load<R: Files + AllocGlobal>(rt: &R, name: &str) -> Result<Case> {
-        let alloc = rt.alloc();
-        let words = load_text(rt, name, "words")?;
-        let lines = load_file(rt, name, "stdout")?.unwrap_or(Vec::new(alloc));
-        let status = load_text(rt, name, "status")?;
-        let mut case = Case {
+    /// A case without anything.
+    fn empty(alloc: Global) -> Case {
+        Case {
             words: Vec::new(alloc),
             files: Vec::new(alloc),
-            failing_calls: load_numbers(rt, name, "failing_calls")?,
-            failing_writes: load_numbers(rt, name, "failing_writes")?,
-            pieces: load_numbers(rt, name, "pieces")?,
-            lines,
-            status: status.trim().to_string(alloc)?,
-        };
-        for word in words.lines() {
-            case.words.push(word.to_string(alloc)?)?;
-            if let Some(bytes) = load_file(rt, name, word)? {
-                case.files.push((word.to_string(alloc)?, bytes))?;
-            }
+            failing_calls: Vec::new(alloc),
+            failing_writes: Vec::new(alloc),
+            pieces: Vec::new(alloc),
+            lines: Vec::new(alloc),
+            status: String::new(alloc),
         }
-        Ok(case)
+    }
+
+    /// Reads the case of this name.
+    pub fn load<R: Files + AllocGlobal>(rt: &R, name: &str) -> Result<Case> {
+        let mut case = Case::empty(rt.alloc());
+        match load_into(rt, name, &mut case) {
+            Ok(()) => Ok(case),
+            Err(error) => Err(error),
+        }
     }
 
     /// The expected status.
     pub fn status(&self) -> &str {
-        self.status.as_str()
+        self.status.as_str().trim()
     }
 
     /// How many bytes a call hands out at most, for each run of the case.
@@ -126,28 +175,43 @@ impl Case {
         self.pieces.as_slice()
     }
 
-    /// Runs the program over files that are handed out in pieces of at most so many bytes.
-    pub fn run(&self, alloc: Global, piece: u64) -> Result<Answer> {
+    /// The files in memory.
+    fn memory_files(&self, alloc: Global) -> Result<Vec<MemoryFile>, AllocError> {
         let mut files = Vec::new(alloc);
         for (name, bytes) in &self.files {
-            files.push(MemoryFile::new(name.clone()?, Vec::from_slice(alloc, bytes)?))?;
+            files.push(memory_file(alloc, name, bytes)?)?;
         }
-        let calls = self.failing_calls.clone()?;
-        let writes = self.failing_writes.clone()?;
-        let piece = (piece as usize).max(1);
-        let mut shelf = MemoryShelf::new(alloc, files, calls, piece);
-        let mut sink = MemorySink::new(alloc, writes, piece);
-        let status = beacon_main(alloc, &self.words, &mut shelf, &mut sink);
+        Ok(files)
+    }
+
+    /// Runs the program over these.
+    fn run_over(
+        &self,
+        alloc: Global,
+        shelf: &mut MemoryShelf,
+        sink: &mut MemorySink,
+    ) -> Result<Answer> {
+        let status = beacon_main(alloc, &self.words, shelf, sink);
         Ok(Answer {
             lines: Vec::from_slice(alloc, sink.written())?,
             status: status_text(alloc, &status)?,
         })
     }
 
+    /// Runs the program over files that are handed out in pieces of at most so many bytes.
+    pub fn run(&self, alloc: Global, piece: u64) -> Result<Answer> {
+        let piece = (piece as usize).max(1);
+        let mut sink = MemorySink::new(alloc, self.failing_writes.clone()?, piece);
+        let calls = self.failing_calls.clone()?;
+        let files = self.memory_files(alloc)?;
+        let mut shelf = MemoryShelf::new(alloc, files, calls, piece);
+        self.run_over(alloc, &mut shelf, &mut sink)
+    }
+
     /// What is not as expected, if anything is.
     pub fn difference(&self, alloc: Global, answer: &Answer) -> Result<Option<String>> {
-        if answer.status.as_str() != self.status.as_str() {
-            let expected = self.status.as_str();
+        if answer.status.as_str() != self.status() {
+            let expected = self.status();
             let found = answer.status.as_str();
             return Ok(Some(format!(in alloc; "expected {expected}, found {found}")?));
         }

@@ -3,6 +3,3 @@ use Rattle.layer_tests.proofs.keeper.states.add_blocks.Given as goal
 
 abbrev pub invariant-loop-number : goal.invariant-loop-number
 invariant-loop-number g l = length l.keeper.blocks ≡ l.number
-
-abbrev pub invariant-loop-forked : goal.invariant-loop-forked
-invariant-loop-forked g l = length l.keeper.blocks ≡ l.forked
