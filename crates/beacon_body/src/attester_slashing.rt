@@ -24,7 +24,10 @@ pub struct AttesterSlashing {
 // Written by hand, so that a call that lets one go is one call, and not one for each of its lists.
 impl Drop for AttesterSlashing {
     fn drop(self) {
-        let AttesterSlashing { attestation_1, attestation_2 } = self;
+        let AttesterSlashing {
+            attestation_1,
+            attestation_2,
+        } = self;
         drop(attestation_1);
         drop(attestation_2);
     }

@@ -23,7 +23,10 @@ pub struct SignedBeaconBlock {
 // Written by hand, so that a call that lets one go is one call, and not one for each of its lists.
 impl Drop for SignedBeaconBlock {
     fn drop(self) {
-        let SignedBeaconBlock { message, signature: _ } = self;
+        let SignedBeaconBlock {
+            message,
+            signature: _,
+        } = self;
         drop(message);
     }
 }

@@ -9,8 +9,8 @@ use crate::state::State;
 use bc_preset::constants::FAR_FUTURE_EPOCH;
 use beacon_body::empty_body_root;
 use beacon_types::{BeaconBlockHeader, Checkpoint, Validator};
-use state_parts::{Numbers, Values};
 use spec_state::{GenesisFault, ValidatorFault};
+use state_parts::{Numbers, Values};
 
 /// Whether the header is that of an empty block of slot 0.
 fn is_genesis_header(header: &BeaconBlockHeader) -> bool

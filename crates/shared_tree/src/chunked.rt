@@ -10,11 +10,9 @@ ghost use Rattle.tree_nodes.specs.Changes.{AreChanges, changed};
 ghost use Rattle.shared_tree.specs.inside.Fours.{packed, numbers_in};
 
 use crate::four::{Four, chunk_at};
-use tree_nodes::reaches;
-use tree_nodes::next_of;
-use tree_nodes::Tree;
 use bc_words::NoMemory;
 use std::alloc::Global;
+use tree_nodes::{Tree, next_of, reaches};
 
 /// The chunk at a place behind which no chunk is changed yet: the changed one, which is taken off the list, or that of the
 /// tree.

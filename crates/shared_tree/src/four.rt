@@ -8,10 +8,10 @@ ghost use Rattle.hash_tree.specs.Merkle.{merkle_root, u64_chunks};
 ghost use Rattle.ssz_codec.specs.Basic.{uint64};
 ghost use Rattle.shared_tree.specs.inside.Fours.{first_four, packed};
 
-use tree_nodes::Tree;
 use bc_words::NoMemory;
 use hash_tree::{Leaf, Root, merkle_u64};
 use std::alloc::Global;
+use tree_nodes::Tree;
 
 /// Four numbers of 64 bits. Where a list ends within them, the rest is 0.
 #[derive(Clone, Copy)]

@@ -8,9 +8,8 @@ ghost use Rattle.shared_tree.specs.inside.Fours.{numbers_in};
 ghost use Rattle.shared_tree.specs.inside.Turns.{Turns};
 
 use crate::four::Four;
-use tree_nodes::Iter;
-use tree_nodes::Tree;
 use std::marker::Model;
+use tree_nodes::{Iter, Tree};
 
 /// The numbers of a list in order. Contracts see what is left of them.
 #[derive(Drop)]

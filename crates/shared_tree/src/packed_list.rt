@@ -16,13 +16,11 @@ ghost use Rattle.tree_nodes.specs.inside.Puts.{put_at};
 use crate::chunked::chunk_changes;
 use crate::four::{Four, chunk_at, pack};
 use crate::numbers::Numbers;
-use tree_nodes::new_items;
-use tree_nodes::Tree;
-use tree_nodes::mix_step;
 use bc_words::{NoMemory, PushStop, Steps};
 use hash_tree::{Root, depth_of, mix_in_length};
 use std::marker::Model;
 use std::sync::ledger::Ledger;
+use tree_nodes::{Tree, mix_step, new_items};
 
 /// The numbers in order, of which there may be so many. Contracts see the list and its limit.
 #[derive(Drop)]

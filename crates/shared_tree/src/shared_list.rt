@@ -9,13 +9,11 @@ ghost use Rattle.bc_words.specs.Outcome.{Pushes, Becomes, checked_push};
 ghost use Rattle.hash_tree.specs.Merkle.{merkleize, mix_in_length as mixed_in, depth_of as depth_for};
 ghost use Rattle.tree_nodes.specs.Changes.{AreChanges, changed};
 
-use tree_nodes::Iter;
-use tree_nodes::Tree;
-use tree_nodes::mix_step;
 use bc_words::{NoMemory, PushStop, Steps};
 use hash_tree::{Leaf, Root, depth_of, mix_in_length};
 use std::marker::Model;
 use std::sync::ledger::Ledger;
+use tree_nodes::{Iter, Tree, mix_step};
 
 /// The items in order, of which there may be so many. Contracts see the list and its limit.
 #[derive(Drop)]

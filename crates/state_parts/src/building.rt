@@ -8,9 +8,9 @@ ghost use Rattle.beacon_types.specs.Containers.{validator_codec, eth1_data_codec
 ghost use Rattle.spec_state.specs.States.{votes_limit, attestations_limit};
 ghost use Rattle.state_parts.specs.inside.Lists.{limited_to};
 
-use crate::results::both;
 use crate::groups::{attestations_limit_of, votes_limit_of};
 use crate::numbers::Numbers;
+use crate::results::both;
 use crate::values::Values;
 use bc_preset::Preset;
 use bc_words::NoMemory;

@@ -16,8 +16,8 @@ mod values;
 
 pub use building::{lists_built, pending_built, registry_built, vectors_built};
 pub use in_range::{
-    InRange, bits_in_range, checkpoint_in_range, eth1_data_in_range, fork_in_range, header_in_range,
-    root_in_range,
+    InRange, bits_in_range, checkpoint_in_range, eth1_data_in_range, fork_in_range,
+    header_in_range, root_in_range,
 };
 pub use numbers::Numbers;
 pub use reading::read_plain;

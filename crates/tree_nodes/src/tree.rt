@@ -108,12 +108,7 @@ impl<T: Leaf + Drop> Tree<T> {
 
     /// The item at a place: in the place of the one that is there, or behind the last. A step for each level. Where memory
     /// is refused, the tree is as before.
-    pub fn put<L: Ledger>(
-        &mut self,
-        at: u64,
-        item: T,
-        steps: &mut Steps<L>,
-    ) -> Result<(), NoMemory>
+    pub fn put<L: Ledger>(&mut self, at: u64, item: T, steps: &mut Steps<L>) -> Result<(), NoMemory>
         requires place { at ≤ length self.old.1 }
         requires room { at < 2 ^ self.old.0 }
         ensures put { Becomes result self.old self.new (self.old.0, put_at self.old.1 at item) }
