@@ -3,7 +3,7 @@
 use crate::runs::expected::status_text;
 use anyhow::{Context, Result};
 use bc_outside::{MemoryFile, MemoryShelf, MemorySink};
-use beacon_node::beacon_main;
+use beacon_node::{Status, beacon_main};
 use std::alloc::{AllocError, Global};
 use std::rt::Files;
 use std::{fs, io};
@@ -142,6 +142,14 @@ fn memory_file(alloc: Global, name: &String, bytes: &Vec<u8>) -> Result<MemoryFi
     Ok(MemoryFile::new(name.clone()?, Vec::from_slice(alloc, bytes)?))
 }
 
+/// What the program wrote, and its status.
+fn answer_of(alloc: Global, status: &Status, lines: &[u8]) -> Result<Answer> {
+    Ok(Answer {
+        lines: Vec::from_slice(alloc, lines)?,
+        status: status_text(alloc, status)?,
+    })
+}
+
 impl Case {
     /// A case without anything.
     fn empty(alloc: Global) -> Case {
@@ -184,20 +192,6 @@ impl Case {
         Ok(files)
     }
 
-    /// Runs the program over these.
-    fn run_over(
-        &self,
-        alloc: Global,
-        shelf: &mut MemoryShelf,
-        sink: &mut MemorySink,
-    ) -> Result<Answer> {
-        let status = beacon_main(alloc, &self.words, shelf, sink);
-        Ok(Answer {
-            lines: Vec::from_slice(alloc, sink.written())?,
-            status: status_text(alloc, &status)?,
-        })
-    }
-
     /// Runs the program over files that are handed out in pieces of at most so many bytes.
     pub fn run(&self, alloc: Global, piece: u64) -> Result<Answer> {
         let piece = (piece as usize).max(1);
@@ -205,7 +199,8 @@ impl Case {
         let calls = self.failing_calls.clone()?;
         let files = self.memory_files(alloc)?;
         let mut shelf = MemoryShelf::new(alloc, files, calls, piece);
-        self.run_over(alloc, &mut shelf, &mut sink)
+        let status = beacon_main(alloc, &self.words, &mut shelf, &mut sink);
+        answer_of(alloc, &status, sink.written())
     }
 
     /// What is not as expected, if anything is.
