@@ -120,9 +120,7 @@ impl<T: Leaf + Drop> Tree<T> {
         self.top = lift_steps(node.root(), low, self.depth, steps);
         self.node = node;
         self.low = low;
-        if at == self.len {
-            self.len += 1;
-        }
+        self.len = self.len.max(at + 1);
         Ok(())
     }
 
