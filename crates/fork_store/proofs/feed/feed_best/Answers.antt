@@ -1,5 +1,5 @@
 use Rattle.std.proofs.Common.{rules}
-use Rattle.store_parts.proofs.Following.{tick_given, unset_other}
+use Rattle.store_parts.proofs.Following.{ticking, tick_given, unset_other}
 use Rattle.fork_store.proofs.feed.feed_best.Goals as goal
 
 pub returns-then-not-same_checkpoint-clause-fed : goal.returns-then-not-same_checkpoint-clause-fed
@@ -8,3 +8,6 @@ returns-then-not-same_checkpoint-clause-fed c =
 
 pub returns-then-not-same_checkpoint-clause-unset : goal.returns-then-not-same_checkpoint-clause-unset
 returns-then-not-same_checkpoint-clause-unset c = unset_other c.args.store.now c.args.before.now _ _ (search rules)
+
+pub returns-else-not-same_checkpoint-clause-fed : goal.returns-else-not-same_checkpoint-clause-fed
+returns-else-not-same_checkpoint-clause-fed c = search (rules, ticking)
