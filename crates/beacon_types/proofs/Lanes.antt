@@ -1,5 +1,6 @@
 -- Layers over blocks of equal length: a layer of blocks is that of each block.
-use Rattle.std.proofs.Common.{◌≡◌, ◌∙◌, ℕ, zero, suc, ◌*◌, List, [], ◌∷◌, ◌++◌, length, map, refl, ap, ap₂, arith}
+use Rattle.std.proofs.Common.{◌≡◌, ◌∙◌, ℕ, zero, suc, ◌+◌, ◌*◌, ◌<◌, List, [], ◌∷◌, ◌++◌, length, get_or, take, map, refl, sym, ap, ap₂, arith}
+use Rattle.std.proofs.lemmas.List.{flat_map_more, take_more, map-append}
 use Rattle.std.specs.List.{flat_map}
 use Rattle.pair_lanes.specs.Pairs.{parents}
 use Rattle.sha2.specs.Sha256.{sha256}
@@ -32,6 +33,19 @@ parents_of_blocks k block even (v ∷ vs) = parents_joined k (block v) (flat_map
 single_blocks : {V : Type 0} (block : V → List (List ℕ)) (root : V → List ℕ) → ((v : V) → block v ≡ root v ∷ []) → (vs : List V) → flat_map block vs ≡ map root vs
 single_blocks block root one [] = refl
 single_blocks block root one (v ∷ vs) = ap₂ (λ (xs ys : List (List ℕ)). xs ++ ys) (one v) (single_blocks block root one vs)
+
+-- one more block
+pub block_more : {V : Type 0} (block : V → List (List ℕ)) (vs : List V) (i : ℕ) (d : V) → i < length vs → flat_map block (take i vs) ++ block (get_or vs i d) ≡ flat_map block (take (i + 1) vs)
+block_more block vs i d lt = flat_map_more block [] (take i vs) (get_or vs i d) ∙ ap (flat_map block) (sym (take_more vs i d lt))
+
+-- where two roots are equal of the values so far and of one more
+pub root_more : {V : Type 0} (root same : V → List ℕ) (vs : List V) (i : ℕ) (d : V) → i < length vs → map root (take i vs) ≡ map same (take i vs) → root (get_or vs i d) ≡ same (get_or vs i d)
+    → map root (take (i + 1) vs) ≡ map same (take (i + 1) vs)
+root_more {V = V} root same vs i d lt so_far e =
+    let x = get_or vs i d in
+    ap (map root) (take_more vs i d lt) ∙ map-append root (take i vs) (x ∷ [])
+    ∙ ap₂ (λ (xs : List (List ℕ)) (y : List ℕ). xs ++ y ∷ []) so_far e
+    ∙ sym (ap (map same) (take_more vs i d lt) ∙ map-append same (take i vs) (x ∷ []))
 
 two : (a b : List ℕ) → parents (a ∷ b ∷ []) ≡ merkle_root 1 (a ∷ b ∷ []) ∷ []
 unfolding parents merkle_root hash

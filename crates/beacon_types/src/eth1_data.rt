@@ -12,7 +12,7 @@ use ssz_codec::{
 use std::alloc::Global;
 
 /// The deposit contract as a block of the execution chain has it (beacon-chain.md, "Eth1Data").
-#[derive(Clone, Copy, Debug, PartialEq, Eq)]
+#[derive(Clone, Copy, PartialEq, Eq)]
 pub struct Eth1Data {
     /// The root of the deposits' tree.
     pub deposit_root: Root,

@@ -12,7 +12,7 @@ use ssz_codec::{
 use std::alloc::Global;
 
 /// The versions of the fork (beacon-chain.md, "Fork").
-#[derive(Clone, Copy, Debug, PartialEq, Eq)]
+#[derive(Clone, Copy, PartialEq, Eq)]
 pub struct Fork {
     /// The version before.
     pub previous_version: [u8; 4],

@@ -13,7 +13,7 @@ use ssz_codec::{
 use std::alloc::Global;
 
 /// A validator (beacon-chain.md, "Validator").
-#[derive(Clone, Copy, Debug, PartialEq, Eq)]
+#[derive(Clone, Copy, PartialEq, Eq)]
 pub struct Validator {
     /// Its public key.
     pub pubkey: [u8; 48],

@@ -1,8 +1,5 @@
--- A container is read where the row of its fields is, and from the same parts. Where a piece can't be written, what stood
--- there before is as it was.
-use Rattle.std.proofs.Common.{◌≡◌, ℕ, List, [], ◌∷◌, ◌++◌, Option, Some, None, length, take, drop, refl, sym, ap, ◌∙◌, append_assoc}
-use Rattle.std.proofs.lemmas.List.{take-append-drop}
-use Rattle.std.proofs.Math.Seq.{take-append_seam}
+-- A container is read where the row of its fields is, and from the same parts.
+use Rattle.std.proofs.Common.{◌≡◌, ℕ, List, [], ◌∷◌, Option, Some, None, refl, ap, ◌∙◌}
 use Rattle.ssz_codec.specs.declared.fault.SszFault.{SszFault}
 use Rattle.ssz_codec.specs.declared.fault.SszFault.TheVariants.{NotAWriting, NoMemory}
 use Rattle.ssz_codec.specs.Layout.{◌and_then◌}
@@ -10,13 +7,6 @@ use Rattle.ssz_codec.specs.Codec.{Codec}
 use Rattle.ssz_codec.specs.Containers.{deserialize_next, all_read}
 use Rattle.ssz_codec.specs.Reads.{Fails}
 use Rattle.ssz_codec.specs.inside.Rows.{nothing_read, beside, read_before}
-
--- what stands in front of a longer front stays with it
-pub front_stays : (xs ys zs : List ℕ) → take (length (xs ++ ys)) zs ≡ xs ++ ys → take (length xs) zs ≡ xs
-front_stays xs ys zs e =
-    let n = length (xs ++ ys) in
-    let whole : zs ≡ xs ++ (ys ++ drop n zs) = sym (take-append-drop n zs) ∙ ap (λ (l : List ℕ). l ++ drop n zs) e ∙ append_assoc xs ys (drop n zs) in
-    ap (take (length xs)) whole ∙ take-append_seam xs (ys ++ drop n zs)
 
 -- what is made of the values is what the next reading gives
 record Makes {R S : Type 0} (reading : List (List ℕ) → Option R) (make : R → S) (next : List (List ℕ) → Option S) : Type 0 where

@@ -13,7 +13,7 @@ use crate::fault::SszFault;
 use crate::writer::Writer;
 use bc_words::NoMemory;
 use hash_tree::{Root, depth_of, merkle_bytes, mix_in_length};
-use std::alloc::{AllocError, Global};
+use std::alloc::Global;
 use std::marker::Model;
 
 /// A list of bits (simple-serialize.md, "Bitlist[N]"). Clauses see it as a list of `Bool`.
@@ -225,12 +225,7 @@ impl BitList {
 }
 
 /// The bits of the whole bytes, and those of the last byte below its highest 1, which is at the place.
-fn before_delimiter(
-    alloc: Global,
-    front: &[u8],
-    last: u8,
-    place: u32,
-) -> Result<BitList, AllocError>
+fn before_delimiter(alloc: Global, front: &[u8], last: u8, place: u32) -> Result<BitList, NoMemory>
     requires in_byte { place < 8 }
     requires low { 2 ^ place ≤ last }
     requires high { last < 2 * 2 ^ place }
@@ -238,12 +233,18 @@ fn before_delimiter(
     ensures { IfOk result (λ b. b ≡ whole_bits front.now ++ number_bits place last) }
 {
     let len = 8 * (front.len() as u64) + u64::from(place);
-    let mut bytes = Vec::from_slice(alloc, front)?;
-    if place == 0 {
-        return Ok(BitList { bytes, len });
+    match Vec::from_slice(alloc, front) {
+        Ok(mut bytes) => {
+            if place == 0 {
+                return Ok(BitList { bytes, len });
+            }
+            match bytes.push(last - (1 << place)) {
+                Ok(()) => Ok(BitList { bytes, len }),
+                Err(_refused) => Err(NoMemory),
+            }
+        }
+        Err(_refused) => Err(NoMemory),
     }
-    bytes.push(last - (1 << place))?;
-    Ok(BitList { bytes, len })
 }
 
 /// A list of bits that was written is read again.

@@ -38,6 +38,16 @@ impl<T> Items<T> {
         Items { values }
     }
 
+    /// The empty list, with room for so many values.
+    pub(crate) fn with_room(alloc: Global, count: usize) -> Result<Items<T>, NoMemory>
+        ensures { IfOk result (λ items. items ≡ []) }
+    {
+        match Vec::with_capacity(alloc, count) {
+            Ok(values) => Ok(Items { values }),
+            Err(_refused) => Err(NoMemory),
+        }
+    }
+
     /// The values of this list.
     pub fn into_vec(self) -> Vec<T>
         ensures { result.items ≡ self }

@@ -43,7 +43,10 @@ fn push_copies<T: ListValue>(values: &[T], copies: &mut Items<T>) -> Result<(), 
     ensures { OnOk result (copies.new ≡ copies.old ++ values.now) }
 {
     for value in values {
-        push_copy(value, copies)?;
+        match push_copy(value, copies) {
+            Ok(()) => {}
+            Err(refused) => return Err(refused),
+        }
     }
     Ok(())
 }

@@ -4,8 +4,9 @@ ghost use Rattle.std.specs.Prelude.{◌≡◌, ◌<◌, ◌≤◌, ◌*◌, ◌/
 ghost use Rattle.std.specs.List.{flat_map};
 ghost use Rattle.ssz_codec.specs.declared.layout.Field.TheVariants.{Variable};
 ghost use Rattle.ssz_codec.specs.Lists.{parse_items, parse_list, parse_parts, parse_variable_list};
-ghost use Rattle.ssz_codec.specs.Layout.{cut};
+ghost use Rattle.ssz_codec.specs.Layout.{cut, fixed_length};
 ghost use Rattle.ssz_codec.specs.Reads.{ReadsAs, Fails};
+ghost use Rattle.ssz_codec.specs.inside.Reading.{with_front, with_one};
 
 use crate::fault::SszFault;
 use crate::items::Items;
@@ -14,6 +15,46 @@ use crate::ssz::Ssz;
 use crate::writer::Writer;
 use bc_words::NoMemory;
 use std::alloc::Global;
+
+/// Reads one more value, behind those that were read before.
+fn read_behind<T: Ssz>(alloc: Global, part: &[u8], values: &mut Items<T>) -> Result<(), SszFault>
+    ensures { MatchResult result (λ _. with_one values.old (T.codec.deserialize part.now) ≡ Some values.new) (λ e. Fails e (T.codec.deserialize part.now)) }
+{
+    match T::parse(alloc, part) {
+        Ok(value) => match values.push(value) {
+            Ok(()) => Ok(()),
+            Err(_refused) => Err(SszFault::NoMemory),
+        },
+        Err(fault) => Err(fault),
+    }
+}
+
+/// Reads so many values of fixed size, one after another, behind those that were read before.
+fn read_items_behind<T: Ssz>(
+    alloc: Global,
+    bytes: &[u8],
+    size: usize,
+    count: usize,
+    values: &mut Items<T>,
+) -> Result<(), SszFault>
+    ensures { MatchResult result (λ _. with_front values.old (parse_items T.codec.deserialize size count bytes.now) ≡ Some values.new) (λ e. Fails e (with_front values.old (parse_items T.codec.deserialize size count bytes.now))) }
+{
+    let mut rest = bytes;
+    for _ in 0..count {
+        if rest.len() < size {
+            return Err(SszFault::NotAWriting);
+        }
+        let (front, after) = rest.split_at(size);
+        match read_behind(alloc, front, values) {
+            Ok(()) => rest = after,
+            Err(fault) => return Err(fault),
+        }
+    }
+    match rest {
+        [] => Ok(()),
+        _ => Err(SszFault::NotAWriting),
+    }
+}
 
 /// Reads so many values of fixed size, one after another: a vector. The size is the codec's.
 pub fn read_items<T: Ssz>(
@@ -24,21 +65,13 @@ pub fn read_items<T: Ssz>(
 ) -> Result<Items<T>, SszFault>
     ensures { ReadsAs result (parse_items T.codec.deserialize size count bytes.now) }
 {
-    let mut values = Vec::with_capacity(alloc, count)?;
-    let mut rest = bytes;
-    for _ in 0..count {
-        if rest.len() < size {
-            return Err(SszFault::NotAWriting);
-        }
-        let (front, after) = rest.split_at(size);
-        let value = T::parse(alloc, front)?;
-        values.push(value)?;
-        rest = after;
+    match Items::with_room(alloc, count) {
+        Ok(mut values) => match read_items_behind(alloc, bytes, size, count, &mut values) {
+            Ok(()) => Ok(values),
+            Err(fault) => Err(fault),
+        },
+        Err(_refused) => Err(SszFault::NoMemory),
     }
-    if !rest.is_empty() {
-        return Err(SszFault::NotAWriting);
-    }
-    Ok(Items::from_vec(values))
 }
 
 /// Reads a list of values of fixed size, at most `limit` of them. The size is the codec's.
@@ -59,16 +92,48 @@ pub fn read_list<T: Ssz>(
     read_items(alloc, bytes, size, count)
 }
 
+/// Reads one value of each part, behind those that were read before.
+fn read_parts_behind<T: Ssz>(
+    alloc: Global,
+    parts: &[&[u8]],
+    values: &mut Items<T>,
+) -> Result<(), SszFault>
+    ensures { MatchResult result (λ _. with_front values.old (parse_parts T.codec.deserialize (map (λ part. part.now) parts.now)) ≡ Some values.new) (λ e. Fails e (with_front values.old (parse_parts T.codec.deserialize (map (λ part. part.now) parts.now)))) }
+{
+    for part in parts {
+        match read_behind(alloc, part, values) {
+            Ok(()) => {}
+            Err(fault) => return Err(fault),
+        }
+    }
+    Ok(())
+}
+
 /// Reads one value of each part.
 fn read_parts<T: Ssz>(alloc: Global, parts: &[&[u8]]) -> Result<Items<T>, SszFault>
     ensures { ReadsAs result (parse_parts T.codec.deserialize (map (λ part. part.now) parts.now)) }
 {
-    let mut values = Vec::with_capacity(alloc, parts.len())?;
-    for part in parts {
-        let value = T::parse(alloc, part)?;
-        values.push(value)?;
+    match Items::with_room(alloc, parts.len()) {
+        Ok(mut values) => match read_parts_behind(alloc, parts, &mut values) {
+            Ok(()) => Ok(values),
+            Err(fault) => Err(fault),
+        },
+        Err(_refused) => Err(SszFault::NoMemory),
     }
-    Ok(Items::from_vec(values))
+}
+
+/// Cuts bytes into the parts of these fields.
+fn cut_at<'a>(alloc: Global, bytes: &'a [u8], fields: &[Field]) -> Result<Vec<&'a [u8]>, SszFault>
+    requires { fixed_length fields.now < 2 ^ 32 }
+    ensures { MatchResult result (λ parts. cut fields.now bytes.now ≡ Some (map (λ part. part.now) parts.items)) (λ e. Fails e (cut fields.now bytes.now)) }
+{
+    match vec![in alloc; bytes; fields.len()] {
+        Ok(mut parts) => match layout::cut(bytes, fields, &mut parts) {
+            Ok(()) => Ok(parts),
+            Err(fault) => Err(fault),
+        },
+        Err(_refused) => Err(SszFault::NoMemory),
+    }
 }
 
 /// Cuts a list of so many variable parts.
@@ -77,12 +142,8 @@ fn cut_list(alloc: Global, bytes: &[u8], count: usize) -> Result<Vec<&[u8]>, Ssz
     requires { 4 * count < 2 ^ 32 }
     ensures { MatchResult result (λ parts. cut (replicate count Variable) bytes.now ≡ Some (map (λ part. part.now) parts.items)) (λ e. Fails e (cut (replicate count Variable) bytes.now)) }
 {
-    let fields = vec![in alloc; Field::Variable; count]?;
-    match vec![in alloc; bytes; count] {
-        Ok(mut parts) => match layout::cut(bytes, &fields, &mut parts) {
-            Ok(()) => Ok(parts),
-            Err(fault) => Err(fault),
-        },
+    match vec![in alloc; Field::Variable; count] {
+        Ok(fields) => cut_at(alloc, bytes, &fields),
         Err(_refused) => Err(SszFault::NoMemory),
     }
 }
@@ -120,7 +181,10 @@ pub fn append_items<T: Ssz>(values: &[T], out: &mut Writer) -> Result<(), NoMemo
     ensures err { OnErr result (take (length out.old) out.new ≡ out.old) }
 {
     for value in values {
-        value.write_to(out)?;
+        match value.write_to(out) {
+            Ok(()) => {}
+            Err(refused) => return Err(refused),
+        }
     }
     Ok(())
 }

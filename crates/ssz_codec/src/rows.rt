@@ -149,7 +149,6 @@ impl Pieces for () {
 impl<P: Piece, R: Pieces> Pieces for (P, R) {
     ghost writings = { λ pieces. P.writing pieces.0 ++ R.writings pieces.1 };
 
-    #[tactic(auto, using(crate::proofs::Fieldwise::front_stays))]
     fn put_all(&self, out: &mut Writer) -> Result<(), NoMemory> {
         match self.0.put(out) {
             Ok(()) => self.1.put_all(out),

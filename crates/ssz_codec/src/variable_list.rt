@@ -108,7 +108,10 @@ fn write_parts<T: Ssz>(values: &[T], parts: &mut PartsWriter) -> Result<(), NoMe
     ensures { OnOk result (parts.new ≡ with_variable_parts (map T.codec.serialize values.now) parts.old) }
 {
     for value in values {
-        parts.add_variable(value)?;
+        match parts.add_variable(value) {
+            Ok(()) => {}
+            Err(refused) => return Err(refused),
+        }
     }
     Ok(())
 }

@@ -1,10 +1,11 @@
 -- All keys are written.
-use Rattle.std.proofs.Common.{◌≡◌, ◌∙◌, ◌*◌, take, sym, ap, map, arith}
+use Rattle.std.proofs.Common.{rules, ◌≡◌, ◌∙◌, ◌+◌, ◌-◌, ◌*◌, ℕ, List, ◌++◌, length, take, sym, ap, ap₂, map, arith}
+use Rattle.std.proofs.lemmas.Slice.{take-put_mid, overwrites}
 use Rattle.std.proofs.lemmas.List.{take_all}
 use Rattle.std.specs.List.{flat_map}
 use Rattle.pair_lanes.specs.Pairs.{parents}
 use Rattle.beacon_types.specs.inside.ValidatorChunks.{key_chunks, root_of_chunks, key_root}
-use Rattle.beacon_types.proofs.Lanes.{keys_of}
+use Rattle.beacon_types.proofs.Lanes.{block_more, root_more, keys_of}
 use Rattle.beacon_types.proofs.validator_roots.write_keys.Goals as goal
 
 pub returns : goal.returns
@@ -14,3 +15,16 @@ returns c =
     let chunks : c.keys.chunks ≡ flat_map key_chunks c.args.validators.now =
     sym (take_all (2 * c.keys.i) c.keys.chunks (omega (arith, c.keys.invariant.room))) ∙ (c.keys.invariant.so_far ∙ ap (flat_map key_chunks) all) in
     c.hash_layer.ensures ∙ (ap parents chunks ∙ (keys_of c.args.validators.now ∙ (ap (map root_of_chunks) (sym all) ∙ (c.keys.invariant.roots ∙ ap (map key_root) all))))
+
+pub keys-preserved : goal.keys-preserved
+keys-preserved c =
+    let i = c.keys.i in
+    let pair : length c.write_key.new.out ≡ 2 = c.write_key.auto.out ∙ omega (arith, c.keys.invariant.room) in
+    record {
+      room = search (rules, overwrites);
+      so_far =
+          take-put_mid (2 * i) (2 * i + 2 - 2 * i) c.keys.chunks c.write_key.new.out (2 * (i + 1)) (omega arith) (omega (arith, c.keys.invariant.room))
+          ∙ (ap₂ (λ (xs ys : List (List ℕ)). xs ++ ys) c.keys.invariant.so_far c.write_key.ensures.chunks
+          ∙ block_more key_chunks c.args.validators.now i _ (omega (arith, c.requires.validators)));
+      roots = root_more root_of_chunks key_root c.args.validators.now i _ (omega (arith, c.requires.validators)) c.keys.invariant.roots c.write_key.ensures.root;
+    }

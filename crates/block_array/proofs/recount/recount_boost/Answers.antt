@@ -1,4 +1,4 @@
-use Rattle.std.proofs.Common.{false, sym, ap, ◌∙◌}
+use Rattle.std.proofs.Common.{◌≡◌, false, sym, ap, ◌∙◌}
 use Rattle.std.specs.Option.{option_map_or}
 use Rattle.block_array.specs.declared.tally.Counted.{Counted}
 use Rattle.block_array.specs.GetLatestAttestingBalance.{proposer_score}
@@ -17,6 +17,6 @@ returns-in-Some c =
 pub returns-in-None : goal.returns-in-None
 unfolding boost_due
 returns-in-None c =
-    c.set_boost-in-None.ensures
-    ∙ ap (λ (b : Counted). record c.args.tally.now { boost = b })
-    (ap (λ o. option_map_or (λ boosted. record { node = boosted; balance = proposer_score c.args.inputs.now.array; changed = false }) o nothing) (sym c.in-None.is ∙ c.boosted_node.ensures))
+    let none : boost_due c.args.inputs.now.array ≡ record { node = 0; balance = 0; changed = false } =
+    ap (λ o. option_map_or (λ boosted. record { node = boosted; balance = proposer_score c.args.inputs.now.array; changed = false }) o nothing) (sym c.boosted_node.ensures ∙ c.in-None.is) in
+    cc

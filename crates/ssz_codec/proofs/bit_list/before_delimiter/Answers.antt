@@ -5,22 +5,22 @@ use Rattle.ssz_codec.proofs.bit_list.before_delimiter.Goals as goal
 
 pub invariant_of-result : goal.invariant_of-result
 invariant_of-result c =
-    let b : Inside = record { bytes = c.in_ok-bytes.bytes; len = 8 * length c.args.front.now + c.from.result } in
-    whole_held b c.args.front.now c.args.place c.args.last (omega arith) (λ i. (c.type_inv.front i).fits) c.in_ok-bytes.ensures.items c.if-place-eq0.true
+    let b : Inside = record { bytes = c.in-Ok.bytes; len = 8 * length c.args.front.now + c.from.result } in
+    whole_held b c.args.front.now c.args.place c.args.last (omega arith) (λ i. (c.type_inv.front i).fits) c.in-Ok.ensures.items c.if-place-eq0.true
 
 pub returns-then-place-eq0 : goal.returns-then-place-eq0
 returns-then-place-eq0 c =
-    let b : Inside = record { bytes = c.in_ok-bytes.bytes; len = 8 * length c.args.front.now + c.from.result } in
-    whole_view b c.args.front.now c.args.place c.args.last (omega arith) (λ i. (c.type_inv.front i).fits) c.in_ok-bytes.ensures.items c.if-place-eq0.true
+    let b : Inside = record { bytes = c.in-Ok.bytes; len = 8 * length c.args.front.now + c.from.result } in
+    whole_view b c.args.front.now c.args.place c.args.last (omega arith) (λ i. (c.type_inv.front i).fits) c.in-Ok.ensures.items c.if-place-eq0.true
 
-pub invariant_of-result-2 : goal.invariant_of-result-2
-invariant_of-result-2 c =
+pub invariant_of-result-in-Ok-push : goal.invariant_of-result-in-Ok-push
+invariant_of-result-in-Ok-push c =
     let b : Inside = record { bytes = c.push.new.self; len = 8 * length c.args.front.now + c.from.result } in
     let rest = c.args.last - 1 * 2 ^ c.args.place % 256 in
-    part_held b c.args.front.now c.args.place c.args.last (omega arith) (λ i. (c.type_inv.front i).fits) rest (c.in_ok-push.ensures.items ∙ ap (λ t. t ++ rest ∷ []) c.in_ok-bytes.ensures.items) (omega arith) c.requires.in_byte (without_top c.args.place c.args.last c.requires.in_byte c.requires.low) c.requires.high
+    part_held b c.args.front.now c.args.place c.args.last (omega arith) (λ i. (c.type_inv.front i).fits) rest (c.in-Ok-push.ensures.items ∙ ap (λ t. t ++ rest ∷ []) c.in-Ok.ensures.items) (omega arith) c.requires.in_byte (without_top c.args.place c.args.last c.requires.in_byte c.requires.low) c.requires.high
 
-pub returns : goal.returns
-returns c =
+pub returns-in-Ok-push : goal.returns-in-Ok-push
+returns-in-Ok-push c =
     let b : Inside = record { bytes = c.push.new.self; len = 8 * length c.args.front.now + c.from.result } in
     let rest = c.args.last - 1 * 2 ^ c.args.place % 256 in
-    part_view b c.args.front.now c.args.place c.args.last (omega arith) (λ i. (c.type_inv.front i).fits) rest (c.in_ok-push.ensures.items ∙ ap (λ t. t ++ rest ∷ []) c.in_ok-bytes.ensures.items) (omega arith) c.requires.in_byte (without_top c.args.place c.args.last c.requires.in_byte c.requires.low) c.requires.high
+    part_view b c.args.front.now c.args.place c.args.last (omega arith) (λ i. (c.type_inv.front i).fits) rest (c.in-Ok-push.ensures.items ∙ ap (λ t. t ++ rest ∷ []) c.in-Ok.ensures.items) (omega arith) c.requires.in_byte (without_top c.args.place c.args.last c.requires.in_byte c.requires.low) c.requires.high

@@ -1,8 +1,0 @@
-use Rattle.std.proofs.Common.{◌≡◌, ◌-◌}
-use Rattle.ssz_codec.specs.Lists.{parse_items}
-use Rattle.ssz_codec.proofs.ItemsLoop.{with_front}
-use Rattle.ssz_codec.proofs.lists.read_items.Given as goal
-
-abbrev pub invariant-loop : goal.invariant-loop
-invariant-loop g l =
-    with_front l.values.items (parse_items g.T.Ssz.codec.deserialize l.size (l.count - l.counter) l.rest) ≡ parse_items g.T.Ssz.codec.deserialize l.size l.count l.bytes
