@@ -1,7 +1,7 @@
 //! The list of active validators, and the total balance of a set.
 
-ghost use Rattle.std.specs.Prelude.{◌≡◌, ◌<◌, ◌≤◌, ◌^◌, ℕ, length, slice_index, IfOk};
-ghost use Rattle.bc_words.specs.Outcome.{GivesExactly, checked_sum_by};
+ghost use Rattle.std.specs.Prelude.{◌≡◌, ◌<◌, ◌≤◌, ◌^◌, ℕ, length, max, slice_index, IfOk};
+ghost use Rattle.bc_words.specs.Outcome.{GivesExactly, checked_add, checked_sum_by};
 ghost use Rattle.committees.specs.Committees.{IsWithoutRepeats};
 ghost use Rattle.spec_state.specs.Misc.{effective_balance};
 ghost use Rattle.spec_state.specs.Accessors.{get_active_validator_indices, get_total_balance};
@@ -54,6 +54,13 @@ pub fn active_are_indices(state: &State, epoch: u64)
     let _count = state.validators_len();
 }
 
+/// A sum with the effective balance of the validator with an index, in Gwei. Refused exactly where it does not fit.
+fn with_balance(sum: u64, state: &State, index: u64) -> Result<u64, Stop>
+    ensures { GivesExactly result (checked_add sum (effective_balance state.now.validators index)) }
+{
+    checked_add(sum, effective_at(state, index))
+}
+
 /// The sum of the effective balances of the validators with these indices, in Gwei.
 #[tactic(auto, using(bc_words::proofs::Sums::sum_by_number))]
 fn sum_of(state: &State, indices: &[u64]) -> Result<u64, Stop>
@@ -61,9 +68,16 @@ fn sum_of(state: &State, indices: &[u64]) -> Result<u64, Stop>
 {
     let mut sum = 0;
     for index in indices {
-        sum = checked_add(sum, effective_at(state, *index))?;
+        sum = with_balance(sum, state, *index)?;
     }
     Ok(sum)
+}
+
+/// A total, in Gwei, of which the sum is known: at least one increment.
+fn total_by(state: &State, sum: u64) -> u64
+    ensures { result ≡ max state.now.preset.effective_balance_increment sum }
+{
+    state.preset().effective_balance_increment.max(sum)
 }
 
 /// The total effective balance of the validators with these indices, in Gwei: at least one increment
@@ -73,7 +87,7 @@ pub fn total_of(state: &State, indices: &[u64]) -> Result<u64, Stop>
     ensures { GivesExactly result (get_total_balance state.now indices.now) }
 {
     let sum = sum_of(state, indices)?;
-    Ok(state.preset().effective_balance_increment.max(sum))
+    Ok(total_by(state, sum))
 }
 
 /// The sum of the effective balances of the validators that are active at the epoch, in Gwei.
@@ -97,5 +111,5 @@ pub fn total_active(state: &State, epoch: u64) -> Result<u64, Stop>
     ensures { GivesExactly result (get_total_balance state.now (get_active_validator_indices state.now epoch)) }
 {
     let sum = sum_active(state, epoch)?;
-    Ok(state.preset().effective_balance_increment.max(sum))
+    Ok(total_by(state, sum))
 }

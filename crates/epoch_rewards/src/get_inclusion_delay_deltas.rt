@@ -1,6 +1,6 @@
 //! Rewards for the inclusion of attestations (beacon-chain.md, "get_inclusion_delay_deltas").
 
-ghost use Rattle.std.specs.Prelude.{◌≡◌, slice_index, slice_set};
+ghost use Rattle.std.specs.Prelude.{◌≡◌, ◌/◌, slice_index, slice_set};
 ghost use Rattle.bc_words.specs.Outcome.{Gives, GivesBy, GivesExactly, Moves, bind, done, checked_add};
 ghost use Rattle.spec_state.specs.Accessors.{get_previous_epoch, epoch_committees};
 ghost use Rattle.spec_state.specs.Soundness.{IsSoundWithinEpoch};
@@ -84,6 +84,13 @@ pub(crate) fn proposer_gains(
     Ok(gains)
 }
 
+/// What is left of the most that an attester may get, in Gwei, after a delay.
+fn after_delay(most: u64, delay: u64) -> u64
+    ensures { result ≡ most / delay }
+{
+    most.checked_div(delay).unwrap_or(0)
+}
+
 /// What an attester gets for an inclusion, in Gwei, after its delay, where its base reward is known, or why it has none.
 #[tactic(auto, unfolding(crate::specs::inside::Inclusions::delayed_by))]
 fn delayed_reward(
@@ -100,7 +107,7 @@ fn delayed_reward(
             let whole = base?;
             let proposer = proposer_reward(state, base, index)?;
             let most = checked_sub(whole, proposer)?;
-            Ok(most.checked_div(inclusion.delay).unwrap_or(0))
+            Ok(after_delay(most, inclusion.delay))
         }
         None => Ok(0),
     }

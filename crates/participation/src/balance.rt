@@ -8,12 +8,13 @@ ghost use Rattle.spec_state.specs.Accessors.{get_current_epoch, get_total_balanc
 ghost use Rattle.spec_state.specs.Soundness.{IsSoundPending};
 ghost use Rattle.spec_epochs.specs.Helpers.{get_matching_source_attestations, get_attesting_balance};
 ghost use Rattle.participation.specs.inside.Votes.{matching};
-ghost use Rattle.participation.specs.inside.Marks.{flagged};
+ghost use Rattle.participation.specs.inside.Marks.{flagged, is_weighed};
 
 use crate::attesters::attested;
 use crate::matching::Vote;
 use bc_words::{Stop, checked_add};
 use beacon_state::State;
+use beacon_types::Validator;
 use committees::EpochCommittees;
 use std::alloc::Global;
 
@@ -28,6 +29,14 @@ pub fn flag_at(flags: &[bool], index: u64) -> bool
     }
 }
 
+/// Whether the validator with an index is weighed: it isn't slashed, and its flag is set.
+#[tactic(auto, unfolding(crate::specs::inside::Marks::is_weighed))]
+fn is_weighed(flags: &[bool], index: u64, validator: &Validator) -> bool
+    ensures { result ≡ is_weighed flags.now index validator.now }
+{
+    flag_at(flags, index) && !validator.slashed
+}
+
 /// The sum of the effective balances of those whose flag is set and who aren't slashed, in Gwei.
 #[tactic(auto, using(crate::proofs::WeighedLeft::summing, balance_totals::proofs::LeftOf::others_left))]
 fn sum_flagged(state: &State, flags: &[bool]) -> Result<u64, Stop>
@@ -36,10 +45,7 @@ fn sum_flagged(state: &State, flags: &[bool]) -> Result<u64, Stop>
     let mut sum = 0;
     let validators = state.validator_list().iter();
     for (index, validator) in validators.enumerate() {
-        if validator.slashed {
-            continue;
-        }
-        if flag_at(flags, index as u64) {
+        if is_weighed(flags, index as u64, validator) {
             sum = checked_add(sum, validator.effective_balance)?;
         }
     }

@@ -3,10 +3,10 @@
 //! The registry is gone through once. Where the exit queue ends, and how many leave there, is counted before and kept on the
 //! way, so that an ejection reads no other validator.
 
-ghost use Rattle.std.specs.Prelude.{◌≡◌, ◌<◌, ◌^◌, OnOk, Some, slice_get};
+ghost use Rattle.std.specs.Prelude.{◌≡◌, ◌<◌, ◌^◌, ◌&&◌, OnOk, Some, leb, slice_get};
 ghost use Rattle.bc_words.specs.Outcome.{Becomes, GivesExactly, Moves, done};
 ghost use Rattle.spec_state.specs.Misc.{compute_activation_exit_epoch};
-ghost use Rattle.spec_state.specs.Predicates.{is_eligible_for_activation_queue};
+ghost use Rattle.spec_state.specs.Predicates.{is_active_validator, is_eligible_for_activation_queue};
 ghost use Rattle.spec_state.specs.Accessors.{get_current_epoch};
 ghost use Rattle.spec_blocks.specs.Checks.{each_of};
 ghost use Rattle.spec_blocks.specs.InitiateValidatorExit.{initiate_validator_exit};
@@ -145,7 +145,15 @@ fn wait(state: &mut State, index: u64, validator: Validator) -> Result<(), NoMem
     state.set_validators_at(index, waiting)
 }
 
-/// The validator waits where it may, and leaves where it is active with too low an effective balance.
+/// Whether a validator is ejected: it is active at the epoch, with too low an effective balance.
+fn is_ejected(validator: &Validator, epoch: u64, config: &Config) -> bool
+    ensures { result ≡ (is_active_validator validator.now epoch && leb validator.now.effective_balance config.now.ejection_balance) }
+{
+    is_active_validator(validator, epoch)
+        && validator.effective_balance <= config.ejection_balance()
+}
+
+/// The validator waits where it may, and leaves where it is ejected.
 #[tactic(auto, unfolding(spec_epochs::specs::ProcessRegistryUpdates::eligibility_and_ejection), using(crate::proofs::Exits::waited, spec_blocks::proofs::Done::item_is))]
 fn eligibility_and_ejection(
     state: &mut State,
@@ -158,9 +166,9 @@ fn eligibility_and_ejection(
     ensures queue { OnOk result (IsExitQueue state.new config.now queue.new) }
 {
     let validator = validator_at(state, index)?;
-    let active = is_active_validator(&validator, current_epoch(state));
+    let ejected = is_ejected(&validator, current_epoch(state), config);
     wait(state, index, validator)?;
-    if active && validator.effective_balance <= config.ejection_balance() {
+    if ejected {
         initiate_exit(state, queue, index, config)?;
     }
     Ok(())

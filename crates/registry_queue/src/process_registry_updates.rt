@@ -1,6 +1,6 @@
 //! Eligibility, ejections and activations (beacon-chain.md, "process_registry_updates").
 
-ghost use Rattle.bc_words.specs.Outcome.{Changes, Gives};
+ghost use Rattle.bc_words.specs.Outcome.{Changes, Moves};
 ghost use Rattle.spec_epochs.specs.ProcessRegistryUpdates.{process_registry_updates};
 
 use crate::activations::activate;
@@ -10,16 +10,15 @@ use bc_words::Stop;
 use beacon_state::State;
 use std::alloc::Global;
 
-/// The state with its registry updated.
+/// Updates the registry. It leaves anything in the state after a stop.
 #[tactic(auto, unfolding(spec_epochs::specs::ProcessRegistryUpdates::process_registry_updates))]
-fn with_registry_updates(alloc: Global, state: &State, config: &Config) -> Result<State, Stop>
-    ensures { Gives result (process_registry_updates state.now config.now) }
+fn update(alloc: Global, state: &mut State, config: &Config) -> Result<(), Stop>
+    ensures { Moves result state.new (process_registry_updates state.old config.now) }
 {
-    let mut next = state.share()?;
-    eligibility_and_ejections(&mut next, config)?;
-    let _epoch = earliest_exit(&next);
-    activate(alloc, &mut next, config)?;
-    Ok(next)
+    eligibility_and_ejections(state, config)?;
+    let _epoch = earliest_exit(state);
+    activate(alloc, state, config)?;
+    Ok(())
 }
 
 /// Validators begin to wait or are ejected, in order of index, and then as many as the churn limit are let in, by the epoch
@@ -30,7 +29,8 @@ fn with_registry_updates(alloc: Global, state: &State, config: &Config) -> Resul
 pub fn process_registry(alloc: Global, state: &mut State, config: &Config) -> Result<(), Stop>
     ensures { Changes result state.old state.new (process_registry_updates state.old config.now) }
 {
-    let next = with_registry_updates(alloc, state, config)?;
+    let mut next = state.share()?;
+    update(alloc, &mut next, config)?;
     *state = next;
     Ok(())
 }

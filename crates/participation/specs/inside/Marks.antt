@@ -1,7 +1,8 @@
 -- A flag a validator: whether it attests in one of some attestations.
-use Rattle.std.specs.Prelude.{◌≡◌, ℕ, ◌+◌, Bool, true, false, not, List, [], ◌∷◌, map, filter, drop, slice_set, slice_index_or}
+use Rattle.std.specs.Prelude.{◌≡◌, ℕ, ◌+◌, Bool, true, false, not, ◌&&◌, List, [], ◌∷◌, map, filter, drop, slice_set, slice_index_or}
 use Rattle.std.specs.List.{list_any}
 use Rattle.beacon_types.specs.declared.pending_attestation.PendingAttestation.{PendingAttestation}
+use Rattle.beacon_types.specs.declared.validator.Validator.{Validator}
 use Rattle.spec_state.specs.declared.plain.PlainState.{PlainState}
 use Rattle.spec_state.specs.Misc.{effective_balance}
 use Rattle.spec_state.specs.Accessors.{get_attesting_indices, indices_from}
@@ -27,6 +28,10 @@ all_marked state flags (a ∷ attestations) = all_marked state (marked flags (ge
 -- the same of those of an epoch from a place on that have a vote right
 abbrev pub marked_from : PlainState → List Bool → Vote → ℕ → ℕ → List Bool
 marked_from state flags vote epoch i = all_marked state flags (chosen state vote epoch (drop i (get_matching_source_attestations state epoch)))
+
+-- whether the validator with an index is weighed: it isn't slashed, and its flag is set
+unfoldable pub is_weighed : List Bool → ℕ → Validator → Bool
+is_weighed flags index v = not v.slashed && slice_index_or flags index false
 
 -- those from an index on who are not slashed and whose flag is set
 unfoldable pub flagged_from : PlainState → List Bool → ℕ → List ℕ

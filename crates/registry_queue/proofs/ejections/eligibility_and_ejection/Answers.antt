@@ -9,7 +9,7 @@ initiate_exit-requires c =
     subst (λ s. IsExitQueue s c.args.config.now c.args.queue.now) (sym c.in_ok-wait.ensures)
     (waited c.args.state.now c.args.config.now c.args.queue.now c.args.index c.in_ok-validator.validator (item_is c.args.state.now.validators c.args.index c.in_ok-validator.validator c.in_ok-validator.ensures.exact) c.requires)
 
-pub returns-else-active-clause-queue : goal.returns-else-active-clause-queue
-returns-else-active-clause-queue c =
+pub returns-else-ejected-clause-queue : goal.returns-else-ejected-clause-queue
+returns-else-ejected-clause-queue c =
     subst (λ s. IsExitQueue s c.args.config.now c.args.queue.now) (sym c.in_ok-wait.ensures)
     (waited c.args.state.now c.args.config.now c.args.queue.now c.args.index c.in_ok-validator.validator (item_is c.args.state.now.validators c.args.index c.in_ok-validator.validator c.in_ok-validator.ensures.exact) c.requires)
