@@ -1,5 +1,5 @@
 -- Taking bytes of a file piece by piece.
-use Rattle.std.proofs.Common.{◌≡◌, ◌≤◌, ◌<◌, ◌+◌, ℕ, zero, suc, Bool, true, false, ◌||◌, ◌&&◌, ◌==◌, List, [], ◌∷◌, ◌++◌, length, map, set, get_or, refl, sym, ap, ◌∙◌, arith, zero-le, append-nil, append_assoc, length-append, take, drop}
+use Rattle.std.proofs.Common.{◌≡◌, ◌≤◌, ◌<◌, ◌+◌, ℕ, zero, suc, Bool, true, false, ◌||◌, ◌&&◌, ◌==◌, not, List, [], ◌∷◌, ◌++◌, length, map, set, get_or, refl, sym, ap, ◌∙◌, arith, zero-le, append-nil, append_assoc, length-append, take, drop}
 use Rattle.std.proofs.Math.Seq.{take-add}
 use Rattle.std.proofs.lemmas.Bool.Decides.{nat_tests}
 use Rattle.bc_outside.specs.Told.{FileHanded, ShelfTold, any_byte, more_of, with_more}
@@ -74,6 +74,11 @@ takes_some_more limit more file bytes s t u h le some = (bytes ++ some.0, omega 
 
 pub stays_same : (s : ShelfTold) → Stays s s
 stays_same s = record { files = refl; asked = refl }
+
+-- whether a read met the end, as the code tests it
+pub end_tested : (piece : List ℕ) (n : ℕ) → ((n == 0) && not (length piece == 0)) ≡ meets_end piece n
+end_tested [] n = refl
+end_tested (b ∷ piece) n = let k : (length (b ∷ piece) == 0) ≡ false = grind (arith, nat_tests) in rw k refl
 
 -- whether a read met the end
 pub met_end : (piece : List ℕ) (n : ℕ) → n ≡ 0 → 0 < length piece → meets_end piece n ≡ true

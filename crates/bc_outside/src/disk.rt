@@ -13,6 +13,7 @@ ghost use Rattle.bc_outside.specs.inside.Disk.{DiskFile, DiskFiles, DiskBytes, d
 use crate::faults::FaultCounts;
 use crate::names::{AskedName, ask};
 use crate::seen::{nothing_seen, see};
+use crate::shelf::meets_end;
 use crate::{Shelf, Sink, Trouble, patience};
 use std::alloc::{AllocError, Global};
 use std::io::{Error, Read, Write};
@@ -88,8 +89,8 @@ impl<F: Read + Drop> DiskFile<F> {
             Err(trouble) => return Err(trouble),
         };
         see(&mut self.bytes, &into[..n]);
-        self.grew = self.grew || self.ended && n > 0;
-        self.ended = self.ended || n == 0 && !into.is_empty();
+        self.grew |= self.ended & (n > 0);
+        self.ended |= meets_end(into, n);
         Ok(n)
     }
 }
@@ -151,17 +152,25 @@ impl<'a, R: Files> DiskShelf<'a, R> {
         ensures opens { Opens name.now result (disk_told self.old) (disk_told self.new) }
         ensures tries { Tries result self.old.faults self.new.faults }
     {
-        self.opened.reserve(1)?;
+        match self.opened.reserve(1) {
+            Ok(()) => {}
+            Err(_refused) => return Err(Trouble::NoMemory),
+        }
         let number = self.opened.len() as u32;
         let place = self.asked.len();
-        let asked = ask(self.alloc, &mut self.asked, name)?;
-        self.last = place;
-        let Ok(reader) = patience::open(self.files, name, &mut self.faults, &mut self.cause) else {
-            return Err(Trouble::Failed);
+        let asked = match ask(self.alloc, &mut self.asked, name) {
+            Ok(asked) => asked,
+            Err(_refused) => return Err(Trouble::NoMemory),
         };
-        let file = DiskFile::new(self.alloc, reader, asked, place);
-        self.opened.push_reserved(file);
-        Ok(number)
+        self.last = place;
+        match patience::open(self.files, name, &mut self.faults, &mut self.cause) {
+            Ok(reader) => {
+                self.opened
+                    .push_reserved(DiskFile::new(self.alloc, reader, asked, place));
+                Ok(number)
+            }
+            Err(trouble) => Err(trouble),
+        }
     }
 
     // Reads from the place of an opened file.

@@ -10,6 +10,7 @@ ghost use Rattle.bc_outside.specs.inside.Held.{AreHeld};
 ghost use Rattle.bc_outside.specs.inside.Shelving.{HandsOut};
 
 use crate::names::{AskedName, ask};
+use crate::shelf::meets_end;
 use crate::{Shelf, Trouble};
 use std::alloc::Global;
 use std::marker::Model;
@@ -89,10 +90,9 @@ impl OpenFile {
     {
         let left = &self.bytes[self.taken..];
         let n = greatest.min(into.len()).min(left.len());
-        let met = n == 0 && !into.is_empty();
+        self.ended |= meets_end(into, n);
         into[..n].copy_from_slice(&left[..n]);
         self.taken += n;
-        self.ended = self.ended || met;
         n
     }
 }
@@ -212,9 +212,13 @@ impl MemoryShelf {
         requires { (is_failing self.old.failing self.old.calls ≡ true) ⊎ (held_in self.old.files name.now ≡ None) }
         ensures exact { OpensIn name.now result self.old self.new }
     {
-        ask(self.alloc, &mut self.asked, name)?;
-        self.count_fault();
-        Err(Trouble::Failed)
+        match ask(self.alloc, &mut self.asked, name) {
+            Ok(_asked) => {
+                self.count_fault();
+                Err(Trouble::Failed)
+            }
+            Err(_refused) => Err(Trouble::NoMemory),
+        }
     }
 
     // Opens a file with these bytes.
@@ -224,12 +228,19 @@ impl MemoryShelf {
         requires held { held_in self.old.files name.now ≡ Some bytes.items }
         ensures exact { OpensIn name.now result self.old self.new }
     {
-        self.opened.reserve(1)?;
+        match self.opened.reserve(1) {
+            Ok(()) => {}
+            Err(_refused) => return Err(Trouble::NoMemory),
+        }
         let number = self.opened.len() as u32;
-        let asked = ask(self.alloc, &mut self.asked, name)?;
-        self.opened.push_reserved(OpenFile::new(asked, bytes));
-        self.calls = self.calls.saturating_add(1);
-        Ok(number)
+        match ask(self.alloc, &mut self.asked, name) {
+            Ok(asked) => {
+                self.opened.push_reserved(OpenFile::new(asked, bytes));
+                self.calls = self.calls.saturating_add(1);
+                Ok(number)
+            }
+            Err(_refused) => Err(Trouble::NoMemory),
+        }
     }
 
     // Opens the file under a name.
@@ -244,10 +255,10 @@ impl MemoryShelf {
             return self.refuse(name);
         }
         match find(&self.files, name) {
-            Some(bytes) => {
-                let copy = Vec::from_slice(self.alloc, bytes)?;
-                self.admit(name, copy)
-            }
+            Some(bytes) => match Vec::from_slice(self.alloc, bytes) {
+                Ok(copy) => self.admit(name, copy),
+                Err(_refused) => Err(Trouble::NoMemory),
+            },
             None => self.refuse(name),
         }
     }

@@ -47,8 +47,14 @@ pub fn ask(
     ensures kept { OnOk result (asked.new.items ≡ asked.old.items ++ (name.now ∷ [])) }
     ensures unless { OnErr result (asked.new.items ≡ asked.old.items) }
 {
-    let copy = AskedName::new(alloc, name)?;
-    let given = Snapshot::of(&copy);
-    asked.push(copy)?;
-    Ok(given)
+    match AskedName::new(alloc, name) {
+        Ok(copy) => {
+            let given = Snapshot::of(&copy);
+            match asked.push(copy) {
+                Ok(()) => Ok(given),
+                Err(_refused) => Err(AllocError),
+            }
+        }
+        Err(refused) => Err(refused),
+    }
 }

@@ -1,10 +1,18 @@
 //! Files that are opened by name and read from front to back.
 
-ghost use Rattle.std.specs.Prelude.{◌<◌, ◌^◌, [], ◌∷◌, length};
+ghost use Rattle.std.specs.Prelude.{◌≡◌, ◌<◌, ◌^◌, [], ◌∷◌, length};
 ghost use Rattle.bc_outside.specs.Told.{ShelfTold};
-ghost use Rattle.bc_outside.specs.Calls.{FailsOnlyBy, Opens, Reads, ShelfKeeps};
+ghost use Rattle.bc_outside.specs.Calls.{FailsOnlyBy, Opens, Reads, ShelfKeeps, meets_end};
 
 use crate::Trouble;
+
+// Whether a read into this piece that gave n bytes met the file's end.
+pub(crate) fn meets_end(piece: &[u8], n: usize) -> bool
+    ensures { result ≡ meets_end piece.now n }
+{
+    let is_nothing = n == 0;
+    is_nothing & !piece.is_empty()
+}
 
 /// Files by name. Each opened file has a place of its own, also where one name is opened twice.
 pub trait Shelf {

@@ -24,10 +24,17 @@ fn read_more<F: Shelf>(
     ensures causes { HasCause result (F.told shelf.old).faults (F.told shelf.new).faults }
     ensures keeps { ShelfKeeps [] (F.told shelf.old) (F.told shelf.new) }
 {
-    bytes.reserve(piece.len())?;
-    let n = shelf.read(file, piece)?;
-    bytes.extend_from_slice(&piece[..n])?;
-    Ok(n)
+    match bytes.reserve(piece.len()) {
+        Ok(()) => {}
+        Err(_refused) => return Err(Trouble::NoMemory),
+    }
+    match shelf.read(file, piece) {
+        Ok(n) => match bytes.extend_from_slice(&piece[..n]) {
+            Ok(()) => Ok(n),
+            Err(_refused) => Err(Trouble::NoMemory),
+        },
+        Err(trouble) => Err(trouble),
+    }
 }
 
 // A buffer of this many bytes.
@@ -54,9 +61,14 @@ fn read_pieces<F: Shelf>(
 {
     while bytes.len() < limit {
         let want = (limit - bytes.len()).min(piece.len());
-        let n = read_more(shelf, file, &mut piece[..want], bytes)?;
-        if n == 0 {
-            return Ok(());
+        match read_more(shelf, file, &mut piece[..want], bytes) {
+            Ok(n) => {
+                let is_over = n == 0;
+                if is_over {
+                    return Ok(());
+                }
+            }
+            Err(trouble) => return Err(trouble),
         }
     }
     Ok(())
@@ -75,11 +87,15 @@ pub fn read_at_most<F: Shelf>(
     ensures causes { HasCause result (F.told shelf.old).faults (F.told shelf.new).faults }
     ensures keeps { ShelfKeeps [] (F.told shelf.old) (F.told shelf.new) }
 {
-    let mut piece = buffer_of(alloc, PIECE)?;
-    let mut bytes = Vec::new(alloc);
-    match read_pieces(shelf, file, limit, &mut piece, &mut bytes) {
-        Ok(()) => Ok(bytes),
-        Err(trouble) => Err(trouble),
+    match buffer_of(alloc, PIECE) {
+        Ok(mut piece) => {
+            let mut bytes = Vec::new(alloc);
+            match read_pieces(shelf, file, limit, &mut piece, &mut bytes) {
+                Ok(()) => Ok(bytes),
+                Err(trouble) => Err(trouble),
+            }
+        }
+        Err(_refused) => Err(Trouble::NoMemory),
     }
 }
 
@@ -91,7 +107,10 @@ pub fn write_all<O: Sink>(sink: &mut O, bytes: &[u8]) -> Result<(), Trouble>
 {
     let mut written = 0;
     while written < bytes.len() {
-        written += sink.write(&bytes[written..])?;
+        match sink.write(&bytes[written..]) {
+            Ok(n) => written += n,
+            Err(trouble) => return Err(trouble),
+        }
     }
     Ok(())
 }

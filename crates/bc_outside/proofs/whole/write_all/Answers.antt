@@ -5,10 +5,10 @@ use Rattle.bc_outside.proofs.whole.write_all.Goals as goal
 
 pub loop-written-preserved : goal.loop-written-preserved
 loop-written-preserved g c = record {
-  within = omega (arith, length-drop {A = ℕ}, c.in_ok-written.ensures.writes.within);
-  told = wrote_more c.args.bytes.now _ _ _ _ c.loop-written.written c.in_ok-written.field-0 (ap (take c.in_ok-written.field-0) (take_all (length c.args.bytes.now - c.loop-written.written) _ (omega (arith, length-drop {A = ℕ})))) c.loop-written.invariant.told c.in_ok-written.ensures.writes.taken;
-  keeps = sink_keeps_then c.loop-written.invariant.keeps c.in_ok-written.ensures.keeps;
+  within = omega (arith, length-drop {A = ℕ}, c.in-Ok.ensures.writes.within);
+  told = wrote_more c.args.bytes.now _ _ _ _ c.loop-written.written c.in-Ok.n (ap (take c.in-Ok.n) (take_all (length c.args.bytes.now - c.loop-written.written) _ (omega (arith, length-drop {A = ℕ})))) c.loop-written.invariant.told c.in-Ok.ensures.writes.taken;
+  keeps = sink_keeps_then c.loop-written.invariant.keeps c.in-Ok.ensures.keeps;
 }
 
-pub returns-in_err-written-clause-keeps : goal.returns-in_err-written-clause-keeps
-returns-in_err-written-clause-keeps g c = sink_keeps_then c.loop-written.invariant.keeps c.in_err-written.ensures.keeps
+pub returns-in-Err-clause-keeps : goal.returns-in-Err-clause-keeps
+returns-in-Err-clause-keeps g c = sink_keeps_then c.loop-written.invariant.keeps c.in-Err.ensures.keeps
