@@ -1,7 +1,7 @@
 //! The penalties of the slashed (beacon-chain.md, "process_slashings").
 
 ghost use Rattle.std.specs.Prelude.{◌≡◌, ◌≤◌, ◌+◌, ◌/◌, ◌==◌, ◌&&◌, length, slice_get, slice_index, Some, IfOk};
-ghost use Rattle.bc_words.specs.Outcome.{Changes, GivesBy, GivesExactly, checked_sum};
+ghost use Rattle.bc_words.specs.Outcome.{Changes, GivesBy, GivesExactly, checked_mul, checked_sum};
 ghost use Rattle.spec_state.specs.Accessors.{get_current_epoch};
 ghost use Rattle.spec_epochs.specs.Each.{validator_indices, checked_map};
 ghost use Rattle.spec_epochs.specs.ProcessSlashings.{process_slashings, penalized_balance};
@@ -42,6 +42,14 @@ fn pays(state: &State, validator: &Validator) -> bool
     validator.slashed && current_epoch(state) + half == validator.withdrawable_epoch
 }
 
+/// A penalty in whole increments, in Gwei. Refused exactly where the product doesn't fit.
+fn whole_penalty(numerator: u64, total: u64, increment: u64) -> Result<u64, Stop>
+    requires { 1 ≤ total }
+    ensures { GivesExactly result (checked_mul (numerator / total) increment) }
+{
+    checked_mul(numerator / total, increment)
+}
+
 /// The balance of a validator without its penalty, in Gwei. `slashed` is what was slashed lately, at most `total`; `index` is
 /// the validator's own, at which `balance` stands where there is one.
 #[tactic(auto, unfolding(spec_epochs::specs::ProcessSlashings::penalized_balance), using(bc_preset::proofs::Bounds::preset_bounds))]
@@ -66,7 +74,7 @@ fn penalized_balance(
     }
     let increment = state.preset().effective_balance_increment;
     let numerator = checked_mul(validator.effective_balance / increment, slashed)?;
-    let penalty = checked_mul(numerator / total, increment)?;
+    let penalty = whole_penalty(numerator, total, increment)?;
     Ok(balance.saturating_sub(penalty))
 }
 

@@ -1,7 +1,7 @@
 //! The beginning of a validator's exit (beacon-chain.md, "initiate_validator_exit").
 
 ghost use Rattle.std.specs.Prelude.{◌≡◌, ◌+◌, ◌<◌, ◌≤◌, ◌^◌, drop};
-ghost use Rattle.bc_words.specs.Outcome.{Changes, GivesExactly};
+ghost use Rattle.bc_words.specs.Outcome.{Changes, GivesExactly, checked_add};
 ghost use Rattle.spec_blocks.specs.InitiateValidatorExit.{initiate_validator_exit, exit_queue_epoch, exit_queue_churn};
 ghost use Rattle.exit_queue.specs.inside.Queue.{queue_end, later};
 
@@ -92,6 +92,13 @@ fn exit_queue_epoch(state: &State, config: &Config) -> Result<u64, Stop>
     checked_add(epoch, 1)
 }
 
+/// The epoch from which one who leaves at an epoch may withdraw. Refused as an overflow exactly where it doesn't fit.
+fn withdrawable_epoch(exit_epoch: u64, config: &Config) -> Result<u64, Stop>
+    ensures { GivesExactly result (checked_add exit_epoch config.now.min_validator_withdrawability_delay) }
+{
+    checked_add(exit_epoch, config.min_validator_withdrawability_delay())
+}
+
 /// The validator leaves (beacon-chain.md, `initiate_validator_exit`): its exit epoch is the end of the queue, or the epoch
 /// behind it where that is full. Nothing changes where its exit epoch is set already.
 ///
@@ -106,7 +113,7 @@ pub fn initiate_exit(state: &mut State, index: u64, config: &Config) -> Result<(
         return Ok(());
     }
     let exit_epoch = exit_queue_epoch(state, config)?;
-    let withdrawable_epoch = checked_add(exit_epoch, config.min_validator_withdrawability_delay())?;
+    let withdrawable_epoch = withdrawable_epoch(exit_epoch, config)?;
     let leaving = Validator {
         exit_epoch,
         withdrawable_epoch,
