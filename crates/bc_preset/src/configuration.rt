@@ -152,7 +152,8 @@ impl Config {
     fn read_in_one_pass(bytes: &[u8]) -> Result<Config, ConfigFault>
         ensures { result ≡ one_pass bytes.now }
     {
-        if bytes.len() > MAX_CONFIG_LEN {
+        let too_long = bytes.len() > MAX_CONFIG_LEN;
+        if too_long {
             return Err(ConfigFault::TooLong);
         }
         settings_of(bytes)?.all_set()?.all_in_range()

@@ -28,7 +28,10 @@ fn with_digit(value: u64, digit: u8) -> Option<u64>
     requires at_most { digit ≤ 57 }
     ensures { result ≡ within_u64 (value * 10 + (digit - 48)) }
 {
-    value.checked_mul(10)?.checked_add(u64::from(digit - b'0'))
+    match value.checked_mul(10) {
+        Some(tens) => tens.checked_add(u64::from(digit - b'0')),
+        None => None,
+    }
 }
 
 #[tactic(auto, using(crate::proofs::Digits::digit_steps))]

@@ -153,7 +153,8 @@ impl Settings {
             Line::Skipped | Line::Other => Ok(self),
             Line::Faulty => Err(ConfigFault::BadLine(number)),
             Line::Setting(key, text) => {
-                if self.is_set(key) {
+                let is_set = self.is_set(key);
+                if is_set {
                     Err(ConfigFault::Twice(number))
                 } else {
                     self.set_key(number, key, text)

@@ -27,7 +27,10 @@ fn read_behind<F: Shelf>(
     ensures keeps { ShelfKeeps [] (F.told shelf.old) (F.told shelf.new) }
 {
     let len = bytes.len();
-    bytes.resize(len + size, 0)?;
+    match bytes.resize(len + size, 0) {
+        Ok(()) => {}
+        Err(_refused) => return Err(Trouble::NoMemory),
+    }
     match shelf.read(file, &mut bytes[len..]) {
         Ok(n) => {
             bytes.truncate(len + n);
@@ -95,7 +98,10 @@ impl Buffer {
     {
         drop_front(&mut self.bytes, self.start);
         self.start = 0;
-        Ok(read_behind(shelf, file, &mut self.bytes, PIECE)? > 0)
+        match read_behind(shelf, file, &mut self.bytes, PIECE) {
+            Ok(n) => Ok(n > 0),
+            Err(trouble) => Err(trouble),
+        }
     }
 }
 

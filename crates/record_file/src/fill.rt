@@ -23,8 +23,13 @@ pub fn fill<F: Shelf>(
     ensures keeps { ShelfKeeps [] (F.told shelf.old) (F.told shelf.new) }
 {
     while buffer.as_slice().len() < want {
-        if !buffer.more(shelf, file)? {
-            return Ok(());
+        match buffer.more(shelf, file) {
+            Ok(came) => {
+                if !came {
+                    return Ok(());
+                }
+            }
+            Err(trouble) => return Err(trouble),
         }
     }
     Ok(())
@@ -49,8 +54,13 @@ pub fn find_frame<F: Shelf>(
         if !found.is_short() {
             return Ok(found);
         }
-        if !buffer.more(shelf, file)? {
-            return Ok(found);
+        match buffer.more(shelf, file) {
+            Ok(came) => {
+                if !came {
+                    return Ok(found);
+                }
+            }
+            Err(trouble) => return Err(trouble),
         }
     }
 }

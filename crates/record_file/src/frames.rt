@@ -81,7 +81,10 @@ impl Frames {
         ensures causes { StopsBy result (F.told shelf.old).faults (F.told shelf.new).faults }
         ensures keeps { ShelfKeeps [] (F.told shelf.old) (F.told shelf.new) }
     {
-        fill(&mut self.buffer, shelf, self.file, 4)?;
+        match fill(&mut self.buffer, shelf, self.file, 4) {
+            Ok(()) => {}
+            Err(trouble) => return Err(FrameStop::from(trouble)),
+        }
         if !has_magic(self.buffer.as_slice()) {
             self.place = Place::Stopped(RecordFault::BadMagic);
             return Err(FrameStop::Fault(RecordFault::BadMagic));
@@ -101,7 +104,11 @@ impl Frames {
         ensures causes { StopsBy result (F.told shelf.old).faults (F.told shelf.new).faults }
         ensures keeps { ShelfKeeps [] (F.told shelf.old) (F.told shelf.new) }
     {
-        match find_frame(&mut self.buffer, shelf, self.file, self.events)? {
+        let found = match find_frame(&mut self.buffer, shelf, self.file, self.events) {
+            Ok(found) => found,
+            Err(trouble) => return Err(FrameStop::from(trouble)),
+        };
+        match found {
             Found::Ended => Ok(None),
             Found::Fault(fault) => {
                 self.place = Place::Stopped(fault);
@@ -109,13 +116,17 @@ impl Frames {
             }
             Found::Frame(kind, size) => {
                 let len = 5 + size as usize;
-                let payload = Vec::from_slice(self.alloc, &self.buffer.as_slice()[5..len])?;
-                self.buffer.read(len);
-                self.events += 1;
-                Ok(Some(Event {
-                    kind,
-                    payload: Payload::new(payload),
-                }))
+                match Vec::from_slice(self.alloc, &self.buffer.as_slice()[5..len]) {
+                    Ok(payload) => {
+                        self.buffer.read(len);
+                        self.events += 1;
+                        Ok(Some(Event {
+                            kind,
+                            payload: Payload::new(payload),
+                        }))
+                    }
+                    Err(_refused) => Err(FrameStop::NoMemory),
+                }
             }
         }
     }
@@ -133,10 +144,10 @@ impl Frames {
     {
         match self.place {
             Place::Stopped(fault) => Err(FrameStop::Fault(fault)),
-            Place::AtMagic => {
-                self.read_magic(shelf)?;
-                self.read_frame(shelf)
-            }
+            Place::AtMagic => match self.read_magic(shelf) {
+                Ok(()) => self.read_frame(shelf),
+                Err(stop) => Err(stop),
+            },
             Place::AtFrame => self.read_frame(shelf),
         }
     }

@@ -2,7 +2,7 @@ use Rattle.std.proofs.Common.{ap, ◌≡◌, ℕ, length, take, drop, arith, len
 use Rattle.record_file.proofs.Parts.{read_part, takes_met}
 use Rattle.record_file.proofs.buffer.read_behind.Goals as goal
 
-pub returns-in-Ok-clause-taken : goal.returns-in-Ok-clause-taken
-returns-in-Ok-clause-taken g c =
-    let e : drop (length c.args.bytes.now.items) c.truncate.new.self.items ≡ take c.in-Ok.n c.read.new.into = rw c.truncate.ensures.items (read_part _ c.len-len.result c.in-Ok.n _ _ c.read.new.into _ _ (omega (arith, c.len-len.ensures)) (omega (arith, length-take {A = ℕ}, c.deref_mut.ensures.len, c.in_ok-resize.ensures.len)) (omega (arith, c.in-Ok.ensures.reads.within)) (omega (arith, c.read.auto.into, c.resize.new.self.ok.0, ap length c.deref_mut.ensures.value, c.deref_mut.ensures.len, c.in_ok-resize.ensures.len, length-take {A = ℕ}, length-drop {A = ℕ}))) in
-    rw e (takes_met c.args.file _ _ c.in-Ok.n _ _ c.in-Ok.ensures.reads.taken (omega (arith, c.requires.some, c.deref_mut.ensures.len, ap length c.deref_mut.ensures.value, c.in_ok-resize.ensures.len, c.len-len.ensures, length-take {A = ℕ}, length-drop {A = ℕ})))
+pub returns-in-Ok-read-clause-taken : goal.returns-in-Ok-read-clause-taken
+returns-in-Ok-read-clause-taken g c =
+    let e : drop (length c.args.bytes.now.items) c.truncate.new.self.items ≡ take c.in-Ok-read.n c.read.new.into = rw c.truncate.ensures.items (read_part _ c.len-len.result c.in-Ok-read.n _ _ c.read.new.into _ _ (omega (arith, c.len-len.ensures)) (omega (arith, length-take {A = ℕ}, c.deref_mut.ensures.len, c.in-Ok.ensures.len)) (omega (arith, c.in-Ok-read.ensures.reads.within)) (omega (arith, c.read.auto.into, c.resize.new.self.ok.0, ap length c.deref_mut.ensures.value, c.deref_mut.ensures.len, c.in-Ok.ensures.len, length-take {A = ℕ}, length-drop {A = ℕ}))) in
+    rw e (takes_met c.args.file _ _ c.in-Ok-read.n _ _ c.in-Ok-read.ensures.reads.taken (omega (arith, c.requires.some, c.deref_mut.ensures.len, ap length c.deref_mut.ensures.value, c.in-Ok.ensures.len, c.len-len.ensures, length-take {A = ℕ}, length-drop {A = ℕ})))

@@ -1,5 +1,4 @@
 use Rattle.std.proofs.Common.{◌≡◌, true, false, [], sym, ◌∙◌}
-use Rattle.std.proofs.lemmas.Result.{err_from_is_err_and}
 use Rattle.record_file.specs.inside.Found.{is_short}
 use Rattle.record_file.specs.inside.Fetched.{Shows}
 use Rattle.bc_outside.proofs.Keeping.{keeps_none, keeps_then}
@@ -13,25 +12,24 @@ loop-found-init g c = record { fetched = fetched_none c.args.file c.args.buffer.
 pub more-requires : goal.more-requires
 more-requires g c = rw (takes_length c.loop-found.invariant.fetched.taken) c.requires
 
-pub returns-in_err-more-clause-keeps : goal.returns-in_err-more-clause-keeps
-returns-in_err-more-clause-keeps g c = keeps_then [] [] c.loop-found.invariant.keeps c.more.ensures.keeps
+pub returns-in-Err-clause-keeps : goal.returns-in-Err-clause-keeps
+returns-in-Err-clause-keeps g c = keeps_then [] [] c.loop-found.invariant.keeps c.more.ensures.keeps
 
-pub returns-in_err-more-clause-finds : goal.returns-in_err-more-clause-finds
-returns-in_err-more-clause-finds g c =
-    let p = err_from_is_err_and c.from_residual.result c.from_residual.ensures.1 in
-    let f = c.in_err-more.ensures.fetches in
+pub returns-in-Err-clause-finds : goal.returns-in-Err-clause-finds
+returns-in-Err-clause-finds g c =
+    let f = c.in-Err.ensures.fetches in
     let shows : Shows c.args.events c.frame_at-found.result c.more.new.self = rw (f.0, ← c.as_slice.ensures) c.frame_at-found.ensures.read in
-    rw p.1 (fetched_then c.loop-found.invariant.fetched (fetched_stays c.args.file f.0 f.1), (c.frame_at-found.result, sym c.is_short.ensures ∙ c.if-not-is_short.false, shows))
+    (fetched_then c.loop-found.invariant.fetched (fetched_stays c.args.file f.0 f.1), (c.frame_at-found.result, sym c.is_short.ensures ∙ c.if-not-is_short.false, shows))
 
-pub returns-then-not-branch-clause-keeps : goal.returns-then-not-branch-clause-keeps
-returns-then-not-branch-clause-keeps g c = keeps_then [] [] c.loop-found.invariant.keeps c.more.ensures.keeps
+pub returns-then-not-came-clause-keeps : goal.returns-then-not-came-clause-keeps
+returns-then-not-came-clause-keeps g c = keeps_then [] [] c.loop-found.invariant.keeps c.more.ensures.keeps
 
-pub returns-then-not-branch-clause-finds : goal.returns-then-not-branch-clause-finds
-returns-then-not-branch-clause-finds g c =
-    let f = c.in_ok-more.ensures.fetches in
+pub returns-then-not-came-clause-finds : goal.returns-then-not-came-clause-finds
+returns-then-not-came-clause-finds g c =
+    let f = c.in-Ok.ensures.fetches in
     let short : is_short c.frame_at-found.result ≡ true = sym c.is_short.ensures ∙ c.if-not-is_short.false in
-    let shows : Shows c.args.events c.frame_at-found.result c.more.new.self = rw (f.2 c.if-not-branch.true, ← c.as_slice.ensures) c.frame_at-found.ensures.read in
-    (rw short (fetched_once_end c.args.file c.in_ok-more.field-0 c.if-not-branch.true c.loop-found.invariant.fetched f.0), shows)
+    let shows : Shows c.args.events c.frame_at-found.result c.more.new.self = rw (f.2 c.if-not-came.true, ← c.as_slice.ensures) c.frame_at-found.ensures.read in
+    (rw short (fetched_once_end c.args.file c.in-Ok.came c.if-not-came.true c.loop-found.invariant.fetched f.0), shows)
 
 pub returns-then-not-is_short-clause-finds : goal.returns-then-not-is_short-clause-finds
 returns-then-not-is_short-clause-finds g c =
@@ -40,6 +38,6 @@ returns-then-not-is_short-clause-finds g c =
 
 pub loop-found-preserved : goal.loop-found-preserved
 loop-found-preserved g c = record {
-  fetched = fetched_once_more c.args.file c.in_ok-more.field-0 c.if-not-branch.false c.loop-found.invariant.fetched c.in_ok-more.ensures.fetches.0;
+  fetched = fetched_once_more c.args.file c.in-Ok.came c.if-not-came.false c.loop-found.invariant.fetched c.in-Ok.ensures.fetches.0;
   keeps = keeps_then [] [] c.loop-found.invariant.keeps c.more.ensures.keeps;
 }

@@ -1,0 +1,7 @@
+use Rattle.std.proofs.Common.{rules}
+use Rattle.bc_preset.specs.inside.OnePass.{one_pass}
+use Rattle.bc_preset.proofs.configuration.Config.read_in_one_pass.Goals as goal
+
+pub returns-then-too_long : goal.returns-then-too_long
+unfolding one_pass
+returns-then-too_long c = search rules
