@@ -1,6 +1,6 @@
 //! The vote of a block for the data of the deposit contract (beacon-chain.md, "Eth1 data").
 
-ghost use Rattle.std.specs.Prelude.{◌≡◌, ◌≤◌, ◌^◌, length};
+ghost use Rattle.std.specs.Prelude.{◌≡◌, ◌≤◌, ◌*◌, ◌^◌, length, nat_lt};
 ghost use Rattle.bc_words.specs.Outcome.{Changes};
 ghost use Rattle.spec_state.specs.States.{votes_limit};
 ghost use Rattle.spec_blocks.specs.ProcessEth1Data.{same_eth1_data, votes_for, process_eth1_data};
@@ -57,6 +57,15 @@ fn votes_limit(state: &State) -> u64
     preset.epochs_per_eth1_voting_period * preset.slots_per_epoch
 }
 
+/// Whether more than half of a period's votes are for the data.
+fn has_won(state: &State, eth1_data: &Eth1Data) -> bool
+    ensures { result ≡ nat_lt (votes_limit state.now.preset) (votes_for state.now.eth1_data_votes eth1_data.now * 2) }
+{
+    let limit = votes_limit(state);
+    let _votes = state.eth1_data_votes_len();
+    limit < votes_for(state, eth1_data) * 2
+}
+
 /// Appends the block's vote for the data of the deposit contract, which becomes that of the state where more than half of a
 /// period's votes are for it (beacon-chain.md, `process_eth1_data`).
 ///
@@ -66,9 +75,7 @@ pub fn process_eth1_data(state: &mut State, body: &BeaconBlockBody) -> Result<()
     ensures { Changes result state.old state.new (process_eth1_data state.old body.now) }
 {
     state.push_eth1_data_votes(body.eth1_data)?;
-    let limit = votes_limit(state);
-    let _votes = state.eth1_data_votes_len();
-    if limit < votes_for(state, &body.eth1_data) * 2 {
+    if has_won(state, &body.eth1_data) {
         state.set_eth1_data(body.eth1_data);
     }
     Ok(())
