@@ -92,8 +92,9 @@ fn exit_queue_epoch(state: &State, config: &Config) -> Result<u64, Stop>
     checked_add(epoch, 1)
 }
 
-/// The epoch from which one who leaves at an epoch may withdraw. Refused as an overflow exactly where it doesn't fit.
-fn withdrawable_epoch(exit_epoch: u64, config: &Config) -> Result<u64, Stop>
+/// The epoch from which one who leaves at an epoch may withdraw (beacon-chain.md, `initiate_validator_exit`). Refused as an
+/// overflow exactly where it doesn't fit.
+pub fn withdrawable_epoch(exit_epoch: u64, config: &Config) -> Result<u64, Stop>
     ensures { GivesExactly result (checked_add exit_epoch config.now.min_validator_withdrawability_delay) }
 {
     checked_add(exit_epoch, config.min_validator_withdrawability_delay())

@@ -20,7 +20,7 @@ use bc_preset::{Config, Preset};
 use bc_words::{NoMemory, Stop, checked_add};
 use beacon_state::State;
 use beacon_types::Validator;
-use exit_queue::{churn_limit, exit_queue_churn, queue_end};
+use exit_queue::{churn_limit, exit_queue_churn, queue_end, withdrawable_epoch};
 
 /// The queue of those who leave.
 #[derive(Clone, Copy)]
@@ -107,7 +107,7 @@ fn initiate_exit(
         return Ok(());
     }
     let exit_epoch = next_exit(*queue)?;
-    let withdrawable_epoch = checked_add(exit_epoch, config.min_validator_withdrawability_delay())?;
+    let withdrawable_epoch = withdrawable_epoch(exit_epoch, config)?;
     let leaving = Validator {
         exit_epoch,
         withdrawable_epoch,

@@ -7,7 +7,7 @@ use Rattle.shared_tree.specs.declared.four.Four.{Four}
 use Rattle.tree_nodes.specs.Changes.{AreChanges, changed}
 use Rattle.shared_tree.specs.inside.Fours.{packed}
 use Rattle.tree_nodes.proofs.Changes.{changed_last, length_changed}
-use Rattle.tree_nodes.proofs.Many.{all_before, weaker}
+use Rattle.tree_nodes.proofs.Many.{all_before}
 use Rattle.shared_tree.proofs.Packing.{length_packed, put_among, put_below}
 use Rattle.tree_nodes.proofs.Puts.{put_set}
 
@@ -49,10 +49,6 @@ module _ {A : Type 0} where
   untouched xs low k [] h = refl
   untouched xs low k (c ∷ cs) h = get_other (changed xs cs) c.0 k c.1 h.1 ∙ untouched xs (suc c.0) k cs h.2
 
-  pub more_places : (lowest i : ℕ) (cs : List (ℕ × A)) (v : A) → lowest ≤ i → AreChanges lowest i cs → AreChanges lowest (i + 1) (cs ++ (i, v) ∷ [])
-  more_places lowest i [] v h are = (h, omega arith, tt)
-  more_places lowest i (c ∷ cs) v h are = (are.0, omega (arith, are.1), more_places (suc c.0) i cs v (omega (arith, are.1)) are.2)
-
   -- the last change, where it is at this place
   pub held_facts : (xs : List A) (k at : ℕ) (f : A) (old front : List (ℕ × A)) → k < length xs → old ≡ front ++ (at, f) ∷ [] → k ≤ at → AreChanges 0 (k + 1) old
       → AreChanges 0 k front × (slice_get (changed xs old) k ≡ Some f) × ((g : A) → slice_set (changed xs front) k g ≡ slice_set (changed xs old) k g)
@@ -66,9 +62,6 @@ module _ {A : Type 0} where
         ap (λ (l : List A). slice_get l k) now ∙ get_same (changed xs front) k f (omega (arith, length_changed xs front)),
         (λ g. sym (ap (λ (l : List A). slice_set l k g) now ∙ set-set (changed xs front) k f g)),
       )
-
-  pub wider : (len more : ℕ) (cs : List (ℕ × A)) → len ≤ more → AreChanges 0 len cs → AreChanges 0 more cs
-  wider len more cs h are = weaker 0 0 len more cs (omega arith) h are
 
 -- a number that is put into a chunk
 pub add_facts : (fours : List Four) (numbers : List ℕ) (at n : ℕ) (f g : Four) (old front new : List (ℕ × Four)) → at < length numbers → changed fours old ≡ packed numbers → AreChanges 0 (at / 4) front → slice_get (changed fours old) (at / 4) ≡ Some f

@@ -1,19 +1,12 @@
 -- Changes from one list to another of the same length, found place by place.
-use Rattle.std.proofs.Common.{◌≡◌, ℕ, suc, ◌+◌, ◌<◌, ◌≤◌, List, [], ◌∷◌, ◌++◌, length, take, get_or, slice_get, slice_set, Some, refl, sym, subst, ap, ◌∙◌, arith}
+use Rattle.std.proofs.Common.{◌≡◌, ℕ, ◌+◌, ◌<◌, ◌≤◌, List, [], ◌∷◌, ◌++◌, length, take, get_or, slice_get, slice_set, Some, refl, sym, subst, ap, ◌∙◌, arith}
 use Rattle.std.proofs.lemmas.List.{take_more, take_all, append_assoc, append-nil, length-take}
 use Rattle.std.proofs.lemmas.Option.{slice_get_within, get_or_from_slice_get, slice_get-get_or}
 use Rattle.std.proofs.Math.Seq.{set-append_seam}
 use Rattle.tree_nodes.specs.Changes.{AreChanges, changed}
 use Rattle.tree_nodes.proofs.Changes.{changed_last}
+use Rattle.tree_nodes.proofs.Many.{more_places, wider}
 use Rattle.state_parts.specs.inside.Differences.{AreDifferences}
-
-more_places : {A : Type 0} (lowest i : ℕ) (changes : List (ℕ × A)) (v : A) → lowest ≤ i → AreChanges lowest i changes → AreChanges lowest (i + 1) (changes ++ (i, v) ∷ [])
-more_places lowest i [] v h are = (h, omega arith, tt)
-more_places lowest i (c ∷ cs) v h are = (are.0, omega (arith, are.1), more_places (suc c.0) i cs v (omega (arith, are.1)) are.2)
-
-same_places : {A : Type 0} (lowest i : ℕ) (changes : List (ℕ × A)) → AreChanges lowest i changes → AreChanges lowest (i + 1) changes
-same_places lowest i [] are = tt
-same_places lowest i (c ∷ cs) are = (are.0, omega (arith, are.1), same_places (suc c.0) i cs are.2)
 
 front_more : {A : Type 0} (xs rest : List A) (i : ℕ) (x : A) → slice_get xs i ≡ Some x → take (i + 1) xs ++ rest ≡ take i xs ++ x ∷ rest
 front_more xs rest i x is =
@@ -32,7 +25,7 @@ pub same_item : {A : Type 0} (old new : List A) (i : ℕ) (changes : List (ℕ �
 same_item old new i changes x h at is d =
     let becomes = slice_get-get_or new i x h ∙ ap Some (sym at) in
     record {
-      places = same_places 0 i changes d.places;
+      places = wider 0 i (i + 1) changes (omega arith) d.places;
       made = λ rest. ap (λ (xs : List _). changed xs changes) (front_more old rest i x is) ∙ d.made (x ∷ rest) ∙ sym (front_more new rest i x becomes);
     }
 
@@ -56,10 +49,6 @@ pub another_item : {A : Type 0} (old new : List A) (i : ℕ) (changes : List (�
 another_item old new i changes v copy h k at same d =
     subst (λ w. AreDifferences old new (i + 1) (changes ++ (i, w) ∷ [])) (sym same)
     (put_at_place old new i changes (get_or old i v) v (slice_get-get_or old i v h) (slice_get-get_or new i v k ∙ ap Some (sym at)) d)
-
-wider : {A : Type 0} (lowest i len : ℕ) (changes : List (ℕ × A)) → i ≤ len → AreChanges lowest i changes → AreChanges lowest len changes
-wider lowest i len [] h are = tt
-wider lowest i len (c ∷ cs) h are = (are.0, omega (arith, are.1, h), wider (suc c.0) i len cs h are.2)
 
 -- at the end
 pub all_places : {A : Type 0} (old new : List A) (i : ℕ) (changes : List (ℕ × A)) → i ≤ length old → AreDifferences old new i changes → AreChanges 0 (length old) changes

@@ -60,6 +60,14 @@ module _ {A : Type 0} where
   weaker low lower len more [] a b h = tt
   weaker low lower len more (c ∷ cs) a b h = (omega (arith, h.0), omega (arith, h.1), weaker (suc c.0) (suc c.0) len more cs (omega arith) b h.2)
 
+  pub wider : (lowest len more : ℕ) (cs : List (ℕ × A)) → len ≤ more → AreChanges lowest len cs → AreChanges lowest more cs
+  wider lowest len more cs h are = weaker lowest lowest len more cs (omega arith) h are
+
+  -- a change behind all others
+  pub more_places : (lowest i : ℕ) (cs : List (ℕ × A)) (v : A) → lowest ≤ i → AreChanges lowest i cs → AreChanges lowest (i + 1) (cs ++ (i, v) ∷ [])
+  more_places lowest i [] v h are = (h, omega arith, tt)
+  more_places lowest i (c ∷ cs) v h are = (are.0, omega (arith, are.1), more_places (suc c.0) i cs v (omega (arith, are.1)) are.2)
+
   sorted_before : (low len middle : ℕ) (cs : List (ℕ × A)) → AreChanges low len cs → AreChanges low (min len middle) (before middle cs)
   sorted_before low len middle [] h = subst (λ (cs : List (ℕ × A)). AreChanges low (min len middle) cs) (sym (before_nil middle)) tt
   sorted_before low len middle (c ∷ cs) h =

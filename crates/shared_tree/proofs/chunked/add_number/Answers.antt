@@ -1,7 +1,8 @@
 -- The chunk with the number is changed behind the others.
 use Rattle.std.proofs.Common.{ℕ, ◌+◌, ◌/◌, List, sym, subst, arith}
 use Rattle.tree_nodes.specs.Changes.{AreChanges}
-use Rattle.shared_tree.proofs.ChunkChanges.{more_places, add_facts}
+use Rattle.tree_nodes.proofs.Many.{more_places}
+use Rattle.shared_tree.proofs.ChunkChanges.{add_facts}
 use Rattle.shared_tree.proofs.chunked.add_number.Goals as goal
 
 pub returns-clause-places : goal.returns-clause-places

@@ -8,7 +8,8 @@ use Rattle.ssz_codec.specs.Basic.{uint64}
 use Rattle.tree_nodes.specs.Changes.{AreChanges, changed}
 use Rattle.shared_tree.specs.inside.Fours.{packed, numbers_in}
 use Rattle.tree_nodes.proofs.Changes.{changed_none, length_changed}
-use Rattle.shared_tree.proofs.ChunkChanges.{changed_push, more_places, wider, set_below}
+use Rattle.tree_nodes.proofs.Many.{more_places, wider}
+use Rattle.shared_tree.proofs.ChunkChanges.{changed_push, set_below}
 use Rattle.tree_nodes.proofs.Climbs.{take_next}
 use Rattle.tree_nodes.proofs.Climbs.{drop_next}
 use Rattle.shared_tree.proofs.Packing.{length_packed}
@@ -39,7 +40,7 @@ pub add_number-requires-clause-places : goal.add_number-requires-clause-places
 add_number-requires-clause-places c =
     let head = subst (λ (cs : List (ℕ × ℕ)). AreChanges c.numbers.low c.args.len cs) (sym c.numbers.invariant.rest ∙ c.next_of-at.ensures) c.numbers.invariant.behind in
     let above : c.numbers.low ≤ c.next_of-at.result.0 = head.0 in
-    wider ((c.numbers.low + 3) / 4) (c.next_of-at.result.0 / 4 + 1) c.numbers.chunks.items (omega arith) c.numbers.invariant.places
+    wider 0 ((c.numbers.low + 3) / 4) (c.next_of-at.result.0 / 4 + 1) c.numbers.chunks.items (omega arith) c.numbers.invariant.places
 
 pub numbers-preserved : goal.numbers-preserved
 numbers-preserved c =
@@ -49,7 +50,7 @@ numbers-preserved c =
     let below : c.next_of-at.result.0 < c.args.len = head.1 in
     let next_drop = drop_next c.args.changes.items c.numbers.k c.next_of-at.result (into_iter_items c.next_of-at.new.rest) dropped in
     let next_take = take_next c.args.changes.items c.numbers.k c.next_of-at.result (into_iter_items c.next_of-at.new.rest) dropped in
-    let before_at = wider c.numbers.low c.next_of-at.result.0 (take c.numbers.k c.args.changes.items) above c.numbers.invariant.before in
+    let before_at = wider 0 c.numbers.low c.next_of-at.result.0 (take c.numbers.k c.args.changes.items) above c.numbers.invariant.before in
     let long = length_changed (numbers_in c.args.len c.args.tree.now.1) (take c.numbers.k c.args.changes.items) in
     let within : c.next_of-at.result.0 < length (changed (numbers_in c.args.len c.args.tree.now.1) (take c.numbers.k c.args.changes.items)) = omega (arith, long, c.requires.len_is) in
     let now : changed (numbers_in c.args.len c.args.tree.now.1) (take (c.numbers.k + 1) c.args.changes.items) ≡ slice_set (changed (numbers_in c.args.len c.args.tree.now.1) (take c.numbers.k c.args.changes.items)) c.next_of-at.result.0 c.next_of-at.result.1 = ap (λ (cs : List (ℕ × ℕ)). changed (numbers_in c.args.len c.args.tree.now.1) cs) next_take ∙ changed_push (numbers_in c.args.len c.args.tree.now.1) 0 c.next_of-at.result.0 (take c.numbers.k c.args.changes.items) c.next_of-at.result.1 before_at in
@@ -70,7 +71,7 @@ numbers-preserved c =
 
 pub returns-clause-places : goal.returns-clause-places
 returns-clause-places c =
-    wider ((c.numbers.low + 3) / 4) (length c.args.tree.now.1) c.numbers.chunks.items (omega (arith, c.numbers.invariant.upto, ap length c.requires.packs, length_packed (numbers_in c.args.len c.args.tree.now.1), c.requires.len_is)) c.numbers.invariant.places
+    wider 0 ((c.numbers.low + 3) / 4) (length c.args.tree.now.1) c.numbers.chunks.items (omega (arith, c.numbers.invariant.upto, ap length c.requires.packs, length_packed (numbers_in c.args.len c.args.tree.now.1), c.requires.len_is)) c.numbers.invariant.places
 
 pub returns-clause-made : goal.returns-clause-made
 returns-clause-made c =
