@@ -82,7 +82,7 @@ fn zero_roots(rt: HostRuntime) {
         (header.root(), EIGHT_ZERO_LEAVES),
     ];
     for (found, expected) in roots {
-        assert_eq!(rt; found, expected);
+        assert!(rt; found == expected);
     }
 }
 
@@ -106,10 +106,7 @@ fn root_again<T: Ssz>(alloc: Global, bytes: &[u8]) -> Result<Root, SszFault> {
 /// The bits and the inclusion delay of a vote are those of one bit.
 fn has_one_bit(rt: &impl Abort, pending: &PendingAttestation) {
     let bits = &pending.aggregation_bits;
-    assert_eq!(rt;
-        (bits.len(), bits.get(0), pending.inclusion_delay),
-        (1, Some(true), 1)
-    );
+    assert!(rt; (bits.len(), bits.get(0), pending.inclusion_delay) == (1, Some(true), 1));
 }
 
 #[test]
@@ -150,7 +147,7 @@ fn indexed_attestations(rt: HostRuntime) {
         ([0; 228].as_slice(), Err(SszFault::NotAWriting)),
     ];
     for (bytes, root) in rows {
-        assert_eq!(rt; root_again::<IndexedAttestation>(rt.alloc(), bytes), root);
+        assert!(rt; root_again::<IndexedAttestation>(rt.alloc(), bytes) == root);
     }
 }
 
@@ -158,7 +155,7 @@ fn indexed_attestations(rt: HostRuntime) {
 fn indices_from_a_list(rt: HostRuntime) -> Result<(), Fail> {
     let list = Vec::from_slice(rt.alloc(), &[1, 2, 3, 4, 5])?;
     let len = AttestingIndices::from_vec(list).len();
-    assert_eq!(rt; len, 5);
+    assert!(rt; len == 5);
     Ok(())
 }
 
@@ -188,10 +185,10 @@ fn two_attestations(rt: HostRuntime) {
     bytes[8] = 228;
     bytes[236] = 228;
     let root = root_again::<VariableList<IndexedAttestation, Two>>(rt.alloc(), &bytes);
-    assert_eq!(rt; root, Ok(TWO_ATTESTATIONS));
+    assert!(rt; root == Ok(TWO_ATTESTATIONS));
     bytes[4] = 235;
     let root = root_again::<VariableList<IndexedAttestation, Two>>(rt.alloc(), &bytes);
-    assert_eq!(rt; root, Err(SszFault::NotAWriting));
+    assert!(rt; root == Err(SszFault::NotAWriting));
 }
 
 #[test]
@@ -214,14 +211,14 @@ fn has_zero_proof(alloc: Global, zero: &Deposit) -> Result<bool, NoMemory> {
 
 /// The deposit that is all zero has its branch, and is copied.
 fn zero_deposit_holds(rt: &(impl AllocGlobal + Abort), zero: &Deposit) {
-    assert_eq!(rt; has_zero_proof(rt.alloc(), zero), Ok(true));
-    assert_eq!(rt; is_copied(zero), Ok(true));
+    assert!(rt; has_zero_proof(rt.alloc(), zero) == Ok(true));
+    assert!(rt; is_copied(zero) == Ok(true));
 }
 
 #[test]
 fn deposits(rt: HostRuntime) -> Result<(), Fail> {
     let bytes = [0; 1240];
-    assert_eq!(rt; root_again::<Deposit>(rt.alloc(), &bytes), Ok(ZERO_DEPOSIT));
+    assert!(rt; root_again::<Deposit>(rt.alloc(), &bytes) == Ok(ZERO_DEPOSIT));
     assert!(rt; root_again::<Deposit>(rt.alloc(), &bytes[..1239]).is_err());
     one_writing::<Deposit>();
     match Deposit::read(rt.alloc(), &bytes) {

@@ -62,13 +62,19 @@ const OF_100: [Row; 3] = [
     (7, 2, &[89, 57, 35, 87, 79]),
 ];
 
+/// Whether a committee has its members, and there is none where the row has none.
+fn row_holds(committees: &EpochCommittees, row: &Row) -> bool {
+    match committees.committee(row.0, row.1) {
+        Some(members) => !row.2.is_empty() && members == row.2,
+        None => row.2.is_empty(),
+    }
+}
+
 /// Compares committees with their rows.
 fn rows_hold(rt: &impl Abort, committees: &EpochCommittees, per_slot: u64, rows: &[Row]) {
-    assert_eq!(rt; committees.per_slot(), per_slot);
-    for (slot, index, members) in rows {
-        let found = committees.committee(*slot, *index);
-        assert_eq!(rt; found.is_none(), members.is_empty());
-        assert_eq!(rt; found.unwrap_or(&[]), *members);
+    assert!(rt; committees.per_slot() == per_slot);
+    for row in rows {
+        assert!(rt; row_holds(committees, row));
     }
 }
 
@@ -114,7 +120,7 @@ fn proposers_pass_the_test(rt: HostRuntime) -> Result<(), Fail> {
     for (balance, count, bound, picked) in PICKS.iter() {
         assert!(rt; *count <= 64);
         let state = SmallState::new(Preset::minimal(), 64, *balance);
-        assert_eq!(rt; pick(rt.alloc(), &state, *count, *bound)?, *picked);
+        assert!(rt; pick(rt.alloc(), &state, *count, *bound)? == *picked);
     }
     Ok(())
 }
@@ -123,8 +129,8 @@ fn proposers_pass_the_test(rt: HostRuntime) -> Result<(), Fail> {
 fn seeds_take_the_right_mix(rt: HostRuntime) {
     let small = SmallState::new(Preset::minimal(), 64, 32_000_000_000);
     let seed = seed_of(&small, 3, DOMAIN_BEACON_ATTESTER);
-    assert_eq!(rt; &seed[..4], [139, 223, 194, 41].as_slice());
+    assert!(rt; seed[..4] == [139, 223, 194, 41]);
     let large = SmallState::new(Preset::mainnet(), 64, 32_000_000_000);
     let seed = seed_of(&large, 0, DOMAIN_BEACON_PROPOSER);
-    assert_eq!(rt; &seed[..4], [16, 21, 211, 44].as_slice());
+    assert!(rt; seed[..4] == [16, 21, 211, 44]);
 }

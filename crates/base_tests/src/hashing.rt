@@ -44,6 +44,6 @@ fn roots_of_small_values(rt: HostRuntime) {
         (merkle_leaves(&[[1; 32], [2; 32], [3; 32]], 2), THREE_CHUNKS),
     ];
     for (found, expected) in roots {
-        assert_eq!(rt; found, expected);
+        assert!(rt; found == expected);
     }
 }

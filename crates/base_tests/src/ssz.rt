@@ -78,7 +78,7 @@ const WRITINGS: [(&[u8], u64, bool); 10] = [
 #[test]
 fn bits_of_small_writings(rt: HostRuntime) {
     for (bytes, limit, are_bits) in WRITINGS.iter() {
-        assert_eq!(rt; come_again(rt.alloc(), bytes, *limit), *are_bits);
+        assert!(rt; come_again(rt.alloc(), bytes, *limit) == *are_bits);
     }
 }
 
@@ -107,10 +107,10 @@ const ONE_BIT_ROOT: Root = [
 
 /// It is one bit, with its root.
 fn is_one_bit(rt: &impl Abort, one: &BitList) {
-    assert_eq!(rt; one.len(), 1);
-    assert_eq!(rt; one.get(0), Some(true));
-    assert_eq!(rt; one.get(1), None);
-    assert_eq!(rt; one.root(2048), ONE_BIT_ROOT);
+    assert!(rt; one.len() == 1);
+    assert!(rt; one.get(0) == Some(true));
+    assert!(rt; one.get(1) == None);
+    assert!(rt; one.root(2048) == ONE_BIT_ROOT);
 }
 
 #[test]

@@ -15,7 +15,7 @@ fn refusals_are_those_of_the_table(rt: HostRuntime) {
         (Refusal::FcEmpty, (45, "FcEmpty")),
     ];
     for (refusal, row) in rows {
-        assert_eq!(rt; (refusal.number(), refusal.name()), row);
+        assert!(rt; (refusal.number(), refusal.name()) == row);
     }
 }
 
@@ -26,7 +26,7 @@ fn square_roots_are_rounded_down(rt: HostRuntime) {
         (2_048_000_000_000, 1_431_083),
         (u64::MAX, 4_294_967_295),
     ] {
-        assert_eq!(rt; isqrt(n), root);
+        assert!(rt; isqrt(n) == root);
     }
 }
 
@@ -41,7 +41,7 @@ fn numbers_that_do_not_fit_are_refused(rt: HostRuntime) {
         (checked_sum(&[u64::MAX, 1]), overflow),
     ];
     for (found, expected) in rows {
-        assert_eq!(rt; found, expected);
+        assert!(rt; found == expected);
     }
 }
 
@@ -60,8 +60,8 @@ fn stops_of_a_step_are_those_of_the_store(rt: HostRuntime) {
         (StoreStop::from(kept), StoreStop::Clash(kept)),
     ];
     for (found, expected) in rows {
-        assert_eq!(rt; found, expected);
+        assert!(rt; found == expected);
     }
     let full = Stop::from(PushStop::Full);
-    assert_eq!(rt; full, Stop::Refused(Refusal::ListFull));
+    assert!(rt; full == Stop::Refused(Refusal::ListFull));
 }

@@ -4,7 +4,7 @@
 ghost use Rattle.std.specs.Prelude.{◌≡◌, IfOk};
 ghost use Rattle.bc_preset.specs.Presets.{IsPreset};
 
-use crate::states::{MOST, put};
+use crate::states::{MOST, VALIDATOR, put, put_validator};
 use anyhow::Result;
 use bc_preset::{Config, Preset};
 use beacon_body::empty_body_root;
@@ -15,12 +15,6 @@ use std::alloc::{AllocError, Global};
 /// A configuration of the minimal preset.
 const MINIMAL_CONFIG: &[u8] =
     b"PRESET_BASE: 'minimal'\nSECONDS_PER_SLOT: 6\nMIN_VALIDATOR_WITHDRAWABILITY_DELAY: 256\nSHARD_COMMITTEE_PERIOD: 64\nEJECTION_BALANCE: 16000000000\nMIN_PER_EPOCH_CHURN_LIMIT: 4\nCHURN_LIMIT_QUOTIENT: 32\nPROPOSER_SCORE_BOOST: 40\n";
-
-/// The balance of each validator, in Gwei.
-const BALANCE: u64 = 32_000_000_000;
-
-/// The length of a validator.
-const VALIDATOR: usize = 121;
 
 /// A network: what its genesis state looks like, and its configuration.
 #[derive(Clone, Copy)]
@@ -62,21 +56,14 @@ pub fn put_offset(bytes: &mut [u8], at: usize, offset: usize) {
     put(bytes, at, &(offset as u64).to_le_bytes()[..4]);
 }
 
-/// Puts a validator that is active from the beginning, and its balance.
-fn put_validator(bytes: &mut [u8], at: usize, balance_at: usize, index: u32) {
-    put(bytes, at, &index.to_le_bytes());
-    put(bytes, at.saturating_add(80), &BALANCE.to_le_bytes());
-    put(bytes, at.saturating_add(105), &[255; 16]);
-    put(bytes, balance_at, &BALANCE.to_le_bytes());
-}
-
 /// The bytes of the network's genesis state.
 fn genesis_bytes(alloc: Global, network: &Network) -> Result<Vec<u8>, AllocError> {
     let count = network.validators.min(MOST) as usize;
     let historical = network.historical as usize;
     let pending = network.pending as usize;
     let fixed = pending + 129;
-    let balances = fixed + VALIDATOR * count;
+    let validator = VALIDATOR as usize;
+    let balances = fixed + validator * count;
     let end = balances + 8 * count;
     let mut bytes = vec![in alloc; 0u8; end]?;
     put(&mut bytes, 144, &empty_body_root());
@@ -90,7 +77,7 @@ fn genesis_bytes(alloc: Global, network: &Network) -> Result<Vec<u8>, AllocError
         let place = index as usize;
         put_validator(
             &mut bytes,
-            fixed + VALIDATOR * place,
+            fixed + validator * place,
             balances + 8 * place,
             index,
         );

@@ -19,6 +19,9 @@ pub const MOST: u32 = 262_144;
 /// The length of a mainnet state's fixed part.
 const FIXED: u32 = 2_687_377;
 
+/// The length of a validator.
+pub const VALIDATOR: u32 = 121;
+
 /// The length of a pending attestation: its fixed part, and 128 bits with their delimiter.
 const PENDING: u32 = 148 + 17;
 
@@ -73,16 +76,11 @@ pub fn put_vote(bytes: &mut [u8], content: usize, bits: usize, slot: u64, index:
 }
 
 /// Puts a validator that was active from genesis on, and its balance.
-fn put_validator(bytes: &mut [u8], validators: u32, index: u32)
-    requires validators { validators ≤ 262144 }
-    requires index { index ≤ 262144 }
-{
+pub fn put_validator(bytes: &mut [u8], at: usize, balance_at: usize, index: u32) {
     let balance = 32_000_000_000u64.to_le_bytes();
-    let at = FIXED as usize + 121 * index as usize;
-    let balance_at = FIXED as usize + 121 * validators as usize + 8 * index as usize;
     put(bytes, at, &index.to_le_bytes());
-    put(bytes, at + 80, &balance);
-    put(bytes, at + 105, &[255; 16]);
+    put(bytes, at.saturating_add(80), &balance);
+    put(bytes, at.saturating_add(105), &[255; 16]);
     put(bytes, balance_at, &balance);
 }
 
@@ -118,7 +116,7 @@ pub fn state_bytes(alloc: Global, shape: &Shape) -> Result<Vec<u8>, AllocError> 
     let validators = shape.validators.min(MOST);
     let before = shape.previous.min(MOST_PENDING);
     let now = shape.current.min(MOST_PENDING);
-    let balances = FIXED + 121 * validators;
+    let balances = FIXED + VALIDATOR * validators;
     let previous = balances + 8 * validators;
     let current = previous + (4 + PENDING) * before;
     let end = current + (4 + PENDING) * now;
@@ -141,7 +139,8 @@ pub fn state_bytes(alloc: Global, shape: &Shape) -> Result<Vec<u8>, AllocError> 
     );
     put_list(&mut bytes, current, now, epoch, validators);
     for index in 0..validators {
-        put_validator(&mut bytes, validators, index);
+        let at = (FIXED + VALIDATOR * index) as usize;
+        put_validator(&mut bytes, at, (balances + 8 * index) as usize, index);
     }
     Ok(bytes)
 }

@@ -253,9 +253,9 @@ fn made_up_files(rt: HostRuntime) -> Result<(), Fail> {
 fn lines_that_were_taken(rt: HostRuntime) {
     let mut sink = StdSink::new(rt.alloc(), ThreeBytes { calls: 0 });
     assert!(rt; write_all(&mut sink, b"one\ntwo\n".as_slice()).is_ok());
-    assert_eq!(rt; sink.lines(), 2);
+    assert!(rt; sink.lines() == 2);
     assert!(rt; write_all(&mut sink, b"three\n".as_slice()).is_err());
-    assert_eq!(rt; sink.lines(), 2);
+    assert!(rt; sink.lines() == 2);
 }
 
 #[test]
