@@ -1,5 +1,5 @@
 use Rattle.std.proofs.Common.{◌≡◌, ◌-◌, ◌^◌, length, take, drop, refl, arith, ap, sym, ◌∙◌}
-use Rattle.std.proofs.lemmas.List.{length-drop}
+use Rattle.std.proofs.lemmas.List.{length-drop, length-take-le}
 use Rattle.hash_tree.proofs.Halves.{merkle_root-halves, merkle_root-short, merkle_root-at_zero, width_halves}
 use Rattle.hash_tree.proofs.tree.+merkle_of.Goals as goal
 
@@ -11,6 +11,11 @@ pub returns-then-count-half : goal.returns-then-count-half
 returns-then-count-half g t c =
     let e = merkle_root-short c.args.depth (c.args.depth - 1) (g.R.Row.chunks c.args.row.now) (omega arith) (omega arith) in
     cc
+
+pub merkle_of-requires-2 : goal.merkle_of-requires-2
+merkle_of-requires-2 g t c κs within =
+    let l : length (g.R.Row.chunks c.cut-left.result.0) ≡ c.half_width-half.result = ap length {y = take c.half_width-half.result (g.R.Row.chunks c.args.row.now)} c.cut-left.ensures.front ∙ length-take-le c.half_width-half.result (g.R.Row.chunks c.args.row.now) (omega arith) in
+    (omega arith, (within, (omega arith, omega arith)))
 
 pub merkle_of-requires-3 : goal.merkle_of-requires-3
 merkle_of-requires-3 g t c κs within =
