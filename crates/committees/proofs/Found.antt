@@ -22,5 +22,3 @@ module _ {A : Type 0} (test : ℕ → Outcome Bool) (next : Option ℕ → Outco
   -- and a stop ends the search
   pub found_stops : (stop : Stop) → i < n → StopsExactly stop (test i) → StopsExactly stop (bind (first_from test (n - i) i) next)
   found_stops stop less e = exactly_bound stop (first_from test (n - i) i) next (first_stops test n i stop less e)
-
-pub ruleset found_first = (found_ends, found_passes, found_fails, found_stops)

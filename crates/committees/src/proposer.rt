@@ -69,7 +69,6 @@ fn passing<S: Lookup>(active: &[u64], state: &S, seed: &Root, i: u64) -> Result<
 }
 
 /// The candidate with the least number below `bound` that passes. The limit comes where none does.
-#[tactic(auto, using(crate::proofs::Found::found_first), unfolding(crate::specs::Proposers::candidate_found))]
 fn first_passing<S: Lookup>(active: &[u64], state: &S, seed: &Root, bound: u64) -> Result<u64, Stop>
     requires some { 0 < length active.now }
     requires fits { length active.now ≤ 2 ^ 40 }

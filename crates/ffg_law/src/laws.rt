@@ -15,7 +15,6 @@ use beacon_types::{AttestationData, Checkpoint};
 /// Each justified checkpoint of a history, where it is above epoch 0, has a link from an earlier justified one by
 /// validators of at least two thirds, and all links are a chain from genesis. So it is at each end of an epoch, since
 /// what came before it is a history too.
-#[tactic(auto, using(crate::proofs::Histories::history_promises))]
 pub fn chain_links(history: &[EpochEnd], weights: &[u64], increment: u64)
     requires large { IsLarge increment weights.now }
     requires history { IsHistory increment weights.now history.now }
