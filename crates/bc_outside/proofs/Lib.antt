@@ -3,4 +3,3 @@ pub mod Taking
 pub mod Held
 pub mod Shelved
 pub mod Onto
-pub mod Kept

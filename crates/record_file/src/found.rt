@@ -1,6 +1,7 @@
 //! What the buffered bytes of a record show of its next frame.
 
 ghost use Rattle.std.specs.Prelude.{◌≡◌, ◌≤◌, ◌<◌, ◌+◌, ℕ, ◌∷◌, length, true, IsTrue};
+ghost use Rattle.std.specs.Int.{w32, from_le_bytes};
 ghost use Rattle.record_file.specs.Record.{frame_of, sized_of, is_kind, most_events, longest_payload};
 ghost use Rattle.record_file.specs.inside.Found.{read_of, IsWhole, is_short, is_frame};
 
@@ -39,6 +40,14 @@ pub fn is_kind(kind: u8) -> bool
     kind >= 1 && kind <= 4
 }
 
+// The length that four bytes write.
+fn length_in(bytes: &[u8]) -> u32
+    requires { length bytes.now ≡ 4 }
+    ensures { result ≡ from_le_bytes w32 bytes.now }
+{
+    u32::from_le_bytes([bytes[0], bytes[1], bytes[2], bytes[3]])
+}
+
 // Behind the kind of a frame.
 #[tactic(auto, unfolding(crate::specs::Record::sized_of, crate::specs::Record::payload_of))]
 fn sized_at(kind: u8, bytes: &[u8]) -> Found
@@ -50,7 +59,7 @@ fn sized_at(kind: u8, bytes: &[u8]) -> Found
         return Found::Fault(RecordFault::Torn);
     }
     let (length, payload) = bytes.split_at(4);
-    let size = u32::from_le_bytes([length[0], length[1], length[2], length[3]]);
+    let size = length_in(length);
     if size > LONGEST_PAYLOAD {
         return Found::Fault(RecordFault::TooLong(size));
     }

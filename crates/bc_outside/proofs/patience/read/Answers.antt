@@ -1,7 +1,12 @@
-use Rattle.std.proofs.Common.{take, arith}
+use Rattle.std.proofs.Common.{ℕ, List, [], Option, take, arith}
+use Rattle.std.specs.Io.KnownBytes.{Consumes, Keeps}
+use Rattle.std.proofs.KnownBytes.{Consumes-kept, Consumes-nil, Consumes-trans, Keeps-trans}
 use Rattle.std.proofs.lemmas.Grind.{common_steps}
-use Rattle.bc_outside.proofs.Kept.{kept_consumed, kept_twice}
 use Rattle.bc_outside.proofs.patience.read.Goals as goal
+
+-- What a read consumed behind reads that consumed nothing.
+kept_consumed : (a b c : Option (List ℕ)) (bs : List ℕ) → Keeps a b → Consumes b c bs → Consumes a c bs
+kept_consumed a b c bs p q = Consumes-trans a b c [] bs (Consumes-kept a a b [] (Consumes-nil a) p) q
 
 pub returns-in-Ok-clause-bytes : goal.returns-in-Ok-clause-bytes
 returns-in-Ok-clause-bytes g c =
@@ -9,10 +14,10 @@ returns-in-Ok-clause-bytes g c =
 
 pub returns-then-not-is_again-clause-bytes : goal.returns-then-not-is_again-clause-bytes
 returns-then-not-is_again-clause-bytes g c =
-    kept_twice (g.R.Read.remaining c.args.reader.now) (g.R.Read.remaining c.loop.reader) (g.R.Read.remaining c.read.new.self) c.loop.invariant.kept c.in-Err.ensures.bytes
+    Keeps-trans (g.R.Read.remaining c.args.reader.now) (g.R.Read.remaining c.loop.reader) (g.R.Read.remaining c.read.new.self) c.loop.invariant.kept c.in-Err.ensures.bytes
 
 pub loop-preserved : goal.loop-preserved
 loop-preserved g c = record {
   tried = grind (arith, common_steps);
-  kept = kept_twice (g.R.Read.remaining c.args.reader.now) (g.R.Read.remaining c.loop.reader) (g.R.Read.remaining c.read.new.self) c.loop.invariant.kept c.in-Err.ensures.bytes;
+  kept = Keeps-trans (g.R.Read.remaining c.args.reader.now) (g.R.Read.remaining c.loop.reader) (g.R.Read.remaining c.read.new.self) c.loop.invariant.kept c.in-Err.ensures.bytes;
 }
