@@ -10,3 +10,4 @@ pub mod Gained
 pub mod Joined
 pub mod Fused
 pub mod Parts
+pub mod Pushed
