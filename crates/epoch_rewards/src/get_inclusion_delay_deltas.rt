@@ -76,7 +76,10 @@ pub(crate) fn proposer_gains(
         match counted(state, stakes, flags, index) {
             Some(_) => {
                 let base = base_reward(state, stakes, divisor, index);
-                include(&mut gains, state, base, entries, index)?
+                match include(&mut gains, state, base, entries, index) {
+                    Ok(()) => {}
+                    Err(stop) => return Err(stop),
+                }
             }
             None => {}
         }
