@@ -125,15 +125,9 @@ fn added_to(
     requires committees { previous.now ≡ epoch_committees state.now (get_previous_epoch state.now) }
     ensures { Gives result (added_to state.now source.now target.now) }
 {
-    match head_deltas(alloc, state, previous) {
-        Ok(head) => match inclusion_deltas(alloc, state, previous) {
-            Ok(inclusion) => {
-                added_with_leak(alloc, state, previous, source, target, &head, &inclusion)
-            }
-            Err(stop) => Err(stop),
-        },
-        Err(stop) => Err(stop),
-    }
+    let head = head_deltas(alloc, state, previous)?;
+    let inclusion = inclusion_deltas(alloc, state, previous)?;
+    added_with_leak(alloc, state, previous, source, target, &head, &inclusion)
 }
 
 /// What each validator gains and loses by the previous epoch's attestations (beacon-chain.md, `get_attestation_deltas`). The
@@ -148,11 +142,7 @@ pub fn attestation_deltas(
     requires committees { previous.now ≡ epoch_committees state.now (get_previous_epoch state.now) }
     ensures { Gives result (get_attestation_deltas state.now) }
 {
-    match source_deltas(alloc, state, previous) {
-        Ok(source) => match target_deltas(alloc, state, previous) {
-            Ok(target) => added_to(alloc, state, previous, &source, &target),
-            Err(stop) => Err(stop),
-        },
-        Err(stop) => Err(stop),
-    }
+    let source = source_deltas(alloc, state, previous)?;
+    let target = target_deltas(alloc, state, previous)?;
+    added_to(alloc, state, previous, &source, &target)
 }

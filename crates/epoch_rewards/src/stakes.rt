@@ -55,10 +55,7 @@ pub(crate) fn stakes(alloc: Global, state: &State) -> Result<Vec<Stake>, NoMemor
     let previous = previous_epoch(state);
     let mut stakes = Vec::with_capacity(alloc, state.validators_len() as usize)?;
     for validator in state.validator_list().iter() {
-        match stakes.push(stake_of(previous, validator)) {
-            Ok(()) => {}
-            Err(_refused) => return Err(NoMemory),
-        }
+        stakes.push(stake_of(previous, validator))?;
     }
     Ok(stakes)
 }
