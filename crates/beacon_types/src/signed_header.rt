@@ -36,7 +36,6 @@ impl Ssz for SignedBeaconBlockHeader {
         Field::Fixed(208)
     }
 
-    #[tactic(auto, using(ssz_codec::proofs::Fieldwise::two_read, ssz_codec::proofs::Fieldwise::two_unread))]
     fn parse(alloc: Global, bytes: &[u8]) -> Result<SignedBeaconBlockHeader, SszFault> {
         read_container!(
             alloc,

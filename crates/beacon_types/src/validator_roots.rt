@@ -4,6 +4,7 @@
 //! the key's is the root of two.
 
 ghost use Rattle.std.specs.Prelude.{◌≡◌, ◌<◌, length, map};
+ghost use Rattle.std.specs.List.{flat_map};
 ghost use Rattle.beacon_types.specs.Containers.{validator_codec};
 ghost use Rattle.beacon_types.specs.inside.ValidatorChunks.{key_chunks, root_of_chunks, key_root, chunks_below};
 
@@ -59,6 +60,18 @@ fn write_chunks(validator: &Validator, key: &Root, out: &mut [Root])
     ]);
 }
 
+/// Writes the chunks below eight validators, whose keys have these roots.
+fn write_eight_chunks(validators: &[Validator], keys: &[Root], out: &mut [Root])
+    requires validators { length validators.now ≡ 8 }
+    requires keys { keys.now ≡ map key_root validators.now }
+    requires out { length out.old ≡ 64 }
+    ensures { out.new ≡ flat_map chunks_below validators.now }
+{
+    'chunks: for i in 0..8 {
+        write_chunks(&validators[i], &keys[i], &mut out[8 * i..8 * i + 8]);
+    }
+}
+
 /// Writes the roots of eight validators.
 fn write_eight(validators: &[Validator], out: &mut [Root])
     requires validators { length validators.now ≡ 8 }
@@ -68,9 +81,7 @@ fn write_eight(validators: &[Validator], out: &mut [Root])
     let mut keys = [[0; 32]; 8];
     write_keys(validators, &mut keys);
     let mut chunks = [[0; 32]; 64];
-    'chunks: for i in 0..8 {
-        write_chunks(&validators[i], &keys[i], &mut chunks[8 * i..8 * i + 8]);
-    }
+    write_eight_chunks(validators, &keys, &mut chunks);
     let mut fourths = [[0; 32]; 32];
     hash_layer(&chunks, &mut fourths);
     let mut halves = [[0; 32]; 16];

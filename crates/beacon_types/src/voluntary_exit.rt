@@ -35,7 +35,6 @@ impl Ssz for VoluntaryExit {
         Field::Fixed(16)
     }
 
-    #[tactic(auto, using(ssz_codec::proofs::Fieldwise::two_read, ssz_codec::proofs::Fieldwise::two_unread))]
     fn parse(alloc: Global, bytes: &[u8]) -> Result<VoluntaryExit, SszFault> {
         read_container!(
             alloc,

@@ -117,3 +117,17 @@ module _ (array : PlainArray) where
   best_first x y (z ∷ zs) =
       best_step x y (z ∷ zs) ∙ best_first (better array x y) z zs ∙ assoc x y (best_of array z zs)
       ∙ ap (better array x) (sym (best_first y z zs))
+
+-- ---- two that weigh as much
+
+-- the one of the greater root goes before the other
+pub tie_by_root : (array : PlainArray) (a b weight other : ℕ) (of_a of_b : List ℕ) → weight ≡ get_latest_attesting_balance array a → other ≡ get_latest_attesting_balance array b → other ≡ weight
+    → of_a ≡ root_at array.nodes a → of_b ≡ root_at array.nodes b → is_greater_root of_a of_b ≡ goes_before array a b
+unfolding goes_before
+tie_by_root array a b weight other of_a of_b of_weight of_other tie a_root b_root =
+    let x = get_latest_attesting_balance array a in
+    let y = get_latest_attesting_balance array b in
+    let greater = is_greater_root (root_at array.nodes a) (root_at array.nodes b) in
+    let same : y ≡ x = sym of_other ∙ tie ∙ of_weight in
+    ap (λ root. is_greater_root root of_b) a_root ∙ ap (is_greater_root (root_at array.nodes a)) b_root
+    ∙ sym (ap (λ t. t || (eqb y x && greater)) (le-ltb y x (omega arith)) ∙ ap (λ t. t && greater) (eq-eqb y x same))

@@ -10,3 +10,5 @@ pub mod Gained
 pub mod Joined
 pub mod Fused
 pub mod Parts
+pub mod AllPaid
+pub mod Pushed

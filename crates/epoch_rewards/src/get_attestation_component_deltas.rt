@@ -17,6 +17,7 @@ use crate::attesting_balance::attesting_balance;
 use crate::eligible::{is_attester, is_eligible};
 use crate::get_base_reward::base_reward;
 use crate::leak::in_leak;
+use crate::numbers::push_made;
 use crate::stakes::Stake;
 use balance_totals::{current_epoch, total_active};
 use bc_words::{Stop, checked_mul, isqrt};
@@ -118,7 +119,7 @@ pub(crate) fn component_penalty(
 }
 
 /// What each validator gains, in Gwei, in order of index.
-#[tactic(auto, unfolding(spec_epochs::specs::Each::validator_indices), using(spec_epochs::proofs::Each::each_made))]
+#[tactic(auto, unfolding(spec_epochs::specs::Each::validator_indices), using(spec_epochs::proofs::Each::made_begins))]
 fn component_rewards(
     alloc: Global,
     state: &State,
@@ -135,13 +136,17 @@ fn component_rewards(
     let mut rewards = Vec::new(alloc);
     for index in 0..state.validators_len() {
         let base = base_reward(state, stakes, divisor, index);
-        rewards.push(component_reward(state, stakes, flags, weights, base, index)?)?;
+        let reward = component_reward(state, stakes, flags, weights, base, index);
+        match push_made(&mut rewards, reward) {
+            Ok(()) => {}
+            Err(stop) => return Err(stop),
+        }
     }
     Ok(rewards)
 }
 
 /// What each validator loses, in Gwei, in order of index.
-#[tactic(auto, unfolding(spec_epochs::specs::Each::validator_indices), using(spec_epochs::proofs::Each::each_made))]
+#[tactic(auto, unfolding(spec_epochs::specs::Each::validator_indices), using(spec_epochs::proofs::Each::made_begins))]
 fn component_penalties(
     alloc: Global,
     state: &State,
@@ -156,7 +161,11 @@ fn component_penalties(
     let mut penalties = Vec::new(alloc);
     for index in 0..state.validators_len() {
         let base = base_reward(state, stakes, divisor, index);
-        penalties.push(component_penalty(state, stakes, flags, base, index)?)?;
+        let penalty = component_penalty(state, stakes, flags, base, index);
+        match push_made(&mut penalties, penalty) {
+            Ok(()) => {}
+            Err(stop) => return Err(stop),
+        }
     }
     Ok(penalties)
 }

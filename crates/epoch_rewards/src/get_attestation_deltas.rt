@@ -14,7 +14,7 @@ use crate::get_inactivity_penalty_deltas::inactivity_deltas;
 use crate::get_inclusion_delay_deltas::inclusion_deltas;
 use crate::get_source_deltas::source_deltas;
 use crate::get_target_deltas::target_deltas;
-use crate::numbers::number_at;
+use crate::numbers::{number_at, push_made};
 use crate::paid::sum_of_four;
 use bc_words::Stop;
 use beacon_state::State;
@@ -37,7 +37,7 @@ fn sum_at(a: &[u64], b: &[u64], c: &[u64], d: &[u64], index: u64) -> Result<u64,
 }
 
 /// The sums of what stands at each validator's place of four lists.
-#[tactic(auto, unfolding(spec_epochs::specs::Each::validator_indices), using(spec_epochs::proofs::Each::each_made))]
+#[tactic(auto, unfolding(spec_epochs::specs::Each::validator_indices), using(spec_epochs::proofs::Each::made_begins))]
 fn sums(
     alloc: Global,
     state: &State,
@@ -50,7 +50,11 @@ fn sums(
 {
     let mut sums = Vec::new(alloc);
     for index in 0..state.validators_len() {
-        sums.push(sum_at(a, b, c, d, index)?)?;
+        let sum = sum_at(a, b, c, d, index);
+        match push_made(&mut sums, sum) {
+            Ok(()) => {}
+            Err(stop) => return Err(stop),
+        }
     }
     Ok(sums)
 }

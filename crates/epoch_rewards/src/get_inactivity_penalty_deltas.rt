@@ -15,7 +15,7 @@ use crate::attested::previous_attesters;
 use crate::eligible::{is_attester, is_eligible};
 use crate::get_base_reward::{base_reward, divisor, proposer_reward};
 use crate::leak::{finality_delay, in_leak};
-use crate::numbers::zeros;
+use crate::numbers::{push_made, zeros};
 use crate::stakes::{Stake, stake_at, stakes};
 use bc_words::{Stop, checked_add, checked_mul, checked_sub};
 use beacon_state::State;
@@ -89,7 +89,7 @@ pub(crate) fn leak_penalty(
 }
 
 /// What each validator loses in the leak, in Gwei, in order of index.
-#[tactic(auto, unfolding(spec_epochs::specs::Each::validator_indices), using(spec_epochs::proofs::Each::each_made))]
+#[tactic(auto, unfolding(spec_epochs::specs::Each::validator_indices), using(spec_epochs::proofs::Each::made_begins))]
 fn leak_penalties(
     alloc: Global,
     state: &State,
@@ -103,7 +103,11 @@ fn leak_penalties(
     let mut penalties = Vec::new(alloc);
     for index in 0..state.validators_len() {
         let base = base_reward(state, stakes, divisor, index);
-        penalties.push(leak_penalty(state, stakes, base, flags, index)?)?;
+        let penalty = leak_penalty(state, stakes, base, flags, index);
+        match push_made(&mut penalties, penalty) {
+            Ok(()) => {}
+            Err(stop) => return Err(stop),
+        }
     }
     Ok(penalties)
 }

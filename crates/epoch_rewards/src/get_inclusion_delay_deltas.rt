@@ -15,7 +15,7 @@ ghost use Rattle.epoch_rewards.specs.inside.Inclusions.{joined_reward, joined_re
 use crate::attested::{previous_attesters, previous_inclusions};
 use crate::eligible::{counted, is_attester};
 use crate::get_base_reward::{base_reward, divisor, proposer_reward};
-use crate::numbers::{number_at, zeros};
+use crate::numbers::{number_at, push_made, zeros};
 use crate::stakes::{Stake, stakes};
 use bc_words::{Stop, checked_add, checked_sub};
 use beacon_state::State;
@@ -76,7 +76,10 @@ pub(crate) fn proposer_gains(
         match counted(state, stakes, flags, index) {
             Some(_) => {
                 let base = base_reward(state, stakes, divisor, index);
-                include(&mut gains, state, base, entries, index)?
+                match include(&mut gains, state, base, entries, index) {
+                    Ok(()) => {}
+                    Err(stop) => return Err(stop),
+                }
             }
             None => {}
         }
@@ -153,7 +156,7 @@ pub(crate) fn joined_reward(
 }
 
 /// What each validator gets, in Gwei, in order of index.
-#[tactic(auto, unfolding(spec_epochs::specs::Each::validator_indices), using(spec_epochs::proofs::Each::each_made))]
+#[tactic(auto, unfolding(spec_epochs::specs::Each::validator_indices), using(spec_epochs::proofs::Each::made_begins))]
 fn joined_rewards(
     alloc: Global,
     state: &State,
@@ -170,7 +173,11 @@ fn joined_rewards(
     let mut rewards = Vec::new(alloc);
     for index in 0..state.validators_len() {
         let base = base_reward(state, stakes, divisor, index);
-        rewards.push(joined_reward(state, stakes, base, flags, entries, gains, index)?)?;
+        let reward = joined_reward(state, stakes, base, flags, entries, gains, index);
+        match push_made(&mut rewards, reward) {
+            Ok(()) => {}
+            Err(stop) => return Err(stop),
+        }
     }
     Ok(rewards)
 }

@@ -1,8 +1,9 @@
 //! Lists of a number for each validator.
 
-ghost use Rattle.std.specs.Prelude.{◌≡◌, length, replicate, slice_index, IfOk};
+ghost use Rattle.std.specs.Prelude.{◌≡◌, ◌∷◌, ◌++◌, [], length, replicate, slice_index, IfOk, IfErr, OnOk, IsOkAnd, MatchResult};
+ghost use Rattle.bc_words.specs.declared.stop.Stop.TheVariants as stops;
 
-use bc_words::NoMemory;
+use bc_words::{NoMemory, Stop};
 use beacon_state::State;
 use std::alloc::Global;
 
@@ -19,4 +20,18 @@ pub(crate) fn number_at(numbers: &[u64], index: u64) -> u64
     ensures { result ≡ slice_index numbers.now index }
 {
     numbers.get(index as usize).copied().unwrap_or(0)
+}
+
+/// One number more behind the others, where there is one, and else why there is none.
+pub(crate) fn push_made(numbers: &mut Vec<u64>, made: Result<u64, Stop>) -> Result<(), Stop>
+    ensures pushed { OnOk result (IsOkAnd made (λ number. numbers.new.items ≡ numbers.old.items ++ number ∷ [])) }
+    ensures stops { IfErr result (λ stop. MatchResult made (λ _. stop ≡ stops.NoMemory) (λ why. stop ≡ why)) }
+{
+    match made {
+        Ok(number) => match numbers.push(number) {
+            Ok(()) => Ok(()),
+            Err(_refused) => Err(Stop::NoMemory),
+        },
+        Err(stop) => Err(stop),
+    }
 }

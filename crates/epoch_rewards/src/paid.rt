@@ -14,6 +14,7 @@ use crate::get_attestation_component_deltas::{Weights, component_penalty, compon
 use crate::get_base_reward::base_reward;
 use crate::get_inactivity_penalty_deltas::leak_penalty;
 use crate::get_inclusion_delay_deltas::joined_reward;
+use crate::numbers::push_made;
 use crate::stakes::Stake;
 use balance_totals::balance_at;
 use bc_words::{Stop, checked_add};
@@ -145,7 +146,7 @@ fn paid_balance(
 }
 
 /// The balances of all validators, in Gwei, after their rewards and penalties.
-#[tactic(auto, unfolding(spec_epochs::specs::Each::validator_indices), using(spec_epochs::proofs::Each::each_made, spec_epochs::proofs::Each::made_few))]
+#[tactic(auto, unfolding(spec_epochs::specs::Each::validator_indices), using(spec_epochs::proofs::Each::made_begins))]
 pub(crate) fn paid_balances(
     alloc: Global,
     state: &State,
@@ -170,9 +171,13 @@ pub(crate) fn paid_balances(
     let mut balances = Vec::with_capacity(alloc, state.validators_len() as usize)?;
     for index in 0..state.validators_len() {
         let base = base_reward(state, stakes, divisor, index);
-        balances.push(paid_balance(
+        let balance = paid_balance(
             state, stakes, sources, targets, heads, entries, gains, base, index,
-        )?)?;
+        );
+        match push_made(&mut balances, balance) {
+            Ok(()) => {}
+            Err(stop) => return Err(stop),
+        }
     }
     Ok(balances)
 }

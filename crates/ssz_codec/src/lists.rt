@@ -6,7 +6,7 @@ ghost use Rattle.ssz_codec.specs.declared.layout.Field.TheVariants.{Variable};
 ghost use Rattle.ssz_codec.specs.Lists.{parse_items, parse_list, parse_parts, parse_variable_list};
 ghost use Rattle.ssz_codec.specs.Layout.{cut, fixed_length};
 ghost use Rattle.ssz_codec.specs.Reads.{ReadsAs, Fails};
-ghost use Rattle.ssz_codec.specs.inside.Reading.{with_front, with_one};
+ghost use Rattle.ssz_codec.specs.inside.Reading.{ReadsBehind, with_one};
 
 use crate::fault::SszFault;
 use crate::items::Items;
@@ -37,7 +37,7 @@ fn read_items_behind<T: Ssz>(
     count: usize,
     values: &mut Items<T>,
 ) -> Result<(), SszFault>
-    ensures { MatchResult result (λ _. with_front values.old (parse_items T.codec.deserialize size count bytes.now) ≡ Some values.new) (λ e. Fails e (with_front values.old (parse_items T.codec.deserialize size count bytes.now))) }
+    ensures { ReadsBehind result values.old values.new (parse_items T.codec.deserialize size count bytes.now) }
 {
     let mut rest = bytes;
     for _ in 0..count {
@@ -98,7 +98,7 @@ fn read_parts_behind<T: Ssz>(
     parts: &[&[u8]],
     values: &mut Items<T>,
 ) -> Result<(), SszFault>
-    ensures { MatchResult result (λ _. with_front values.old (parse_parts T.codec.deserialize (map (λ part. part.now) parts.now)) ≡ Some values.new) (λ e. Fails e (with_front values.old (parse_parts T.codec.deserialize (map (λ part. part.now) parts.now)))) }
+    ensures { ReadsBehind result values.old values.new (parse_parts T.codec.deserialize (map (λ p. p.now) parts.now)) }
 {
     for part in parts {
         match read_behind(alloc, part, values) {

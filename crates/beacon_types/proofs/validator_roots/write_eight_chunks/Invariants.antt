@@ -2,7 +2,7 @@
 use Rattle.std.proofs.Common.{◌≡◌, ◌*◌, length, take}
 use Rattle.std.specs.List.{flat_map}
 use Rattle.beacon_types.specs.inside.ValidatorChunks.{chunks_below}
-use Rattle.beacon_types.proofs.validator_roots.write_eight.Given as goal
+use Rattle.beacon_types.proofs.validator_roots.write_eight_chunks.Given as goal
 
 abbrev pub invariant-chunks : goal.invariant-chunks
-invariant-chunks l = record { room : length l.chunks ≡ 64; so_far : take (8 * l.i) l.chunks ≡ flat_map chunks_below (take l.i l.validators) }
+invariant-chunks l = record { room : length l.out ≡ 64; so_far : take (8 * l.i) l.out ≡ flat_map chunks_below (take l.i l.validators) }

@@ -1,0 +1,19 @@
+-- One reward more, or all of them were made.
+use Rattle.std.proofs.Common.{sym, subst, ◌∙◌, arith}
+use Rattle.bc_words.specs.Outcome.{Stops}
+use Rattle.spec_epochs.proofs.Each.{made_ends}
+use Rattle.epoch_rewards.proofs.Pushed.{pushed_more, pushed_stops}
+use Rattle.epoch_rewards.proofs.get_inclusion_delay_deltas.joined_rewards.Goals as goal
+
+pub loop-index-preserved : goal.loop-index-preserved
+loop-index-preserved c =
+    pushed_more _ _ c.loop-index.index c.loop-index.rewards.items c.push_made.new.numbers.items c.joined_reward-reward.result (omega arith) c.joined_reward-reward.ensures c.in-Ok.ensures.pushed
+    ∙ c.loop-index.invariant
+
+pub returns-in-Err : goal.returns-in-Err
+returns-in-Err c =
+    subst (Stops c.in-Err.stop) c.loop-index.invariant
+    (pushed_stops _ _ c.loop-index.index c.loop-index.rewards.items c.joined_reward-reward.result c.in-Err.stop (omega arith) c.joined_reward-reward.ensures c.in-Err.ensures.stops)
+
+pub returns : goal.returns
+returns c = sym c.loop-index.invariant ∙ made_ends _ _ c.loop-index.index c.loop-index.rewards.items (omega arith)
