@@ -3,9 +3,7 @@
 
 mod events;
 mod genesis;
-mod head;
 mod law;
-mod lines;
 mod reading;
 mod replay;
 mod status;

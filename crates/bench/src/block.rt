@@ -1,60 +1,56 @@
 //! A mainnet block of 128 attestations that is read and rooted, against the hashes of its tree and one pass over its
 //! bytes.
 
-ghost use Rattle.std.specs.Prelude.{◌<◌};
-
-use crate::ratio::{Ratio, now, time_since};
-use crate::states::{put, put_vote};
+use crate::hashes::hash_pairs_alone;
+use crate::ratio::{Time, now, tell_joined, tell_number, time_since};
+use crate::states::{put_offset, put_vote};
 use anyhow::Result;
 use beacon_body::SignedBeaconBlock;
 use hash_tree::Leaf;
-use sha2::{Digest, Sha256};
 use ssz_codec::Ssz;
 use std::alloc::{AllocError, Global};
-use std::time::{CpuClock, Duration};
+use std::time::CpuClock;
 
 /// How many attestations the block carries.
-const ATTESTATIONS: u32 = 128;
+const ATTESTATIONS: usize = 128;
 
 /// The length of one: its fixed part, and 128 bits with their delimiter.
-const ATTESTATION: u32 = 228 + 17;
+const ATTESTATION: usize = 228 + 17;
 
-/// Where the attestations begin.
-const BEGIN: u32 = 404;
+/// Where the attestations of a block begin that has no other operations.
+pub const BEGIN: usize = 404;
 
 /// The block's length.
-const END: u32 = BEGIN + ATTESTATIONS * (4 + ATTESTATION);
+const END: usize = BEGIN + ATTESTATIONS * (4 + ATTESTATION);
 
 /// The pairs that are hashed: 18 for each attestation, 128 of their list, 19 of the other lists, 24 of the other fields.
-const PAIRS: u32 = 18 * 128 + 128 + 19 + 24;
+const PAIRS: u64 = 18 * 128 + 128 + 19 + 24;
 
 /// How often the block is read.
 const TIMES: u32 = 50;
 
-/// Puts a number of four bytes at a place, where there is room for it.
-fn put_number(bytes: &mut [u8], at: u32, number: u32) {
-    put(bytes, at as usize, &number.to_le_bytes());
-}
-
-/// Puts the offsets that lead to the attestations.
-fn put_offsets(bytes: &mut [u8]) {
-    put_number(bytes, 0, 100);
-    put_number(bytes, 180, 84);
-    put_number(bytes, 384, 220);
-    put_number(bytes, 388, 220);
-    put_number(bytes, 392, 220);
-    put_number(bytes, 396, END - 184);
-    put_number(bytes, 400, END - 184);
+/// Puts the offsets of a signed block that has attestations up to its end, and no other operations.
+pub fn put_offsets(bytes: &mut [u8]) {
+    let end = bytes.len().saturating_sub(184);
+    for (at, offset) in [
+        (0, 100),
+        (180, 84),
+        (384, 220),
+        (388, 220),
+        (392, 220),
+        (396, end),
+        (400, end),
+    ] {
+        put_offset(bytes, at, offset);
+    }
 }
 
 /// Puts the attestation of this number, and the offset that leads to it.
-fn put_attestation(bytes: &mut [u8], number: u32)
-    requires { number < 128 }
-{
-    let start = ATTESTATIONS * 4 + number * ATTESTATION;
-    put_number(bytes, BEGIN + 4 * number, start);
-    put_number(bytes, BEGIN + start, 228);
-    let at = (BEGIN + start) as usize;
+fn put_attestation(bytes: &mut [u8], number: u8) {
+    let start = ATTESTATIONS * 4 + number as usize * ATTESTATION;
+    let at = BEGIN + start;
+    put_offset(bytes, BEGIN + 4 * number as usize, start);
+    put_offset(bytes, at, 228);
     put_vote(
         bytes,
         at + 4,
@@ -64,15 +60,29 @@ fn put_attestation(bytes: &mut [u8], number: u32)
     );
 }
 
+/// Puts what the block has beside zeros.
+fn put_block(bytes: &mut [u8]) {
+    put_offsets(bytes);
+    for number in 0..ATTESTATIONS as u8 {
+        put_attestation(bytes, number);
+    }
+}
+
 /// The bytes of the block: zero but for offsets, slots and bits. The attestations are the votes of four committees in each slot of
 /// the first epoch.
-pub fn block_bytes(alloc: Global) -> Result<Vec<u8>, AllocError> {
-    let mut bytes = vec![in alloc; 0u8; END as usize]?;
-    put_offsets(&mut bytes);
-    for number in 0..ATTESTATIONS {
-        put_attestation(&mut bytes, number);
-    }
+fn block_bytes(alloc: Global) -> Result<Vec<u8>, AllocError> {
+    let mut bytes = vec![in alloc; 0u8; END]?;
+    put_block(&mut bytes);
     Ok(bytes)
+}
+
+/// The block, read.
+pub fn read_block(alloc: Global) -> Result<SignedBeaconBlock> {
+    let bytes = block_bytes(alloc)?;
+    match SignedBeaconBlock::read(alloc, &bytes) {
+        Ok(block) => Ok(block),
+        Err(fault) => Err(fault.into()),
+    }
 }
 
 /// The first byte of the block's root, None where it doesn't read.
@@ -81,19 +91,6 @@ fn first_of_root(alloc: Global, bytes: &[u8]) -> Option<u8> {
         Ok(block) => Some(block.message.root()[0]),
         Err(_) => None,
     }
-}
-
-/// As many hashes of pairs, joined so that none is left out.
-fn pair_hashes() -> u8 {
-    let mut pair = [0; 64];
-    let mut joined = 0;
-    for i in 0..PAIRS {
-        let number = i.to_le_bytes();
-        pair[0] = number[0];
-        pair[1] = number[1];
-        joined ^= Sha256::digest(&pair)[0];
-    }
-    joined
 }
 
 /// One pass over the bytes.
@@ -106,35 +103,34 @@ fn pass_over(bytes: &[u8]) -> u8 {
 }
 
 /// The time of reading and rooting so many times, and what the roots are joined to.
-fn time_reading(rt: &(impl AllocGlobal + CpuClock), bytes: &[u8]) -> Result<(Duration, u8)> {
+fn time_reading(rt: &(impl AllocGlobal + CpuClock), bytes: &[u8]) -> (Time, u8) {
     let begin = now(rt);
     let mut roots = 0;
     for _ in 0..TIMES {
         roots ^= first_of_root(rt.alloc(), bytes).unwrap_or(1);
     }
-    Ok((time_since(rt, begin)?, roots))
+    (time_since(rt, begin), roots)
 }
 
 /// The time of as many hashes and passes, and what they are joined to.
-fn time_hashes(rt: &impl CpuClock, bytes: &[u8]) -> Result<(Duration, u8)> {
+fn time_passes(rt: &impl CpuClock, bytes: &[u8]) -> (Time, u8) {
     let begin = now(rt);
     let mut joined = 0;
     for _ in 0..TIMES {
-        joined ^= pair_hashes() ^ pass_over(bytes);
+        joined ^= hash_pairs_alone(PAIRS) ^ pass_over(bytes);
     }
-    Ok((time_since(rt, begin)?, joined))
+    (time_since(rt, begin), joined)
 }
 
 /// Reads, roots, hashes, and prints both times.
 fn measure_bytes(rt: &(impl AllocGlobal + Print + CpuClock), bytes: &[u8]) -> Result<()> {
     let first = first_of_root(rt.alloc(), bytes).unwrap_or(0);
-    let (whole, roots) = time_reading(rt, bytes)?;
-    let (measure, joined) = time_hashes(rt, bytes)?;
-    let ratio = Ratio { whole, measure };
-    println!(rt;
-        "block of {ATTESTATIONS} attestations, {TIMES} times, with one pass over the bytes: {ratio} (root {first:02x}.., joined {roots} {joined})"
-    )?;
-    Ok(())
+    let (whole, roots) = time_reading(rt, bytes);
+    let (measure, joined) = time_passes(rt, bytes);
+    let what = "block of 128 attestations, 50 times, with one pass over the bytes";
+    tell_joined(rt, what, whole, measure, u64::from(joined))
+        .and(tell_number(rt, "first byte of its root", u64::from(first)))
+        .and(tell_number(rt, "those of its roots joined", u64::from(roots)))
 }
 
 /// Makes the block, and measures.

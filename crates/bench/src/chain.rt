@@ -4,9 +4,10 @@
 ghost use Rattle.std.specs.Prelude.{◌≤◌, ◌^◌};
 ghost use Rattle.spec_state.specs.Accessors.{get_current_epoch};
 
-use crate::genesis::{Genesis, put_offset};
+use crate::block::{BEGIN, put_offsets};
+use crate::genesis::Genesis;
 use crate::hashes::{HEADER, Pairs, Step, pairs_of_body};
-use crate::states::put;
+use crate::states::{put, put_number, put_offset};
 use anyhow::{Result, bail};
 use balance_totals::{block_root, committees_of_epoch, current_epoch};
 use bc_preset::Config;
@@ -25,9 +26,6 @@ use transition::process_slots::process_slots;
 
 /// The length of an attestation's fixed part.
 const ATTESTATION: usize = 228;
-
-/// Where the votes begin in a block.
-const BEGIN: usize = 404;
 
 /// An event of a record: its kind, and its payload.
 #[derive(Drop)]
@@ -50,7 +48,7 @@ struct Vote {
 /// The hash of a slot's number, which stands for all that a proposer is free in.
 fn salt(slot: u64) -> Root {
     let mut bytes = [0; 16];
-    put(&mut bytes, 8, &slot.to_le_bytes());
+    put_number(&mut bytes, 8, slot);
     Sha256::digest(&bytes)
 }
 
@@ -64,7 +62,23 @@ fn source_of(state: &State, slot: u64) -> Checkpoint {
     }
 }
 
-/// The writing of a vote of all members, for the chain that the state of the next slot ends.
+/// Puts a vote of all members, for the chain that the state of the next slot ends, into bytes that are all 255.
+fn put_vote(bytes: &mut [u8], state: &State, vote: &Vote, target: &Root) {
+    let source = source_of(state, vote.slot);
+    put_offset(bytes, 0, ATTESTATION);
+    put_number(bytes, 4, vote.slot);
+    put_number(bytes, 12, vote.index);
+    put(bytes, 20, &state.latest_block_header().root());
+    put_number(bytes, 52, source.epoch);
+    put(bytes, 60, &source.root);
+    put_number(bytes, 92, vote.epoch);
+    put(bytes, 100, target);
+    put(bytes, 132, &[0; 96]);
+    let last = (2u8 << (vote.members % 8)).wrapping_sub(1);
+    put(bytes, bytes.len().saturating_sub(1), &[last]);
+}
+
+/// The writing of a vote.
 fn vote_bytes(
     alloc: Global,
     state: &State,
@@ -73,36 +87,8 @@ fn vote_bytes(
 ) -> Result<Vec<u8>, AllocError> {
     let members = vote.members.min(2048);
     let mut bytes = vec![in alloc; 255u8; ATTESTATION + members / 8 + 1]?;
-    let source = source_of(state, vote.slot);
-    put(&mut bytes, 0, &228u32.to_le_bytes());
-    put(&mut bytes, 4, &vote.slot.to_le_bytes());
-    put(&mut bytes, 12, &vote.index.to_le_bytes());
-    put(&mut bytes, 20, &state.latest_block_header().root());
-    put(&mut bytes, 52, &source.epoch.to_le_bytes());
-    put(&mut bytes, 60, &source.root);
-    put(&mut bytes, 92, &vote.epoch.to_le_bytes());
-    put(&mut bytes, 100, target);
-    put(&mut bytes, 132, &[0; 96]);
-    put(
-        &mut bytes,
-        ATTESTATION + members / 8,
-        &[(2u8 << (members % 8)).wrapping_sub(1)],
-    );
+    put_vote(&mut bytes, state, vote, target);
     Ok(bytes)
-}
-
-/// Appends the writing of a vote.
-fn push_vote(
-    alloc: Global,
-    state: &State,
-    vote: &Vote,
-    target: &Root,
-    votes: &mut Vec<Vec<u8>>,
-) -> Result<()> {
-    match vote_bytes(alloc, state, vote, target) {
-        Ok(bytes) => Ok(votes.push(bytes)?),
-        Err(refused) => Err(refused.into()),
-    }
 }
 
 /// Appends the writings of the votes of these committees of a slot, in their order.
@@ -113,7 +99,7 @@ fn append_committees(
     slot: u64,
     epoch: u64,
     votes: &mut Vec<Vec<u8>>,
-) -> Result<()>
+) -> Result<(), AllocError>
     requires { epoch ≤ get_current_epoch state.now }
 {
     let target = block_root(state, epoch);
@@ -128,7 +114,7 @@ fn append_committees(
             epoch,
             members,
         };
-        push_vote(alloc, state, &vote, &target, votes)?;
+        votes.push(vote_bytes(alloc, state, &vote, &target)?)?;
     }
     Ok(())
 }
@@ -140,10 +126,8 @@ fn append_votes(alloc: Global, state: &State, votes: &mut Vec<Vec<u8>>) -> Resul
     if epoch > 1 << 40 || epoch > current_epoch(state) {
         bail!("no such epoch");
     }
-    match committees_of_epoch(alloc, state, epoch) {
-        Ok(committees) => append_committees(alloc, state, &committees, slot, epoch, votes),
-        Err(stop) => Err(stop.into()),
-    }
+    let committees = committees_of_epoch(alloc, state, epoch)?;
+    Ok(append_committees(alloc, state, &committees, slot, epoch, votes)?)
 }
 
 /// These votes, so many times.
@@ -155,37 +139,23 @@ fn votes(alloc: Global, state: &State, times: u64) -> Result<Vec<Vec<u8>>> {
     Ok(votes)
 }
 
-/// Puts what a block of the state's slot on its chain has before its body.
+/// Puts the fixed part of a block of the state's slot on its chain, but for offsets.
 fn put_front(bytes: &mut [u8], state: &State, proposer: u64) {
-    put(bytes, 0, &100u32.to_le_bytes());
-    put(bytes, 100, &state.slot().to_le_bytes());
-    put(bytes, 108, &proposer.to_le_bytes());
-    put(bytes, 116, &state.latest_block_header().root());
-    put(bytes, 180, &84u32.to_le_bytes());
-}
-
-/// Puts the fixed part of its body, but for offsets.
-fn put_body(bytes: &mut [u8], state: &State) {
     let salt = salt(state.slot());
+    let eth1_data = state.eth1_data();
+    put_number(bytes, 100, state.slot());
+    put_number(bytes, 108, proposer);
+    put(bytes, 116, &state.latest_block_header().root());
     for at in [184, 216, 248, 352] {
         put(bytes, at, &salt);
     }
-    let eth1_data = state.eth1_data();
     put(bytes, 280, &eth1_data.deposit_root);
-    put(bytes, 312, &eth1_data.deposit_count.to_le_bytes());
+    put_number(bytes, 312, eth1_data.deposit_count);
     put(bytes, 320, &eth1_data.block_hash);
 }
 
-/// Puts the offsets of the body's lists, of which those behind the votes are empty.
-fn put_lists(bytes: &mut [u8]) {
-    let end = bytes.len().saturating_sub(184);
-    for (at, offset) in [(384, 220), (388, 220), (392, 220), (396, end), (400, end)] {
-        put_offset(bytes, at, offset);
-    }
-}
-
 /// Appends these votes to a block of no votes yet: room for an offset of each, and then their writings.
-fn append_written(bytes: &mut Vec<u8>, votes: &[Vec<u8>]) -> Result<()> {
+fn append_written(bytes: &mut Vec<u8>, votes: &[Vec<u8>]) -> Result<(), AllocError> {
     for _vote in votes {
         bytes.extend_from_slice(&[0; 4])?;
     }
@@ -200,12 +170,16 @@ fn append_written(bytes: &mut Vec<u8>, votes: &[Vec<u8>]) -> Result<()> {
 }
 
 /// The writing of the signed block of the state's slot on its chain, with these votes and no state root yet.
-fn block_bytes(alloc: Global, state: &State, proposer: u64, votes: &[Vec<u8>]) -> Result<Vec<u8>> {
+fn block_bytes(
+    alloc: Global,
+    state: &State,
+    proposer: u64,
+    votes: &[Vec<u8>],
+) -> Result<Vec<u8>, AllocError> {
     let mut bytes = vec![in alloc; 0u8; BEGIN]?;
-    put_front(&mut bytes, state, proposer);
-    put_body(&mut bytes, state);
     append_written(&mut bytes, votes)?;
-    put_lists(&mut bytes);
+    put_front(&mut bytes, state, proposer);
+    put_offsets(&mut bytes);
     Ok(bytes)
 }
 
@@ -232,14 +206,24 @@ fn take_written(alloc: Global, state: &mut State, bytes: &[u8], config: &Config)
 }
 
 /// Appends an event with a copy of a payload.
-fn push_event(alloc: Global, events: &mut Vec<Event>, kind: u8, payload: &[u8]) -> Result<()> {
+fn push_event(
+    alloc: Global,
+    events: &mut Vec<Event>,
+    kind: u8,
+    payload: &[u8],
+) -> Result<(), AllocError> {
     let payload = Vec::from_slice(alloc, payload)?;
     events.push(Event { kind, payload })?;
     Ok(())
 }
 
 /// Appends an event of this kind for each of these votes.
-fn push_votes(alloc: Global, events: &mut Vec<Event>, kind: u8, votes: &[Vec<u8>]) -> Result<()> {
+fn push_votes(
+    alloc: Global,
+    events: &mut Vec<Event>,
+    kind: u8,
+    votes: &[Vec<u8>],
+) -> Result<(), AllocError> {
     for vote in votes {
         push_event(alloc, events, kind, vote)?;
     }
@@ -283,7 +267,7 @@ fn tell_written(
     let root = take_written(alloc, state, bytes, config)?;
     put(bytes, 148, &root);
     push_event(alloc, events, 2, bytes)?;
-    push_votes(alloc, events, 4, votes)
+    Ok(push_votes(alloc, events, 4, votes)?)
 }
 
 /// Tells the block of the state's slot with these votes, takes the state through it, and tells the votes again.
@@ -295,10 +279,8 @@ fn tell_block(
     events: &mut Vec<Event>,
 ) -> Result<()> {
     let proposer = proposer_index(alloc, state)?;
-    match block_bytes(alloc, state, proposer, votes) {
-        Ok(mut bytes) => tell_written(alloc, state, config, &mut bytes, votes, events),
-        Err(error) => Err(error),
-    }
+    let mut bytes = block_bytes(alloc, state, proposer, votes)?;
+    tell_written(alloc, state, config, &mut bytes, votes, events)
 }
 
 /// Tells these votes on the wire, and takes the state through the slot's block with them, if it has one.
@@ -331,15 +313,13 @@ fn tell_slot(
         .wrapping_mul(config.seconds_per_slot())
         .wrapping_add(state.genesis_time());
     push_event(alloc, &mut told.events, 1, &time.to_le_bytes())?;
-    match votes(alloc, state, slot.votes) {
-        Ok(votes) => tell_votes(alloc, state, config, slot.has_block, &votes, told),
-        Err(error) => Err(error),
-    }
+    let votes = votes(alloc, state, slot.votes)?;
+    tell_votes(alloc, state, config, slot.has_block, &votes, told)
 }
 
 /// Adds the pairs that the step from a state to that of the next slot needs: those of the new state's root, and of the header's where
 /// the state's latest block got its state root.
-fn count(alloc: Global, old: &State, new: &State, pairs: &mut Pairs) -> Result<()> {
+fn count(alloc: Global, old: &State, new: &State, pairs: &mut Pairs) -> Result<(), AllocError> {
     if old.latest_block_header().state_root == [0; 32] {
         pairs.add(HEADER);
     }
@@ -356,39 +336,22 @@ fn tell_next(
     told: &mut Told,
 ) -> Result<()> {
     tell_slot(alloc, new, config, slot, told)?;
-    count(alloc, old, new, &mut told.pairs)
+    Ok(count(alloc, old, new, &mut told.pairs)?)
 }
 
-/// The state that a slot was told of, where it has entered that slot.
-fn told_of(
+/// Tells the events of a slot that the next state has entered, and puts that state, once it is behind them, in the place of the
+/// state.
+fn enter(
     alloc: Global,
-    old: &State,
-    mut new: State,
+    state: &mut State,
+    mut next: State,
     config: &Config,
     slot: Slot,
     told: &mut Told,
-) -> Result<State> {
-    match tell_next(alloc, old, &mut new, config, slot, told) {
-        Ok(()) => Ok(new),
-        Err(error) => Err(error),
-    }
-}
-
-/// The state of the next slot, and the events of that slot.
-fn next(
-    alloc: Global,
-    state: &State,
-    config: &Config,
-    slot: Slot,
-    told: &mut Told,
-) -> Result<State> {
-    if !is_sound(alloc, state)? {
-        bail!("the state isn't sound");
-    }
-    match process_slots(alloc, state, state.slot().saturating_add(1), config) {
-        Ok(step) => told_of(alloc, state, step.state, config, slot, told),
-        Err(stop) => Err(stop.into()),
-    }
+) -> Result<()> {
+    tell_next(alloc, state, &mut next, config, slot, told)?;
+    *state = next;
+    Ok(())
 }
 
 /// Takes the state to the next slot, and tells the events of that slot.
@@ -399,8 +362,13 @@ fn advance(
     slot: Slot,
     told: &mut Told,
 ) -> Result<()> {
-    *state = next(alloc, state, config, slot, told)?;
-    Ok(())
+    if !is_sound(alloc, state)? {
+        bail!("the state isn't sound");
+    }
+    match process_slots(alloc, state, state.slot().saturating_add(1), config) {
+        Ok(step) => enter(alloc, state, step.state, config, slot, told),
+        Err(stop) => Err(stop.into()),
+    }
 }
 
 /// Takes the state through so many slots, and tells the events of each.
@@ -422,28 +390,13 @@ fn advance_all(
     Ok(())
 }
 
-/// Tells what so many slots behind genesis tell.
-fn tell_from(
-    alloc: Global,
-    genesis: &Genesis,
-    slots: u64,
-    shape: Shape,
-    told: &mut Told,
-) -> Result<()> {
-    match genesis.state.share() {
-        Ok(mut state) => advance_all(alloc, &mut state, &genesis.config, slots, shape, told),
-        Err(refused) => Err(refused.into()),
-    }
-}
-
 /// What a chain of so many slots behind genesis tells.
 pub fn chain(alloc: Global, genesis: &Genesis, slots: u64, shape: Shape) -> Result<Told> {
+    let mut state = genesis.state.share()?;
     let mut told = Told {
         events: Vec::new(alloc),
         pairs: Pairs::none(),
     };
-    match tell_from(alloc, genesis, slots, shape, &mut told) {
-        Ok(()) => Ok(told),
-        Err(error) => Err(error),
-    }
+    advance_all(alloc, &mut state, &genesis.config, slots, shape, &mut told)?;
+    Ok(told)
 }

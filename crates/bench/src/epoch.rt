@@ -5,8 +5,8 @@ ghost use Rattle.std.specs.Prelude.{◌≡◌, ◌≤◌, ◌^◌};
 ghost use Rattle.spec_state.specs.Accessors.{get_current_epoch, get_previous_epoch, epoch_committees};
 ghost use Rattle.spec_state.specs.Soundness.{IsSound, IsSoundWithinEpoch};
 
-use crate::ratio::{Ratio, now, time_since};
-use crate::states::{Shape, mainnet_state};
+use crate::ratio::{Time, now, tell_numbers, tell_ratio, tell_times, time_since};
+use crate::states::{Shape, read_mainnet};
 use anyhow::{Result, bail};
 use balance_totals::{committees_of_epoch, current_epoch, previous_epoch};
 use bc_words::{NoMemory, Stop};
@@ -22,21 +22,53 @@ use epoch_close::process_slashings_reset::process_slashings_reset;
 use epoch_rewards::process_rewards;
 use justification::process_justification;
 use std::alloc::Global;
-use std::time::{CpuClock, Duration};
+use std::time::CpuClock;
 use transition::{is_sound, is_sound_within_epoch};
 
 /// How often the registry is read.
 const PASSES: u32 = 100;
 
 /// What was timed on a state.
-#[derive(Drop)]
+#[derive(Clone, Copy)]
 struct Times {
     /// So many passes of reading each validator and balance.
-    reading: Duration,
+    reading: Time,
+    /// What these are joined to.
+    joined: u64,
     /// The committees of two epochs.
-    committees: Duration,
+    committees: Time,
+    /// How many committees a slot of either epoch has, joined.
+    per_slot: u64,
+    /// The parts of the epoch's end.
+    justification: Time,
+    rewards: Time,
+    closing: Closing,
+}
+
+/// What the closing parts took.
+#[derive(Clone, Copy)]
+struct Closing {
+    slashings: Time,
+    effective_balances: Time,
+    /// The short ones together.
+    resets: Time,
+}
+
+impl Times {
     /// All parts of the epoch's end but the committees.
-    passes: Duration,
+    fn passes(&self) -> Time {
+        let closing = self.closing;
+        self.justification
+            .plus(self.rewards)
+            .plus(closing.slashings)
+            .plus(closing.effective_balances)
+            .plus(closing.resets)
+    }
+
+    /// The same with the committees.
+    fn whole(&self) -> Time {
+        self.committees.plus(self.passes())
+    }
 }
 
 /// Reads a validator and its balance.
@@ -57,21 +89,14 @@ fn read_all(state: &State) -> u64 {
     joined
 }
 
-/// The time of so many passes over registry and balances.
-fn time_reading(rt: &(impl AllocGlobal + Print + CpuClock), state: &State) -> Result<Duration> {
+/// The time of so many passes over registry and balances, and what they are joined to.
+fn time_reading(rt: &impl CpuClock, state: &State) -> (Time, u64) {
     let begin = now(rt);
     let mut joined = 0;
     for _ in 0..PASSES {
         joined ^= read_all(state);
     }
-    told(rt, "passes of reading", time_since(rt, begin)?, joined)
-}
-
-/// Prints a part's time, and gives it back.
-fn told(rt: &impl Print, part: &str, time: Duration, joined: u64) -> Result<Duration> {
-    let micros = time.as_micros();
-    println!(rt; "  {part}: {micros} us (joined {joined})")?;
-    Ok(time)
+    (time_since(rt, begin), joined)
 }
 
 /// How many committees a slot of an epoch has.
@@ -84,199 +109,161 @@ fn per_slot(alloc: Global, state: &State, epoch: u64) -> Result<u64, NoMemory>
     }
 }
 
-/// The time of the committees of two epochs.
-fn time_committees(rt: &(impl AllocGlobal + Print + CpuClock), state: &State) -> Result<Duration> {
+/// The time of the committees of two epochs, and how many a slot of either has, joined.
+fn time_committees(
+    rt: &(impl AllocGlobal + CpuClock),
+    state: &State,
+) -> Result<(Time, u64), NoMemory> {
     let begin = now(rt);
     let previous = per_slot(rt.alloc(), state, previous_epoch(state))?;
     let current = per_slot(rt.alloc(), state, current_epoch(state))?;
-    let time = time_since(rt, begin)?;
-    told(rt, "committees", time, previous ^ current)
+    Ok((time_since(rt, begin), previous ^ current))
 }
 
 /// The time of justification with these committees.
 fn time_justified(
-    rt: &(impl AllocGlobal + Print + CpuClock),
+    rt: &(impl AllocGlobal + CpuClock),
     state: &mut State,
     previous: &EpochCommittees,
     current: &EpochCommittees,
-) -> Result<Duration>
+) -> Result<Time, Stop>
     requires sound { IsSound state.old }
     requires previous { previous.now ≡ epoch_committees state.old (get_previous_epoch state.old) }
     requires current { current.now ≡ epoch_committees state.old (get_current_epoch state.old) }
 {
     let begin = now(rt);
     process_justification(rt.alloc(), state, previous, current)?;
-    told(rt, "justification", time_since(rt, begin)?, 0)
+    Ok(time_since(rt, begin))
 }
 
-/// The same with the committees of the previous epoch alone.
-fn time_justified_with(
-    rt: &(impl AllocGlobal + Print + CpuClock),
-    state: &mut State,
-    previous: &EpochCommittees,
-) -> Result<Duration>
-    requires sound { IsSound state.old }
-    requires previous { previous.now ≡ epoch_committees state.old (get_previous_epoch state.old) }
+/// The time of justification on a sound state.
+fn time_sound(rt: &(impl AllocGlobal + CpuClock), state: &mut State) -> Result<Time, Stop>
+    requires { IsSound state.old }
 {
-    match committees_of_epoch(rt.alloc(), state, current_epoch(state)) {
-        Ok(current) => time_justified(rt, state, previous, &current),
-        Err(refused) => Err(refused.into()),
-    }
+    let previous = committees_of_epoch(rt.alloc(), state, previous_epoch(state))?;
+    let current = committees_of_epoch(rt.alloc(), state, current_epoch(state))?;
+    time_justified(rt, state, &previous, &current)
 }
 
 /// The time of justification.
-fn time_justification(
-    rt: &(impl AllocGlobal + Print + CpuClock),
-    state: &mut State,
-) -> Result<Duration> {
+fn time_justification(rt: &(impl AllocGlobal + CpuClock), state: &mut State) -> Result<Time> {
     if !is_sound(rt.alloc(), state)? {
         bail!("the state isn't sound");
     }
-    match committees_of_epoch(rt.alloc(), state, previous_epoch(state)) {
-        Ok(previous) => time_justified_with(rt, state, &previous),
-        Err(refused) => Err(refused.into()),
-    }
+    Ok(time_sound(rt, state)?)
 }
 
-/// The time of rewards with these committees.
-fn time_rewarded(
-    rt: &(impl AllocGlobal + Print + CpuClock),
-    state: &mut State,
-    previous: &EpochCommittees,
-) -> Result<Duration>
-    requires sound { IsSoundWithinEpoch state.old }
-    requires previous { previous.now ≡ epoch_committees state.old (get_previous_epoch state.old) }
+/// The time of rewards on a state that is sound within its epoch's end.
+fn time_rewarded(rt: &(impl AllocGlobal + CpuClock), state: &mut State) -> Result<Time, Stop>
+    requires { IsSoundWithinEpoch state.old }
 {
+    let previous = committees_of_epoch(rt.alloc(), state, previous_epoch(state))?;
     let begin = now(rt);
-    process_rewards(rt.alloc(), state, previous)?;
-    told(rt, "rewards", time_since(rt, begin)?, 0)
+    process_rewards(rt.alloc(), state, &previous)?;
+    Ok(time_since(rt, begin))
 }
 
 /// The time of rewards.
-fn time_rewards(rt: &(impl AllocGlobal + Print + CpuClock), state: &mut State) -> Result<Duration> {
+fn time_rewards(rt: &(impl AllocGlobal + CpuClock), state: &mut State) -> Result<Time> {
     if !is_sound_within_epoch(rt.alloc(), state)? {
         bail!("the state isn't sound within its epoch's end");
     }
-    match committees_of_epoch(rt.alloc(), state, previous_epoch(state)) {
-        Ok(previous) => time_rewarded(rt, state, &previous),
-        Err(refused) => Err(refused.into()),
-    }
+    Ok(time_rewarded(rt, state)?)
 }
 
-/// The short closing parts.
-fn reset(state: &mut State) -> Result<(), Stop> {
+/// The time of the short closing parts.
+fn time_resets(rt: &impl CpuClock, state: &mut State) -> Result<Time, Stop> {
+    let begin = now(rt);
     process_eth1_reset(state)?;
     process_slashings_reset(state)?;
     process_randao_reset(state)?;
     process_historical_roots(state)?;
-    process_rotation(state)
+    process_rotation(state)?;
+    Ok(time_since(rt, begin))
 }
 
-/// A closing part, or the short ones.
-#[derive(Clone, Copy)]
-enum Closing {
-    Slashings,
-    EffectiveBalances,
-    Resets,
-}
-
-/// The closing parts, by what they are printed as.
-const CLOSING: &[(Closing, &str)] = &[
-    (Closing::Slashings, "slashings"),
-    (Closing::EffectiveBalances, "effective balances"),
-    (Closing::Resets, "resets"),
-];
-
-/// Makes a closing part.
-fn close(alloc: Global, state: &mut State, part: Closing) -> Result<(), Stop> {
-    match part {
-        Closing::Slashings => process_slashings(alloc, state),
-        Closing::EffectiveBalances => process_effective_balances(alloc, state),
-        Closing::Resets => reset(state),
-    }
-}
-
-/// The time of a closing part.
-fn time_part(
-    rt: &(impl AllocGlobal + Print + CpuClock),
-    state: &mut State,
-    part: Closing,
-    name: &str,
-) -> Result<Duration> {
+/// The times of the closing parts.
+fn time_closing(rt: &(impl AllocGlobal + CpuClock), state: &mut State) -> Result<Closing, Stop> {
     let begin = now(rt);
-    close(rt.alloc(), state, part)?;
-    told(rt, name, time_since(rt, begin)?, 0)
+    process_slashings(rt.alloc(), state)?;
+    let slashings = time_since(rt, begin);
+    let begin = now(rt);
+    process_effective_balances(rt.alloc(), state)?;
+    let effective_balances = time_since(rt, begin);
+    Ok(Closing {
+        slashings,
+        effective_balances,
+        resets: time_resets(rt, state)?,
+    })
 }
 
-/// The time of the closing parts.
-fn time_closing(rt: &(impl AllocGlobal + Print + CpuClock), state: &mut State) -> Result<Duration> {
-    let mut sum = Duration::ZERO;
-    for (part, name) in CLOSING.iter() {
-        sum = sum.saturating_add(time_part(rt, state, *part, name)?);
-    }
-    Ok(sum)
-}
-
-/// The time of all parts but reading and committees.
-fn time_passes(rt: &(impl AllocGlobal + Print + CpuClock), state: &mut State) -> Result<Duration> {
-    let justification = time_justification(rt, state)?;
-    let rewards = time_rewards(rt, state)?;
-    let closing = time_closing(rt, state)?;
-    Ok(
-        justification
-            .saturating_add(rewards)
-            .saturating_add(closing),
-    )
-}
-
-/// The time of all parts.
-fn time_parts(rt: &(impl AllocGlobal + Print + CpuClock), state: &mut State) -> Result<Times> {
-    let reading = time_reading(rt, state)?;
-    let committees = time_committees(rt, state)?;
-    let passes = time_passes(rt, state)?;
+/// The times of all parts.
+fn time_parts(rt: &(impl AllocGlobal + CpuClock), state: &mut State) -> Result<Times> {
+    let (reading, joined) = time_reading(rt, state);
+    let (committees, per_slot) = time_committees(rt, state)?;
     Ok(Times {
         reading,
+        joined,
         committees,
-        passes,
+        per_slot,
+        justification: time_justification(rt, state)?,
+        rewards: time_rewards(rt, state)?,
+        closing: time_closing(rt, state)?,
     })
 }
 
 /// The times on a state at the end of its third epoch, with so many committees of 128 in a slot, one for each 4,096 validators.
-fn time_on(rt: &(impl AllocGlobal + Print + CpuClock), per_slot: u32) -> Result<Times>
-    requires { per_slot ≤ 16 }
-{
+fn time_on(rt: &(impl AllocGlobal + CpuClock), per_slot: u8) -> Result<Times> {
+    let per_slot = u32::from(per_slot);
     let shape = Shape {
         validators: 4096 * per_slot,
         slot: 95,
         previous: 32 * per_slot,
         current: 31 * per_slot,
     };
-    match mainnet_state(rt.alloc(), &shape) {
-        Ok(mut state) => time_parts(rt, &mut state),
+    match read_mainnet(rt, &shape) {
+        Ok(mut reading) => time_parts(rt, &mut reading.state),
         Err(error) => Err(error),
     }
 }
 
+/// Prints the times of a state.
+fn tell_parts(rt: &impl Print, validators: u64, times: &Times) -> Result<()> {
+    let closing = times.closing;
+    let numbers = [
+        ("an epoch's end on validators", validators),
+        ("  passes of reading, joined", times.joined),
+        ("  committees of a slot, joined", times.per_slot),
+    ];
+    let parts = [
+        ("  passes of reading", times.reading),
+        ("  committees", times.committees),
+        ("  justification", times.justification),
+        ("  rewards", times.rewards),
+        ("  slashings", closing.slashings),
+        ("  effective balances", closing.effective_balances),
+        ("  resets", closing.resets),
+    ];
+    tell_numbers(rt, &numbers).and(tell_times(rt, &parts))
+}
+
 /// Prints what an epoch's end takes on the larger state, by what it is measured by.
 fn tell(rt: &impl Print, small: &Times, large: &Times) -> Result<()> {
-    let growth = Ratio {
-        whole: large.committees.saturating_add(large.passes),
-        measure: small.committees.saturating_add(small.passes),
-    };
-    println!(rt; "16,384 validators against 4,096: {growth}")?;
-    let passes = Ratio {
-        whole: large.passes.saturating_mul(PASSES),
-        measure: large.reading,
-    };
-    println!(rt; "{PASSES} times without committees, against as many passes of reading: {passes}")?;
-    Ok(())
+    let growth = "16,384 validators against 4,096";
+    let passes = "100 times without committees, against as many passes of reading";
+    tell_ratio(rt, growth, large.whole(), small.whole()).and(tell_ratio(
+        rt,
+        passes,
+        large.passes().times(PASSES),
+        large.reading,
+    ))
 }
 
 /// Measures an epoch's end on both states, and prints all times.
 pub fn measure(rt: &(impl AllocGlobal + Print + CpuClock)) -> Result<()> {
-    println!(rt; "an epoch's end on 4,096 validators:")?;
     let small = time_on(rt, 1)?;
-    println!(rt; "an epoch's end on 16,384 validators:")?;
+    tell_parts(rt, 4096, &small)?;
     let large = time_on(rt, 4)?;
+    tell_parts(rt, 16_384, &large)?;
     tell(rt, &small, &large)
 }

@@ -6,11 +6,11 @@ ghost use Rattle.std.specs.Prelude.{◌≡◌};
 use crate::chain::{Shape, Told, chain};
 use crate::genesis::{Genesis, Network, read_genesis};
 use crate::hashes::tell_against_pairs;
-use crate::ratio::Ratio;
+use crate::ratio::{Time, tell_ratio};
 use crate::running::run_store;
 use anyhow::Result;
 use std::rt::Files;
-use std::time::{CpuClock, Duration};
+use std::time::CpuClock;
 
 /// How many slots the short record has: with 15 blocks in 16 slots, two committees a slot, and votes that come again behind their
 /// block, 1,488 events.
@@ -42,12 +42,13 @@ fn measure_told(
     rt: &(impl AllocGlobal + Print + CpuClock + Files),
     genesis: &Genesis,
     told: &Told,
-) -> Result<Duration>
+) -> Result<Time>
     requires preset { genesis.now.state.preset ≡ genesis.now.config.preset }
 {
     let times = run_store(rt, genesis, &told.events)?;
     times.tell(rt, told.events.len())?;
-    tell_against_pairs(rt, "  ", &told.pairs, "", times.whole())?;
+    let what = "against the pairs that they need";
+    tell_against_pairs(rt, what, &told.pairs, times.whole())?;
     Ok(times.whole())
 }
 
@@ -56,7 +57,7 @@ fn measure_slots(
     rt: &(impl AllocGlobal + Print + CpuClock + Files),
     genesis: &Genesis,
     slots: u64,
-) -> Result<Duration>
+) -> Result<Time>
     requires preset { genesis.now.state.preset ≡ genesis.now.config.preset }
 {
     let shape = Shape {
@@ -78,9 +79,7 @@ fn measure_from(rt: &(impl AllocGlobal + Print + CpuClock + Files), genesis: &Ge
 {
     let measure = measure_slots(rt, genesis, SLOTS)?;
     let whole = measure_slots(rt, genesis, SLOTS * TIMES)?;
-    let ratio = Ratio { whole, measure };
-    println!(rt; "{TIMES} times as many events: {ratio}")?;
-    Ok(())
+    tell_ratio(rt, "10 times as many events", whole, measure)
 }
 
 /// Reads the configuration and the genesis state of the minimal network, and measures the records from there.

@@ -3,13 +3,14 @@
 
 ghost use Rattle.std.specs.Prelude.{◌<◌};
 
-use crate::ratio::{Ratio, now, time_since};
+use crate::ratio::{Time, now, tell_joined, tell_number, time_since};
 use anyhow::Result;
 use beacon_state::State;
-use hash_tree::{Root, depth_of, hash_pair};
+use hash_tree::{Root, depth_of};
 use pair_lanes::hash_pairs;
-use std::alloc::Global;
-use std::time::{CpuClock, Duration};
+use sha2::{Digest, Sha256};
+use std::alloc::{AllocError, Global};
+use std::time::CpuClock;
 
 /// Pairs that are hashed.
 #[derive(Clone, Copy)]
@@ -29,6 +30,13 @@ impl Pairs {
     /// Adds so many, one by one.
     pub fn add(&mut self, count: u64) {
         self.alone = self.alone.saturating_add(count);
+    }
+
+    /// Adds so many where something changed.
+    fn add_if(&mut self, count: u64, changed: bool) {
+        if changed {
+            self.add(count);
+        }
     }
 
     /// Adds a layer of so many, all of whose nodes are new: the eights of it in lanes.
@@ -111,20 +119,12 @@ impl Step<'_> {
         }
     }
 
-    /// Whether a number of a list of numbers differs.
-    fn number_differs(&self, field: Field, place: u64) -> bool {
-        match field {
-            Field::Slashings => self.old.slashings_at(place) != self.new.slashings_at(place),
-            _ => self.old.balances_at(place) != self.new.balances_at(place),
-        }
-    }
-
     /// Whether four numbers differ.
     fn numbers_differ(&self, field: Field, chunk: u64) -> bool {
         let from = chunk.min(1 << 40) * 4;
         let mut differ = false;
         for place in from..from + 4 {
-            differ |= self.number_differs(field, place);
+            differ |= number_at(self.old, field, place) != number_at(self.new, field, place);
         }
         differ
     }
@@ -137,25 +137,16 @@ impl Step<'_> {
         }
     }
 
-    /// Whether a leaf of a list of roots or of the registry is new.
-    fn is_new_value(&self, field: Field, leaf: u64) -> bool {
-        match field {
-            Field::BlockRoots => self.old.block_roots_at(leaf) != self.new.block_roots_at(leaf),
-            Field::StateRoots => self.old.state_roots_at(leaf) != self.new.state_roots_at(leaf),
-            Field::Mixes => self.old.randao_mixes_at(leaf) != self.new.randao_mixes_at(leaf),
-            _ => self.validator_differs(leaf),
-        }
-    }
-
     /// Whether a leaf of a list is new.
     fn is_new(&self, field: Field, leaf: u64) -> bool {
         match field {
             Field::Historical => leaf >= self.old.historical_roots_len(),
             Field::Votes => leaf >= self.votes_kept(),
             Field::Balances | Field::Slashings => self.numbers_differ(field, leaf),
+            Field::Validators => self.validator_differs(leaf),
             Field::Previous => leaf >= self.previous_kept(),
             Field::Current => leaf >= self.current_kept(),
-            _ => self.is_new_value(field, leaf),
+            _ => root_at(self.old, field, leaf) != root_at(self.new, field, leaf),
         }
     }
 
@@ -195,7 +186,7 @@ impl Step<'_> {
     }
 
     /// The leaves of a list that are new.
-    fn new_leaves(&self, alloc: Global, field: Field) -> Result<Vec<u64>> {
+    fn new_leaves(&self, alloc: Global, field: Field) -> Result<Vec<u64>, AllocError> {
         let mut places = Vec::new(alloc);
         for leaf in 0..self.leaves(field) {
             if self.is_new(field, leaf) {
@@ -218,39 +209,63 @@ impl Step<'_> {
     }
 
     /// Adds the pairs of a list.
-    fn add_list(&self, alloc: Global, field: Field, pairs: &mut Pairs) -> Result<()> {
-        match self.new_leaves(alloc, field) {
-            Ok(places) => Ok(self.add_leaves(field, &places, pairs)),
-            Err(error) => Err(error),
-        }
+    fn add_list(&self, alloc: Global, field: Field, pairs: &mut Pairs) -> Result<(), AllocError> {
+        let places = self.new_leaves(alloc, field)?;
+        self.add_leaves(field, &places, pairs);
+        Ok(())
     }
 
-    /// How many of the three checkpoints changed.
-    fn checkpoints_changed(&self) -> u64 {
+    /// Adds the pairs of the three checkpoints that changed.
+    fn add_checkpoints(&self, pairs: &mut Pairs) {
         let (old, new) = (self.old, self.new);
-        u64::from(old.previous_justified_checkpoint() != new.previous_justified_checkpoint())
-            + u64::from(old.current_justified_checkpoint() != new.current_justified_checkpoint())
-            + u64::from(old.finalized_checkpoint() != new.finalized_checkpoint())
+        pairs.add_if(
+            1,
+            old.previous_justified_checkpoint() != new.previous_justified_checkpoint(),
+        );
+        pairs.add_if(
+            1,
+            old.current_justified_checkpoint() != new.current_justified_checkpoint(),
+        );
+        pairs.add_if(1, old.finalized_checkpoint() != new.finalized_checkpoint());
     }
 
     /// Adds the pairs of the fields that are no lists and that changed.
     fn add_fields(&self, pairs: &mut Pairs) {
         let (old, new) = (self.old, self.new);
-        let header = u64::from(old.latest_block_header() != new.latest_block_header());
-        let eth1_data = u64::from(old.eth1_data() != new.eth1_data());
-        pairs.add(6 * header + 3 * eth1_data);
-        pairs.add(self.checkpoints_changed());
+        pairs.add_if(
+            HEADER,
+            old.latest_block_header() != new.latest_block_header(),
+        );
+        pairs.add_if(3, old.eth1_data() != new.eth1_data());
+        self.add_checkpoints(pairs);
     }
 
     /// Adds the pairs that the next state's root needs, where that of the state is known: its changes, and the tree of its 21
     /// fields.
-    pub fn add_root(&self, alloc: Global, pairs: &mut Pairs) -> Result<()> {
+    pub fn add_root(&self, alloc: Global, pairs: &mut Pairs) -> Result<(), AllocError> {
         for field in LISTS.iter() {
             self.add_list(alloc, *field, pairs)?;
         }
         self.add_fields(pairs);
         pairs.add(TOP);
         Ok(())
+    }
+}
+
+/// A number of a list of numbers.
+fn number_at(state: &State, field: Field, place: u64) -> Option<u64> {
+    match field {
+        Field::Slashings => state.slashings_at(place),
+        _ => state.balances_at(place),
+    }
+}
+
+/// A root of a list of roots.
+fn root_at(state: &State, field: Field, place: u64) -> Option<&Root> {
+    match field {
+        Field::BlockRoots => state.block_roots_at(place),
+        Field::StateRoots => state.state_roots_at(place),
+        _ => state.randao_mixes_at(place),
     }
 }
 
@@ -327,14 +342,25 @@ fn add_above(places: &[u64], depth: u32, whole: bool, pairs: &mut Pairs) {
     }
 }
 
-/// The time of hashing so many pairs one by one.
-fn time_alone(rt: &impl CpuClock, count: u64) -> Result<(Duration, u8)> {
-    let mut root = [7u8; 32];
-    let begin = now(rt);
-    for _pair in 0..count {
-        root = hash_pair(&root, &[9; 32]);
+/// So many hashes of pairs through `sha2`, joined so that none is left out.
+pub fn hash_pairs_alone(count: u64) -> u8 {
+    let mut pair = [0; 64];
+    let mut joined = 0;
+    for i in 0..count {
+        let number = i.to_le_bytes();
+        pair[0] = number[0];
+        pair[1] = number[1];
+        pair[2] = number[2];
+        joined ^= Sha256::digest(&pair)[0];
     }
-    Ok((time_since(rt, begin)?, root[0]))
+    joined
+}
+
+/// The time of so many hashes of pairs through `sha2`, and what they are joined to.
+pub fn time_hashes(rt: &impl CpuClock, count: u64) -> (Time, u8) {
+    let begin = now(rt);
+    let joined = hash_pairs_alone(count);
+    (time_since(rt, begin), joined)
 }
 
 /// Hashes so many pairs in lanes, at least.
@@ -346,35 +372,25 @@ fn hash_layers(layer: &[[Root; 2]], out: &mut [Root], count: u64) {
     }
 }
 
-/// The time of hashing so many pairs in lanes, at least.
-fn time_lanes(rt: &impl CpuClock, count: u64) -> Result<Duration> {
+/// The time of hashing so many pairs in lanes, at least, and a byte of what came out.
+fn time_lanes(rt: &impl CpuClock, count: u64) -> (Time, u8) {
     let layer = [[[7u8; 32]; 2]; 64];
     let mut out = [[0u8; 32]; 64];
     let begin = now(rt);
     hash_layers(&layer, &mut out, count);
-    time_since(rt, begin)
+    (time_since(rt, begin), out[0][0])
 }
 
-/// The time of hashing these pairs.
-fn time_pairs(rt: &impl CpuClock, pairs: &Pairs) -> Result<Duration> {
-    let (alone, _first) = time_alone(rt, pairs.alone)?;
-    let lanes = time_lanes(rt, pairs.lanes)?;
-    Ok(alone.saturating_add(lanes))
-}
-
-/// Prints a time against that of these pairs, between what it is the time of and what needs the pairs.
+/// Prints what was timed, and its time against that of the pairs that it needs.
 pub fn tell_against_pairs(
-    rt: &(impl AllocGlobal + Print + CpuClock),
+    rt: &(impl Print + CpuClock),
     what: &str,
     pairs: &Pairs,
-    need: &str,
-    whole: Duration,
+    whole: Time,
 ) -> Result<()> {
-    let ratio = Ratio {
-        whole,
-        measure: time_pairs(rt, pairs)?,
-    };
-    let Pairs { alone, lanes } = pairs;
-    println!(rt; "{what}against {alone} pairs one by one and {lanes} in lanes{need}: {ratio}")?;
-    Ok(())
+    let (alone, joined) = time_hashes(rt, pairs.alone);
+    let (lanes, last) = time_lanes(rt, pairs.lanes);
+    tell_joined(rt, what, whole, alone.plus(lanes), u64::from(joined ^ last))
+        .and(tell_number(rt, "  of these pairs one by one", pairs.alone))
+        .and(tell_number(rt, "  and in lanes", pairs.lanes))
 }

@@ -4,7 +4,7 @@
 ghost use Rattle.std.specs.Prelude.{◌≡◌, ◌+◌, ◌*◌, ◌<◌, ◌≤◌, ◌^◌, [], false, length, IfOk, OnOk};
 ghost use Rattle.block_array.specs.PlainArray.{slot_at};
 
-use crate::ratio::{Ratio, now, time_since};
+use crate::ratio::{Time, now, tell_joined, tell_time, time_since};
 use anyhow::Result;
 use bc_words::{NoMemory, Steps};
 use beacon_types::Checkpoint;
@@ -12,7 +12,7 @@ use block_array::{BlockArray, Facts, Message};
 use std::alloc::{AllocError, Global};
 use std::marker::Brand;
 use std::sync::ledger::{Blank, Ledger};
-use std::time::{CpuClock, Duration};
+use std::time::CpuClock;
 
 /// How many validators vote.
 const VALIDATORS: usize = 262_144;
@@ -45,14 +45,25 @@ const SCATTERED: Arrival = Arrival {
 };
 
 /// What the parts of all rounds took.
-#[derive(Drop)]
+#[derive(Clone, Copy)]
 struct Times {
     /// Weights and the head, where all votes moved.
-    moved: Duration,
+    moved: Time,
     /// Weights and the head, where none did.
-    unmoved: Duration,
+    unmoved: Time,
     /// The passes over the votes.
-    passes: Duration,
+    passes: Time,
+}
+
+impl Times {
+    /// Nothing yet.
+    fn none() -> Times {
+        Times {
+            moved: Time::none(),
+            unmoved: Time::none(),
+            passes: Time::none(),
+        }
+    }
 }
 
 /// The facts of genesis.
@@ -129,7 +140,7 @@ fn vote_all(array: &mut BlockArray, votes: &[Message], apart: usize) -> Result<(
 }
 
 /// The votes of all validators in a round, whose number is their epoch.
-fn votes_of(alloc: Global, round: u64) -> Result<Vec<Message>, AllocError> {
+fn votes_of(alloc: Global, round: u64) -> Result<Vec<Message>, NoMemory> {
     let mut votes = Vec::new(alloc);
     for validator in 0..VALIDATORS {
         votes.push(Message {
@@ -154,27 +165,11 @@ fn pass(votes: &[Message], balances: &[u64], weights: &mut [u128]) {
     }
 }
 
-/// The time of a pass over the votes.
-fn time_pass(
-    rt: &impl CpuClock,
-    votes: &[Message],
-    balances: &[u64],
-    weights: &mut [u128],
-) -> Result<Duration> {
-    let begin = now(rt);
-    pass(votes, balances, weights);
-    time_since(rt, begin)
-}
-
 /// The time of weights and the head.
-fn time_moved<L: Ledger>(
-    rt: &impl CpuClock,
-    array: &mut BlockArray,
-    steps: &mut Steps<L>,
-) -> Result<Duration>
+fn time_moved<L: Ledger>(rt: &impl CpuClock, array: &mut BlockArray, steps: &mut Steps<L>) -> Time
     ensures nodes { array.new.nodes ≡ array.old.nodes }
-    ensures made { OnOk result (array.new.changed_validators ≡ []) }
-    ensures set { OnOk result (array.new.balances_set ≡ false) }
+    ensures made { array.new.changed_validators ≡ [] }
+    ensures set { array.new.balances_set ≡ false }
 {
     let begin = now(rt);
     array.apply(steps);
@@ -183,11 +178,7 @@ fn time_moved<L: Ledger>(
 
 /// The time of weights and the head where no vote moved: no delta is counted, and each node is visited twice at most.
 #[tactic(auto, unfolding(block_array::specs::Work::steps_of, block_array::specs::Work::deltas_of))]
-fn time_unmoved<L: Ledger>(
-    rt: &impl CpuClock,
-    array: &mut BlockArray,
-    steps: &mut Steps<L>,
-) -> Result<Duration>
+fn time_unmoved<L: Ledger>(rt: &impl CpuClock, array: &mut BlockArray, steps: &mut Steps<L>) -> Time
     requires unmoved { array.old.changed_validators ≡ [] }
     requires set { array.old.balances_set ≡ false }
     ensures nodes { array.new.nodes ≡ array.old.nodes }
@@ -198,29 +189,9 @@ fn time_unmoved<L: Ledger>(
     time_since(rt, begin)
 }
 
-/// Moves these votes, and times what follows.
-fn time_round<L: Ledger>(
-    rt: &impl CpuClock,
-    array: &mut BlockArray,
-    votes: &[Message],
-    apart: usize,
-    steps: &mut Steps<L>,
-    times: &mut Times,
-) -> Result<()>
-    requires nodes { length array.old.nodes ≡ 1024 }
-    ensures nodes { length array.new.nodes ≡ 1024 }
-{
-    vote_all(array, votes, apart)?;
-    let moved = time_moved(rt, array, steps)?;
-    let unmoved = time_unmoved(rt, array, steps)?;
-    times.moved = times.moved.saturating_add(moved);
-    times.unmoved = times.unmoved.saturating_add(unmoved);
-    Ok(())
-}
-
-/// The same of a round's votes, with a pass over them.
+/// Moves these votes, one behind the other's so far on, and times what follows and a pass over them.
 fn time_votes<L: Ledger>(
-    rt: &(impl AllocGlobal + CpuClock),
+    rt: &impl CpuClock,
     array: &mut BlockArray,
     votes: &[Message],
     balances: &[u64],
@@ -228,13 +199,16 @@ fn time_votes<L: Ledger>(
     apart: usize,
     steps: &mut Steps<L>,
     times: &mut Times,
-) -> Result<()>
+) -> Result<(), NoMemory>
     requires nodes { length array.old.nodes ≡ 1024 }
     ensures nodes { length array.new.nodes ≡ 1024 }
 {
-    time_round(rt, array, votes, apart, steps, times)?;
-    let passed = time_pass(rt, votes, balances, weights)?;
-    times.passes = times.passes.saturating_add(passed);
+    vote_all(array, votes, apart)?;
+    times.moved = times.moved.plus(time_moved(rt, array, steps));
+    times.unmoved = times.unmoved.plus(time_unmoved(rt, array, steps));
+    let begin = now(rt);
+    pass(votes, balances, weights);
+    times.passes = times.passes.plus(time_since(rt, begin));
     Ok(())
 }
 
@@ -247,23 +221,21 @@ fn time_epoch<L: Ledger>(
     arrival: Arrival,
     steps: &mut Steps<L>,
     times: &mut Times,
-) -> Result<()>
+) -> Result<(), NoMemory>
     requires nodes { length array.old.nodes ≡ 1024 }
     ensures nodes { length array.new.nodes ≡ 1024 }
 {
-    match votes_of(rt.alloc(), arrival.epoch) {
-        Ok(votes) => time_votes(
-            rt,
-            array,
-            &votes,
-            balances,
-            weights,
-            arrival.apart,
-            steps,
-            times,
-        ),
-        Err(refused) => Err(refused.into()),
-    }
+    let votes = votes_of(rt.alloc(), arrival.epoch)?;
+    time_votes(
+        rt,
+        array,
+        &votes,
+        balances,
+        weights,
+        arrival.apart,
+        steps,
+        times,
+    )
 }
 
 /// All rounds.
@@ -275,7 +247,7 @@ fn time_rounds<L: Ledger>(
     arrival: Arrival,
     steps: &mut Steps<L>,
     times: &mut Times,
-) -> Result<()>
+) -> Result<(), NoMemory>
     requires nodes { length array.old.nodes ≡ 1024 }
     ensures nodes { length array.new.nodes ≡ 1024 }
 {
@@ -289,69 +261,81 @@ fn time_rounds<L: Ledger>(
     Ok(())
 }
 
+/// The weight of the first node.
+fn first_of(weights: &[u128]) -> u64 {
+    let first = weights.first().copied().unwrap_or(0);
+    u64::try_from(first).unwrap_or(u64::MAX)
+}
+
+/// The same with weights of its own. Gives the weight that the passes gave the first node.
+fn time_arrival<L: Ledger>(
+    rt: &(impl AllocGlobal + CpuClock),
+    array: &mut BlockArray,
+    balances: &[u64],
+    arrival: Arrival,
+    steps: &mut Steps<L>,
+    times: &mut Times,
+) -> Result<u64, NoMemory>
+    requires nodes { length array.old.nodes ≡ 1024 }
+    ensures nodes { length array.new.nodes ≡ 1024 }
+{
+    let mut weights = vec![in rt.alloc(); 0u128; NODES as usize]?;
+    time_rounds(rt, array, balances, &mut weights, arrival, steps, times)?;
+    Ok(first_of(&weights))
+}
+
 /// Prints what was timed.
-fn tell(rt: &impl Print, order: &str, times: &Times, joined: u128) -> Result<()> {
-    let unmoved = times.unmoved.as_micros();
-    let ratio = Ratio {
-        whole: times.moved,
-        measure: times.passes,
-    };
-    println!(rt;
-        "weights and head of {VALIDATORS} validators over {NODES} nodes, {ROUNDS} times, all votes moved {order}, against as many passes: {ratio} (joined {joined})"
-    )?;
-    println!(rt; "no vote moved: {unmoved} us")?;
-    Ok(())
+fn tell(rt: &impl Print, what: &str, times: &Times, joined: u64) -> Result<()> {
+    tell_joined(rt, what, times.moved, times.passes, joined).and(tell_time(
+        rt,
+        "no vote moved",
+        times.unmoved,
+    ))
 }
 
-/// Times rounds, and prints what they took.
-fn measure_weighing<L: Ledger>(
+/// Times the rounds of an arrival, and prints what they took.
+fn measure_arrival<L: Ledger>(
     rt: &(impl AllocGlobal + Print + CpuClock),
     array: &mut BlockArray,
     balances: &[u64],
-    weights: &mut [u128],
-    order: &str,
+    what: &str,
     arrival: Arrival,
     steps: &mut Steps<L>,
 ) -> Result<()>
     requires nodes { length array.old.nodes ≡ 1024 }
     ensures nodes { length array.new.nodes ≡ 1024 }
 {
-    let mut times = Times {
-        moved: Duration::ZERO,
-        unmoved: Duration::ZERO,
-        passes: Duration::ZERO,
-    };
-    time_rounds(rt, array, balances, weights, arrival, steps, &mut times)?;
-    tell(rt, order, &times, weights.first().copied().unwrap_or(0))
-}
-
-/// The same with weights of its own.
-fn measure_rounds<L: Ledger>(
-    rt: &(impl AllocGlobal + Print + CpuClock),
-    array: &mut BlockArray,
-    balances: &[u64],
-    order: &str,
-    arrival: Arrival,
-    steps: &mut Steps<L>,
-) -> Result<()>
-    requires nodes { length array.old.nodes ≡ 1024 }
-    ensures nodes { length array.new.nodes ≡ 1024 }
-{
-    match vec![in rt.alloc(); 0u128; NODES as usize] {
-        Ok(mut weights) => measure_weighing(
-            rt,
-            array,
-            balances,
-            &mut weights,
-            order,
-            arrival,
-            steps,
-        ),
+    let mut times = Times::none();
+    match time_arrival(rt, array, balances, arrival, steps, &mut times) {
+        Ok(joined) => tell(rt, what, &times, joined),
         Err(refused) => Err(refused.into()),
     }
 }
 
+/// The balances of all validators.
+fn balances(alloc: Global) -> Result<Vec<u64>, AllocError>
+    ensures { IfOk result (λ list. length list.items ≤ 2 ^ 40) }
+{
+    vec![in alloc; BALANCE; VALIDATORS]
+}
+
 /// Times the rounds in each order.
+fn measure_orders<L: Ledger>(
+    rt: &(impl AllocGlobal + Print + CpuClock),
+    array: &mut BlockArray,
+    balances: &[u64],
+    steps: &mut Steps<L>,
+) -> Result<()>
+    requires nodes { length array.old.nodes ≡ 1024 }
+{
+    let what =
+        "weights and head of 262144 validators over 1024 nodes, 20 times, all votes moved in order of validators, against as many passes";
+    measure_arrival(rt, array, balances, what, IN_ORDER, steps)?;
+    let what = "the same in a scattered order";
+    measure_arrival(rt, array, balances, what, SCATTERED, steps)
+}
+
+/// Gives the array its balances, and measures on it.
 fn measure_on<L: Ledger>(
     rt: &(impl AllocGlobal + Print + CpuClock),
     array: &mut BlockArray,
@@ -359,14 +343,11 @@ fn measure_on<L: Ledger>(
 ) -> Result<()>
     requires nodes { length array.old.nodes ≡ 1024 }
 {
-    let balances = vec![in rt.alloc(); BALANCE; VALIDATORS]?;
     let total = u128::from(BALANCE) * VALIDATORS as u128;
-    array.set_balances(balances.clone()?, VALIDATORS as u64, total);
+    array.set_balances(balances(rt.alloc())?, VALIDATORS as u64, total);
     array.apply(steps);
-    let order = "in order of validators";
-    measure_rounds(rt, array, &balances, order, IN_ORDER, steps)?;
-    let order = "in a scattered order";
-    measure_rounds(rt, array, &balances, order, SCATTERED, steps)
+    let balances = balances(rt.alloc())?;
+    measure_orders(rt, array, &balances, steps)
 }
 
 /// Makes the array, and measures on it.

@@ -28,6 +28,7 @@ mod tree_many;
 mod tree_slots;
 
 use crate::genesis::Network;
+use crate::ratio::tell_text;
 use anyhow::Result;
 use std::env;
 use std::rt::Files;
@@ -71,7 +72,7 @@ fn measure_parts(rt: &(impl AllocGlobal + Print + CpuClock), word: &str) -> Resu
         "many" => tree_many::measure(rt),
         "pairs" => pairs::measure(rt),
         "shuffle" => shuffle::measure(rt),
-        _ => Ok(println!(rt; "{USAGE}")?),
+        _ => tell_text(rt, USAGE),
     }
 }
 
@@ -80,6 +81,6 @@ fn main(rt: HostRuntime) -> Result<()> {
     let _program = words.next();
     match words.next() {
         Some(word) => measure(&rt, word.as_str()),
-        None => Ok(println!(rt; "{USAGE}")?),
+        None => tell_text(&rt, USAGE),
     }
 }

@@ -1,17 +1,16 @@
 //! The operations of a block of 128 attestations on 16,384 validators, with the roots of block and state, against these
 //! roots alone.
 
-use crate::block::block_bytes;
-use crate::ratio::{Ratio, now, time_since};
-use crate::states::{CONFIG, Shape, mainnet_state};
+use crate::block::read_block;
+use crate::ratio::{now, tell_joined, tell_number, time_since};
+use crate::states::{CONFIG, Shape, read_mainnet};
 use anyhow::Result;
 use bc_preset::Config;
-use beacon_body::{BeaconBlock, SignedBeaconBlock};
+use beacon_body::BeaconBlock;
 use beacon_state::State;
+use block_operations::process_operations::process_operations;
 use hash_tree::Leaf;
-use ssz_codec::Ssz;
 use std::time::CpuClock;
-use transition::process_operations::process_operations;
 
 /// Roots the block and the state, takes the operations, and prints both times.
 fn time_operations(
@@ -22,14 +21,16 @@ fn time_operations(
 ) -> Result<()> {
     let begin = now(rt);
     let joined = block.root()[0] ^ state.root()[0];
-    let measure = time_since(rt, begin)?;
+    let measure = time_since(rt, begin);
     let done = process_operations(rt.alloc(), state, &block.body, 0, config).is_ok();
-    let whole = time_since(rt, begin)?;
-    let ratio = Ratio { whole, measure };
-    println!(rt;
-        "operations of a block of 128 attestations on 16,384 validators, with roots against roots: {ratio} (done {done}, joined {joined})"
-    )?;
-    Ok(())
+    let whole = time_since(rt, begin);
+    let what =
+        "operations of a block of 128 attestations on 16,384 validators, with roots against roots";
+    tell_joined(rt, what, whole, measure, u64::from(joined)).and(tell_number(
+        rt,
+        "blocks whose operations are done",
+        u64::from(done),
+    ))
 }
 
 /// The block on a state of 16,384 validators.
@@ -40,25 +41,17 @@ fn time_block(
 ) -> Result<()> {
     let mut shape = Shape::at_genesis(16_384);
     shape.slot = 32;
-    match mainnet_state(rt.alloc(), &shape) {
-        Ok(mut state) => time_operations(rt, &mut state, block, config),
+    match read_mainnet(rt, &shape) {
+        Ok(mut reading) => time_operations(rt, &mut reading.state, block, config),
         Err(error) => Err(error),
-    }
-}
-
-/// The block with the configuration.
-fn time_configured(rt: &(impl AllocGlobal + Print + CpuClock), block: &BeaconBlock) -> Result<()> {
-    match Config::read(CONFIG) {
-        Ok(config) => time_block(rt, block, &config),
-        Err(fault) => Err(fault.into()),
     }
 }
 
 /// A block of 128 attestations of the previous epoch on a state of 16,384 validators.
 pub fn measure(rt: &(impl AllocGlobal + Print + CpuClock)) -> Result<()> {
-    let bytes = block_bytes(rt.alloc())?;
-    match SignedBeaconBlock::read(rt.alloc(), &bytes) {
-        Ok(block) => time_configured(rt, &block.message),
-        Err(fault) => Err(fault.into()),
+    let config = Config::read(CONFIG)?;
+    match read_block(rt.alloc()) {
+        Ok(block) => time_block(rt, &block.message, &config),
+        Err(error) => Err(error),
     }
 }

@@ -1,11 +1,11 @@
 //! The parents of 4,096 pairs of nodes in lanes, against as many calls of `sha2`.
 
-use crate::ratio::{Ratio, now, time_since};
+use crate::ratio::{Time, now, tell_joined, time_since};
 use anyhow::Result;
 use pair_lanes::hash_pairs;
 use sha2::{Digest, Sha256};
 use std::alloc::{AllocError, Global};
-use std::time::{CpuClock, Duration};
+use std::time::CpuClock;
 
 /// How many pairs are hashed at a time.
 const PAIRS: u64 = 4096;
@@ -47,11 +47,7 @@ fn hash_all(pairs: &[[[u8; 32]; 2]]) -> u8 {
 }
 
 /// The time of hashing the pairs in lanes.
-fn time_lanes(
-    rt: &impl CpuClock,
-    pairs: &[[[u8; 32]; 2]],
-    out: &mut [[u8; 32]],
-) -> Result<Duration> {
+fn time_lanes(rt: &impl CpuClock, pairs: &[[[u8; 32]; 2]], out: &mut [[u8; 32]]) -> Time {
     let begin = now(rt);
     for _ in 0..TIMES {
         if out.len() == pairs.len() {
@@ -61,22 +57,26 @@ fn time_lanes(
     time_since(rt, begin)
 }
 
+/// The time of hashing them one by one, and what their hashes are joined to.
+fn time_alone(rt: &impl CpuClock, pairs: &[[[u8; 32]; 2]]) -> (Time, u8) {
+    let begin = now(rt);
+    let mut joined = 0;
+    for _ in 0..TIMES {
+        joined ^= hash_all(pairs);
+    }
+    (time_since(rt, begin), joined)
+}
+
 /// Hashes both ways, and prints both times.
 fn measure_both(
     rt: &(impl Print + CpuClock),
     pairs: &[[[u8; 32]; 2]],
     out: &mut [[u8; 32]],
 ) -> Result<()> {
-    let whole = time_lanes(rt, pairs, out)?;
-    let begin = now(rt);
-    let mut joined = 0;
-    for _ in 0..TIMES {
-        joined ^= hash_all(pairs);
-    }
-    let measure = time_since(rt, begin)?;
-    let ratio = Ratio { whole, measure };
-    println!(rt; "{PAIRS} pairs, {TIMES} times, in lanes: {ratio} (joined {joined})")?;
-    Ok(())
+    let whole = time_lanes(rt, pairs, out);
+    let (measure, joined) = time_alone(rt, pairs);
+    let what = "4096 pairs, 50 times, in lanes";
+    tell_joined(rt, what, whole, measure, u64::from(joined))
 }
 
 /// Makes the pairs, and measures.

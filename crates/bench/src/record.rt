@@ -7,6 +7,7 @@ use crate::chain::{Event, Shape, Told, chain};
 use crate::genesis::{Genesis, Network, read_genesis};
 use crate::hashes::tell_against_pairs;
 use crate::memory::resident;
+use crate::ratio::{Time, tell_numbers, tell_time};
 use crate::running::{Times, run_store};
 use crate::transitions::pass_all;
 use anyhow::Result;
@@ -16,7 +17,7 @@ use beacon_state::State;
 use ssz_codec::Ssz;
 use std::alloc::Global;
 use std::rt::Files;
-use std::time::{CpuClock, Duration};
+use std::time::CpuClock;
 
 /// How many slots the record has.
 const SLOTS: u64 = 128;
@@ -43,7 +44,7 @@ fn measure_growth(
     config: &Config,
     states: &mut Vec<State>,
     events: &[Event],
-) -> Result<(Duration, u64)> {
+) -> Result<(Time, u64)> {
     let before = resident(rt)?;
     let count = states.len() as u64;
     let time = pass_all(rt, config, states, events)?;
@@ -63,9 +64,8 @@ fn measure_states(
     let half = told.events.len() / 2;
     let first = pass_all(rt, config, states, &told.events[..half])?;
     let (second, state) = measure_growth(rt, config, states, &told.events[half..])?;
-    let whole = first.saturating_add(second);
-    let need = ", which their roots need";
-    tell_against_pairs(rt, "state transitions, ", &told.pairs, need, whole)?;
+    let what = "state transitions, against the pairs that their roots need";
+    tell_against_pairs(rt, what, &told.pairs, first.plus(second))?;
     Ok(state)
 }
 
@@ -134,21 +134,19 @@ fn measure_blocks(
     Ok((grown / later.max(1), written / once.max(1)))
 }
 
-/// Prints the memory that a block needs, and the time of a slot.
+/// Prints what the store took, the time of a slot, and the memory that a block needs.
 fn tell(rt: &impl Print, times: &Times, each: Each, events: usize) -> Result<()> {
-    times.tell(rt, events)?;
-    let slot = times.whole().as_micros() / u128::from(SLOTS);
-    println!(rt; "a slot: {slot} us")?;
-    let Each {
-        state,
-        block,
-        written,
-        store,
-    } = each;
-    println!(rt;
-        "bytes a block: {store} in a store; {state} of the state behind it, {block} of the block, {written} of its writing"
-    )?;
-    Ok(())
+    let slot = times.whole().part(SLOTS as u32);
+    let bytes = [
+        ("bytes a block in a store", each.store),
+        ("  of the state behind it", each.state),
+        ("  of the block", each.block),
+        ("  of its writing", each.written),
+    ];
+    times
+        .tell(rt, events)
+        .and(tell_time(rt, "a slot", slot))
+        .and(tell_numbers(rt, &bytes))
 }
 
 /// Takes the state transitions and a store through the record, and prints what they took, with what a block and its writing
@@ -233,8 +231,12 @@ pub fn measure(
     network: &Network,
     votes: u64,
 ) -> Result<()> {
-    let validators = network.validators;
-    println!(rt; "{SLOTS} slots on {validators} validators, each vote told {votes} times")?;
+    let numbers = [
+        ("slots", SLOTS),
+        ("validators", u64::from(network.validators)),
+        ("times that each vote is told", votes),
+    ];
+    tell_numbers(rt, &numbers)?;
     match read_genesis(rt.alloc(), network) {
         Ok(genesis) => measure_from(rt, &genesis, votes),
         Err(error) => Err(error),

@@ -7,7 +7,7 @@ ghost use Rattle.spec_state.specs.Genesis.{genesis_fault};
 use crate::chain::Event;
 use crate::genesis::Genesis;
 use crate::memory::resident;
-use crate::ratio::{now, time_since};
+use crate::ratio::{Time, now, tell_numbers, tell_time, time_since};
 use anyhow::{Result, bail};
 use bc_words::Steps;
 use beacon_state::genesis_check;
@@ -17,16 +17,16 @@ use std::alloc::Global;
 use std::marker::Brand;
 use std::rt::Files;
 use std::sync::ledger::{Blank, Ledger};
-use std::time::{CpuClock, Duration};
+use std::time::CpuClock;
 
 /// What the parts of a run took: events of kinds 1 to 4, and heads.
 #[derive(Clone, Copy)]
 pub struct Times {
-    ticks: Duration,
-    blocks: Duration,
-    wire: Duration,
-    carried: Duration,
-    pub heads: Duration,
+    ticks: Time,
+    blocks: Time,
+    wire: Time,
+    carried: Time,
+    pub heads: Time,
     accepted: u64,
     /// The bytes of memory that the second half of the events added.
     pub grown: u64,
@@ -36,23 +36,23 @@ impl Times {
     /// Nothing yet.
     fn none() -> Times {
         Times {
-            ticks: Duration::ZERO,
-            blocks: Duration::ZERO,
-            wire: Duration::ZERO,
-            carried: Duration::ZERO,
-            heads: Duration::ZERO,
+            ticks: Time::none(),
+            blocks: Time::none(),
+            wire: Time::none(),
+            carried: Time::none(),
+            heads: Time::none(),
             accepted: 0,
             grown: 0,
         }
     }
 
     /// Adds what an event took.
-    fn add(&mut self, kind: u8, time: Duration) {
+    fn add(&mut self, kind: u8, time: Time) {
         match kind {
-            1 => self.ticks = self.ticks.saturating_add(time),
-            2 => self.blocks = self.blocks.saturating_add(time),
-            3 => self.wire = self.wire.saturating_add(time),
-            _ => self.carried = self.carried.saturating_add(time),
+            1 => self.ticks = self.ticks.plus(time),
+            2 => self.blocks = self.blocks.plus(time),
+            3 => self.wire = self.wire.plus(time),
+            _ => self.carried = self.carried.plus(time),
         }
     }
 }
@@ -84,31 +84,19 @@ fn take_event(
 ) -> Result<()> {
     let begin = now(rt);
     let taken = is_taken(rt.alloc(), store, event)?;
-    times.add(event.kind, time_since(rt, begin)?);
+    times.add(event.kind, time_since(rt, begin));
     times.accepted = times.accepted.saturating_add(u64::from(taken));
     Ok(())
 }
 
 /// Takes the head.
-fn take_head(rt: &impl CpuClock, store: &mut Store, times: &mut Times) -> Result<()> {
+fn take_head(rt: &impl CpuClock, store: &mut Store, times: &mut Times) {
     let begin = now(rt);
     let _head = counted::<Brand>(store, Blank::new(1));
-    times.heads = times.heads.saturating_add(time_since(rt, begin)?);
-    Ok(())
+    times.heads = times.heads.plus(time_since(rt, begin));
 }
 
-/// Takes one event, and the head behind it.
-fn take(
-    rt: &(impl AllocGlobal + CpuClock),
-    store: &mut Store,
-    event: &Event,
-    times: &mut Times,
-) -> Result<()> {
-    take_event(rt, store, event, times)?;
-    take_head(rt, store, times)
-}
-
-/// Takes these events.
+/// Takes these events, and the head behind each.
 fn take_all(
     rt: &(impl AllocGlobal + CpuClock),
     store: &mut Store,
@@ -116,7 +104,8 @@ fn take_all(
     times: &mut Times,
 ) -> Result<()> {
     for event in events {
-        take(rt, store, event, times)?;
+        take_event(rt, store, event, times)?;
+        take_head(rt, store, times);
     }
     Ok(())
 }
@@ -160,16 +149,16 @@ pub fn run_store(
     }
 }
 
-/// A part of a run, and its share of the whole in hundredths.
-fn tell_part(rt: &impl Print, part: &str, time: Duration, whole: Duration) -> Result<()> {
-    let micros = time.as_micros();
-    let share = micros.saturating_mul(100) / whole.as_micros().max(1);
+/// Prints what a part of a run took, and its share of the whole in hundredths.
+fn tell_part(rt: &impl Print, part: &str, time: Time, whole: Time) -> Result<()> {
+    let micros = time.micros()?;
+    let share = micros.saturating_mul(100) / whole.micros()?.max(1);
     println!(rt; "  {part}: {micros} us, {share} in 100")?;
     Ok(())
 }
 
-/// The parts of a run, and their shares.
-fn tell_parts(rt: &impl Print, parts: &[(&str, Duration)], whole: Duration) -> Result<()> {
+/// The same of each of these parts.
+fn tell_parts(rt: &impl Print, parts: &[(&str, Time)], whole: Time) -> Result<()> {
     for (part, time) in parts {
         tell_part(rt, part, *time, whole)?;
     }
@@ -178,18 +167,19 @@ fn tell_parts(rt: &impl Print, parts: &[(&str, Duration)], whole: Duration) -> R
 
 impl Times {
     /// What all events and heads took.
-    pub fn whole(&self) -> Duration {
-        let events = self.ticks.saturating_add(self.blocks);
-        let votes = self.wire.saturating_add(self.carried);
-        events.saturating_add(votes).saturating_add(self.heads)
+    pub fn whole(&self) -> Time {
+        let events = self.ticks.plus(self.blocks);
+        let votes = self.wire.plus(self.carried);
+        events.plus(votes).plus(self.heads)
     }
 
     /// Prints what the parts took.
     pub fn tell(&self, rt: &impl Print, events: usize) -> Result<()> {
-        let accepted = self.accepted;
         let whole = self.whole();
-        let micros = whole.as_micros();
-        println!(rt; "a store with {events} events, {accepted} of them accepted: {micros} us")?;
+        let numbers = [
+            ("events of a store", events as u64),
+            ("accepted ones", self.accepted),
+        ];
         let parts = [
             ("ticks", self.ticks),
             ("blocks", self.blocks),
@@ -197,6 +187,8 @@ impl Times {
             ("carried votes", self.carried),
             ("heads", self.heads),
         ];
-        tell_parts(rt, &parts, whole)
+        tell_numbers(rt, &numbers)
+            .and(tell_time(rt, "the store with them", whole))
+            .and(tell_parts(rt, &parts, whole))
     }
 }

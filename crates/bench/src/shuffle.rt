@@ -2,12 +2,12 @@
 //! round's pivot, and one for each 256 of the positions whose bits say which pairs swap. Those are half of all positions,
 //! the later one of each pair.
 
-use crate::ratio::{Ratio, now, time_since};
+use crate::ratio::{Time, now, tell_joined, tell_number, tell_text, time_since};
 use anyhow::Result;
 use sha2::{Digest, Sha256};
 use shuffling::shuffle_all;
 use std::alloc::{AllocError, Global};
-use std::time::{CpuClock, Duration};
+use std::time::CpuClock;
 
 /// How many items are shuffled.
 const ITEMS: u64 = 1 << 20;
@@ -42,33 +42,44 @@ fn round_hashes(round: u8) -> u8 {
     joined
 }
 
-/// Hashes behind the shuffling that began then, and prints both times.
-fn measure_shuffled(rt: &(impl Print + CpuClock), shuffled: &[u64], whole: Duration) -> Result<()> {
-    let middle = now(rt);
+/// The time of as many hashes as all rounds take, and what they are joined to.
+fn time_rounds(rt: &impl CpuClock) -> (Time, u8) {
+    let begin = now(rt);
     let mut joined = 0;
     for round in 0..ROUNDS {
         joined ^= round_hashes(round);
     }
-    let ratio = Ratio {
-        whole,
-        measure: time_since(rt, middle)?,
-    };
-    let first = shuffled.get(0).copied().unwrap_or(0);
-    println!(rt;
-        "shuffle of 2^20 items at {ROUNDS} rounds: {ratio} (first {first}, joined {joined})"
-    )?;
-    Ok(())
+    (time_since(rt, begin), joined)
+}
+
+/// Shuffles so many items. Gives the first of them then, and the time; None where memory ran out.
+fn time_shuffle(rt: &(impl AllocGlobal + CpuClock), list: Vec<u64>) -> Option<(u64, Time)> {
+    if list.len() > 1 << 40 {
+        return None;
+    }
+    let begin = now(rt);
+    match shuffle_all(rt.alloc(), list, &[7; 32], u32::from(ROUNDS)) {
+        Ok(shuffled) => Some((shuffled.get(0).copied().unwrap_or(0), time_since(rt, begin))),
+        Err(_) => None,
+    }
+}
+
+/// Hashes behind the shuffling, and prints both times.
+fn tell(rt: &(impl Print + CpuClock), first: u64, whole: Time) -> Result<()> {
+    let (measure, joined) = time_rounds(rt);
+    let what = "shuffle of 2^20 items at 90 rounds";
+    tell_joined(rt, what, whole, measure, u64::from(joined)).and(tell_number(
+        rt,
+        "first item",
+        first,
+    ))
 }
 
 /// Shuffles, hashes, and prints both times.
 pub fn measure(rt: &(impl AllocGlobal + Print + CpuClock)) -> Result<()> {
     let list = numbers(rt.alloc(), ITEMS)?;
-    let begin = now(rt);
-    if list.len() > 1 << 40 {
-        return Ok(());
-    }
-    match shuffle_all(rt.alloc(), list, &[7; 32], u32::from(ROUNDS)) {
-        Ok(shuffled) => measure_shuffled(rt, &shuffled, time_since(rt, begin)?),
-        Err(_) => Ok(println!(rt; "shuffle: out of memory")?),
+    match time_shuffle(rt, list) {
+        Some((first, whole)) => tell(rt, first, whole),
+        None => tell_text(rt, "shuffle: out of memory"),
     }
 }

@@ -1,95 +1,72 @@
 //! A mainnet state that is read, checked and rooted, against the hashes of its tree.
 
-ghost use Rattle.std.specs.Prelude.{◌≤◌};
-
-use crate::ratio::{Ratio, now, time_since};
-use crate::states::{MOST, Shape, state_bytes};
+use crate::hashes::time_hashes;
+use crate::ratio::{Time, now, tell_joined, tell_numbers, tell_time, time_since};
+use crate::states::{MOST, Reading, Shape, read_mainnet};
 use anyhow::Result;
-use bc_preset::Preset;
 use beacon_state::{State, genesis_check};
-use hash_tree::Root;
-use sha2::{Digest, Sha256};
-use std::time::{CpuClock, Duration};
+use std::time::CpuClock;
 
 /// The pairs that are hashed: block and state roots, mixes, slashed balances, eight for each validator, those of their list
 /// and those of the balances. The few others are left out.
-fn pairs_of(validators: u32) -> u32
-    requires { validators ≤ 262144 }
-{
+fn pairs_of(validators: u32) -> u64 {
+    let validators = u64::from(validators);
     8_191 + 8_191 + 65_535 + 2_047 + 9 * validators + validators / 4 + 48
 }
 
-/// As many hashes of pairs, joined so that none is left out.
-fn pair_hashes(pairs: u32) -> u8 {
-    let mut pair = [0; 64];
-    let mut joined = 0;
-    for i in 0..pairs {
-        let number = i.to_le_bytes();
-        pair[0] = number[0];
-        pair[1] = number[1];
-        pair[2] = number[2];
-        joined ^= Sha256::digest(&pair)[0];
-    }
-    joined
+/// What checking and rooting a state gave.
+#[derive(Clone, Copy)]
+struct Checked {
+    /// Whether it is one of genesis.
+    is_genesis: bool,
+    /// The first byte of its root.
+    first: u8,
+    /// The time of both.
+    time: Time,
 }
 
-/// Prints what checking and rooting a state took, with the reading before it, against the hashes.
+/// Checks and roots a state.
+fn check(rt: &impl CpuClock, state: &State) -> Checked {
+    let begin = now(rt);
+    let is_genesis = genesis_check(state).is_ok();
+    let root = state.root();
+    Checked {
+        is_genesis,
+        first: root[0],
+        time: time_since(rt, begin),
+    }
+}
+
+/// Prints what reading, checking and rooting a state took, against the hashes.
 fn tell(
-    rt: &impl Print,
+    rt: &(impl Print + CpuClock),
     validators: u32,
-    is_genesis: bool,
-    reading: Duration,
-    ratio: &Ratio,
-    root: &Root,
-    joined: u8,
+    reading: Time,
+    checked: Checked,
 ) -> Result<()> {
-    let reading = reading.as_micros();
-    let verdict = if is_genesis {
-        "a genesis"
-    } else {
-        "no genesis"
-    };
-    let first = root[0];
-    println!(rt;
-        "state of {validators} validators, {verdict}, read in {reading} us, in all: {ratio} (root {first:02x}.., joined {joined})"
-    )?;
-    Ok(())
+    let (measure, joined) = time_hashes(rt, pairs_of(validators));
+    let whole = reading.plus(checked.time);
+    let numbers = [
+        ("validators of a state", u64::from(validators)),
+        ("states of genesis", u64::from(checked.is_genesis)),
+        ("first byte of its root", u64::from(checked.first)),
+    ];
+    tell_numbers(rt, &numbers)
+        .and(tell_time(rt, "reading", reading))
+        .and(tell_joined(rt, "in all", whole, measure, u64::from(joined)))
 }
 
 /// Checks, roots and hashes a state that was read, and prints both times.
-fn time_root(
-    rt: &(impl AllocGlobal + Print + CpuClock),
-    state: &State,
-    validators: u32,
-    begin: Option<Duration>,
-) -> Result<()>
-    requires { validators ≤ 262144 }
-{
-    let reading = time_since(rt, begin)?;
-    let is_genesis = genesis_check(state).is_ok();
-    let root = state.root();
-    let whole = time_since(rt, begin)?;
-    let middle = now(rt);
-    let joined = pair_hashes(pairs_of(validators));
-    let measure = time_since(rt, middle)?;
-    tell(
-        rt,
-        validators,
-        is_genesis,
-        reading,
-        &Ratio { whole, measure },
-        &root,
-        joined,
-    )
+fn time_root(rt: &(impl Print + CpuClock), validators: u32, reading: &Reading) -> Result<()> {
+    let checked = check(rt, &reading.state);
+    tell(rt, validators, reading.time, checked)
 }
 
 /// Reads, checks, roots, hashes, and prints both times.
 pub fn measure(rt: &(impl AllocGlobal + Print + CpuClock), validators: u32) -> Result<()> {
     let validators = validators.min(MOST);
-    let bytes = state_bytes(rt.alloc(), &Shape::at_genesis(validators))?;
-    let begin = now(rt);
-    match State::read(rt.alloc(), &Preset::mainnet(), &bytes) {
-        Ok(state) => time_root(rt, &state, validators, begin),
-        Err(fault) => Err(fault.into()),
+    match read_mainnet(rt, &Shape::at_genesis(validators)) {
+        Ok(reading) => time_root(rt, validators, &reading),
+        Err(error) => Err(error),
     }
 }

@@ -1,32 +1,56 @@
-//! Mainnet states to measure on, as bytes and read: validators that were active from genesis on, and the votes of all of
+//! States to measure on, as bytes and read: validators that were active from genesis on, and on mainnet the votes of all of
 //! them that wait for an epoch's end.
 
-ghost use Rattle.std.specs.Prelude.{◌≡◌, ◌≤◌, ◌<◌};
-
+use crate::ratio::{Time, now, time_since};
 use anyhow::Result;
 use bc_preset::Preset;
 use beacon_body::empty_body_root;
 use beacon_state::State;
 use std::alloc::{AllocError, Global};
+use std::time::CpuClock;
 
-/// The configuration that goes with these states.
+/// The configuration that goes with the mainnet states.
 pub const CONFIG: &[u8] =
     b"PRESET_BASE: 'mainnet'\nSECONDS_PER_SLOT: 12\nMIN_VALIDATOR_WITHDRAWABILITY_DELAY: 256\nSHARD_COMMITTEE_PERIOD: 256\nEJECTION_BALANCE: 16000000000\nMIN_PER_EPOCH_CHURN_LIMIT: 4\nCHURN_LIMIT_QUOTIENT: 65536\nPROPOSER_SCORE_BOOST: 40\n";
 
 /// How many validators a state has at most.
 pub const MOST: u32 = 262_144;
 
-/// The length of a mainnet state's fixed part.
-const FIXED: u32 = 2_687_377;
-
 /// The length of a validator.
-pub const VALIDATOR: u32 = 121;
+const VALIDATOR: usize = 121;
 
 /// The length of a pending attestation: its fixed part, and 128 bits with their delimiter.
-const PENDING: u32 = 148 + 17;
+const PENDING: usize = 148 + 17;
 
 /// How many pending attestations a list has at most.
 const MOST_PENDING: u32 = 4096;
+
+/// Where a preset has the parts of a state whose place its limits decide.
+#[derive(Clone, Copy)]
+pub struct Layout {
+    /// Where the part behind the latest roots begins.
+    historical: u32,
+    /// Where the part behind the mixes and slashed balances begins.
+    pending: u32,
+}
+
+impl Layout {
+    /// That of the minimal preset.
+    pub fn minimal() -> Layout {
+        Layout {
+            historical: 4_272,
+            pending: 6_928,
+        }
+    }
+
+    /// That of mainnet.
+    pub fn mainnet() -> Layout {
+        Layout {
+            historical: 524_464,
+            pending: 2_687_248,
+        }
+    }
+}
 
 /// What a state holds.
 #[derive(Clone, Copy)]
@@ -43,15 +67,44 @@ pub struct Shape {
 
 impl Shape {
     /// A state of genesis, of so many validators.
-    pub fn at_genesis(validators: u32) -> Shape
-        ensures { result.validators ≡ validators }
-    {
+    pub fn at_genesis(validators: u32) -> Shape {
         Shape {
             validators,
             slot: 0,
             previous: 0,
             current: 0,
         }
+    }
+}
+
+/// Where the parts of a state begin that differ in length, and where it ends.
+#[derive(Clone, Copy)]
+struct Places {
+    /// The registry.
+    validators: usize,
+    /// The balances.
+    balances: usize,
+    /// The pending attestations of the previous epoch.
+    previous: usize,
+    /// Those of the current epoch.
+    current: usize,
+    /// The end.
+    end: usize,
+}
+
+/// The places of a state's parts.
+fn places_of(layout: Layout, shape: &Shape) -> Places {
+    let count = shape.validators.min(MOST) as usize;
+    let validators = layout.pending as usize + 129;
+    let balances = validators + VALIDATOR * count;
+    let previous = balances + 8 * count;
+    let current = previous + (4 + PENDING) * (shape.previous.min(MOST_PENDING) as usize);
+    Places {
+        validators,
+        balances,
+        previous,
+        current,
+        end: current + (4 + PENDING) * (shape.current.min(MOST_PENDING) as usize),
     }
 }
 
@@ -62,94 +115,122 @@ pub fn put(bytes: &mut [u8], at: usize, piece: &[u8]) {
     }
 }
 
+/// Puts a number of eight bytes at a place.
+pub fn put_number(bytes: &mut [u8], at: usize, number: u64) {
+    put(bytes, at, &number.to_le_bytes());
+}
+
+/// Puts an offset, which has four bytes, at a place.
+pub fn put_offset(bytes: &mut [u8], at: usize, offset: usize) {
+    put(bytes, at, &(offset as u64).to_le_bytes()[..4]);
+}
+
 /// Puts the vote of a committee of 128, all of whom take part: slot and index, the epoch of the target, and the bits. All
 /// roots are zero, as those of the state are.
-pub fn put_vote(bytes: &mut [u8], content: usize, bits: usize, slot: u64, index: u64)
-    requires content { content < 4294967296 }
-    requires bits { bits < 4294967296 }
-{
-    put(bytes, content, &slot.to_le_bytes());
-    put(bytes, content + 8, &index.to_le_bytes());
-    put(bytes, content + 88, &(slot / 32).to_le_bytes());
+pub fn put_vote(bytes: &mut [u8], content: usize, bits: usize, slot: u64, index: u64) {
+    put_number(bytes, content, slot);
+    put_number(bytes, content.wrapping_add(8), index);
+    put_number(bytes, content.wrapping_add(88), slot / 32);
     put(bytes, bits, &[255; 16]);
-    put(bytes, bits + 16, &[1]);
+    put(bytes, bits.wrapping_add(16), &[1]);
 }
 
 /// Puts a validator that was active from genesis on, and its balance.
-pub fn put_validator(bytes: &mut [u8], at: usize, balance_at: usize, index: u32) {
-    let balance = 32_000_000_000u64.to_le_bytes();
+fn put_validator(bytes: &mut [u8], at: usize, balance_at: usize, index: u32) {
     put(bytes, at, &index.to_le_bytes());
-    put(bytes, at.saturating_add(80), &balance);
-    put(bytes, at.saturating_add(105), &[255; 16]);
-    put(bytes, balance_at, &balance);
+    put_number(bytes, at.wrapping_add(80), 32_000_000_000);
+    put(bytes, at.wrapping_add(105), &[255; 16]);
+    put_number(bytes, balance_at, 32_000_000_000);
 }
 
-/// Puts the pending attestation with a number, and the offset that leads to it.
-fn put_pending(bytes: &mut [u8], list: u32, count: u32, number: u32, slot: u64, index: u64)
-    requires list { list ≤ 200000000 }
-    requires count { count ≤ 4096 }
-    requires number { number ≤ 4096 }
-{
-    let start = 4 * count + PENDING * number;
-    let at = (list + start) as usize;
-    put(bytes, (list + 4 * number) as usize, &start.to_le_bytes());
-    put(bytes, at, &148u32.to_le_bytes());
-    put_vote(bytes, at + 4, at + 148, slot, index);
-    put(bytes, at + 132, &1u64.to_le_bytes());
+/// Puts the validators and their balances.
+fn put_validators(bytes: &mut [u8], places: &Places, count: u32) {
+    for index in 0..count {
+        let at = places.validators.wrapping_add(VALIDATOR * index as usize);
+        let balance_at = places.balances.wrapping_add(8 * index as usize);
+        put_validator(bytes, at, balance_at, index);
+    }
+}
+
+/// Puts a pending attestation, where it stands behind the begin of its list, and the offset that leads to it.
+fn put_pending(bytes: &mut [u8], offset_at: usize, at: usize, start: usize, slot: u64, index: u64) {
+    put_offset(bytes, offset_at, start);
+    put_offset(bytes, at, 148);
+    put_vote(bytes, at.wrapping_add(4), at.wrapping_add(148), slot, index);
+    put_number(bytes, at.wrapping_add(132), 1);
 }
 
 /// Puts a list of the votes of committees, from the first slot of an epoch on.
-fn put_list(bytes: &mut [u8], list: u32, count: u32, epoch: u64, validators: u32)
-    requires list { list ≤ 200000000 }
-    requires count { count ≤ 4096 }
-{
+fn put_list(bytes: &mut [u8], list: usize, count: u32, epoch: u64, validators: u32) {
     let per_slot = u64::from((validators / 4096).max(1));
     for number in 0..count {
         let place = u64::from(number);
-        let slot = epoch.saturating_mul(32).saturating_add(place / per_slot);
-        put_pending(bytes, list, count, number, slot, place % per_slot);
+        let slot = epoch.wrapping_mul(32).wrapping_add(place / per_slot);
+        let start = 4 * count as usize + PENDING * number as usize;
+        let offset_at = list.wrapping_add(4 * number as usize);
+        let at = list.wrapping_add(start);
+        put_pending(bytes, offset_at, at, start, slot, place % per_slot);
     }
 }
 
-/// The bytes of the state: all zero but for its slot, offsets, the header's body root, validators, balances and votes.
-pub fn state_bytes(alloc: Global, shape: &Shape) -> Result<Vec<u8>, AllocError> {
+/// Puts what the front of a state has: its slot, the header's body root, and offsets.
+fn put_front(bytes: &mut [u8], layout: Layout, slot: u64, places: &Places) {
+    let historical = layout.historical as usize;
+    let pending = layout.pending as usize;
+    put_number(bytes, 40, slot);
+    put(bytes, 144, &empty_body_root());
+    put_offset(bytes, historical, places.validators);
+    put_offset(bytes, historical + 76, places.validators);
+    put_offset(bytes, historical + 88, places.validators);
+    put_offset(bytes, historical + 92, places.balances);
+    put_offset(bytes, pending, places.previous);
+    put_offset(bytes, pending + 4, places.current);
+}
+
+/// Puts all that a state has.
+fn put_state(bytes: &mut [u8], layout: Layout, shape: &Shape, places: &Places) {
     let validators = shape.validators.min(MOST);
-    let before = shape.previous.min(MOST_PENDING);
-    let now = shape.current.min(MOST_PENDING);
-    let balances = FIXED + VALIDATOR * validators;
-    let previous = balances + 8 * validators;
-    let current = previous + (4 + PENDING) * before;
-    let end = current + (4 + PENDING) * now;
-    let mut bytes = vec![in alloc; 0u8; end as usize]?;
-    put(&mut bytes, 40, &shape.slot.to_le_bytes());
-    put(&mut bytes, 144, &empty_body_root());
-    for at in [524_464, 524_540, 524_552] {
-        put(&mut bytes, at, &FIXED.to_le_bytes());
-    }
-    put(&mut bytes, 524_556, &balances.to_le_bytes());
-    put(&mut bytes, 2_687_248, &previous.to_le_bytes());
-    put(&mut bytes, 2_687_252, &current.to_le_bytes());
     let epoch = shape.slot / 32;
+    let previous = shape.previous.min(MOST_PENDING);
+    let current = shape.current.min(MOST_PENDING);
+    put_front(bytes, layout, shape.slot, places);
     put_list(
-        &mut bytes,
+        bytes,
+        places.previous,
         previous,
-        before,
         epoch.saturating_sub(1),
         validators,
     );
-    put_list(&mut bytes, current, now, epoch, validators);
-    for index in 0..validators {
-        let at = (FIXED + VALIDATOR * index) as usize;
-        put_validator(&mut bytes, at, (balances + 8 * index) as usize, index);
-    }
+    put_list(bytes, places.current, current, epoch, validators);
+    put_validators(bytes, places, validators);
+}
+
+/// The bytes of the state: all zero but for its slot, offsets, the header's body root, validators, balances and votes.
+pub fn state_bytes(alloc: Global, layout: Layout, shape: &Shape) -> Result<Vec<u8>, AllocError> {
+    let places = places_of(layout, shape);
+    let mut bytes = vec![in alloc; 0u8; places.end]?;
+    put_state(&mut bytes, layout, shape, &places);
     Ok(bytes)
 }
 
-/// The mainnet state of this shape.
-pub fn mainnet_state(alloc: Global, shape: &Shape) -> Result<State> {
-    let bytes = state_bytes(alloc, shape)?;
-    match State::read(alloc, &Preset::mainnet(), &bytes) {
-        Ok(state) => Ok(state),
+/// A state that was read, and the time of that.
+#[derive(Drop)]
+pub struct Reading {
+    /// The state.
+    pub state: State,
+    /// The time.
+    pub time: Time,
+}
+
+/// Reads the mainnet state of this shape.
+pub fn read_mainnet(rt: &(impl AllocGlobal + CpuClock), shape: &Shape) -> Result<Reading> {
+    let bytes = state_bytes(rt.alloc(), Layout::mainnet(), shape)?;
+    let begin = now(rt);
+    match State::read(rt.alloc(), &Preset::mainnet(), &bytes) {
+        Ok(state) => Ok(Reading {
+            state,
+            time: time_since(rt, begin),
+        }),
         Err(fault) => Err(fault.into()),
     }
 }

@@ -2,31 +2,15 @@
 //! states behind them, all of which are kept.
 
 use crate::chain::Event;
-use crate::ratio::{now, time_since};
+use crate::ratio::{Time, now, time_since};
 use anyhow::{Result, bail};
 use bc_preset::Config;
 use beacon_body::SignedBeaconBlock;
 use beacon_state::State;
 use ssz_codec::Ssz;
-use std::time::{CpuClock, Duration};
+use std::time::CpuClock;
 use transition::is_sound;
 use transition::state_transition::state_transition;
-
-/// The state behind a block, where its transition began then: the time of that is added.
-fn timed(
-    rt: &impl CpuClock,
-    state: State,
-    begin: Option<Duration>,
-    time: &mut Duration,
-) -> Result<State> {
-    match time_since(rt, begin) {
-        Ok(since) => {
-            *time = time.saturating_add(since);
-            Ok(state)
-        }
-        Err(error) => Err(error),
-    }
-}
 
 /// The state behind a block, and the time of its transition, which is added.
 fn time_block(
@@ -34,14 +18,17 @@ fn time_block(
     config: &Config,
     state: &State,
     block: &SignedBeaconBlock,
-    time: &mut Duration,
+    time: &mut Time,
 ) -> Result<State> {
     if !is_sound(rt.alloc(), state)? {
         bail!("the state isn't sound");
     }
     let begin = now(rt);
     match state_transition(rt.alloc(), state, block, config) {
-        Ok(step) => timed(rt, step.state, begin, time),
+        Ok(step) => {
+            *time = time.plus(time_since(rt, begin));
+            Ok(step.state)
+        }
         Err(stop) => Err(stop.into()),
     }
 }
@@ -52,7 +39,7 @@ fn time_written(
     config: &Config,
     state: &State,
     bytes: &[u8],
-    time: &mut Duration,
+    time: &mut Time,
 ) -> Result<State> {
     match SignedBeaconBlock::read(rt.alloc(), bytes) {
         Ok(block) => time_block(rt, config, state, &block, time),
@@ -66,7 +53,7 @@ fn time_on_last(
     config: &Config,
     states: &[State],
     bytes: &[u8],
-    time: &mut Duration,
+    time: &mut Time,
 ) -> Result<State> {
     match states.last() {
         Some(state) => time_written(rt, config, state, bytes, time),
@@ -80,7 +67,7 @@ fn pass(
     config: &Config,
     states: &mut Vec<State>,
     bytes: &[u8],
-    time: &mut Duration,
+    time: &mut Time,
 ) -> Result<()> {
     match time_on_last(rt, config, states, bytes, time) {
         Ok(state) => Ok(states.push(state)?),
@@ -95,8 +82,8 @@ pub fn pass_all(
     config: &Config,
     states: &mut Vec<State>,
     events: &[Event],
-) -> Result<Duration> {
-    let mut time = Duration::ZERO;
+) -> Result<Time> {
+    let mut time = Time::none();
     for event in events {
         if event.kind == 2 {
             pass(rt, config, states, &event.payload, &mut time)?;

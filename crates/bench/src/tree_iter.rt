@@ -1,13 +1,13 @@
 //! A pass over the registry and the balances of a state of 262,144 validators by their iterators, against a pass over vectors of
 //! the same.
 
-use crate::ratio::{Ratio, now, time_since};
-use crate::states::{Shape, mainnet_state};
+use crate::ratio::{Time, now, tell_joined, tell_ratio, time_since};
+use crate::states::{Shape, read_mainnet};
 use anyhow::Result;
 use beacon_state::State;
 use beacon_types::Validator;
 use std::alloc::{AllocError, Global};
-use std::time::{CpuClock, Duration};
+use std::time::CpuClock;
 
 /// How many validators there are.
 const VALIDATORS: u32 = 262_144;
@@ -107,77 +107,49 @@ fn pass_once(pass: Pass<'_>) -> u64 {
 }
 
 /// The time of so many passes, and what they are joined to.
-fn time_pass(rt: &impl CpuClock, pass: Pass<'_>) -> Result<(Duration, u64)> {
+fn time_pass(rt: &impl CpuClock, pass: Pass<'_>) -> (Time, u64) {
     let begin = now(rt);
     let mut joined = 0;
     for _ in 0..PASSES {
         joined ^= pass_once(pass);
     }
-    Ok((time_since(rt, begin)?, joined))
+    (time_since(rt, begin), joined)
 }
 
 /// Passes over both registries, and prints their times.
 fn time_registry(
-    rt: &(impl AllocGlobal + Print + CpuClock),
+    rt: &(impl Print + CpuClock),
     state: &State,
     validators: &[Validator],
 ) -> Result<()> {
-    let (tree, first) = time_pass(rt, Pass::Registry(state))?;
-    let (vector, second) = time_pass(rt, Pass::Vector(validators))?;
-    let (walked, third) = time_pass(rt, Pass::Walks(state))?;
-    let passes = Ratio {
-        whole: tree,
-        measure: vector,
-    };
-    let walks = Ratio {
-        whole: walked,
-        measure: tree,
-    };
+    let (tree, first) = time_pass(rt, Pass::Registry(state));
+    let (vector, second) = time_pass(rt, Pass::Vector(validators));
+    let (walked, third) = time_pass(rt, Pass::Walks(state));
     let joined = first ^ second ^ third;
-    println!(rt;
-        "{PASSES} passes over {VALIDATORS} validators, against a vector: {passes} (joined {joined})"
-    )?;
-    println!(rt; "a walk to each of them, against these passes: {walks}")?;
-    Ok(())
+    let what = "20 passes over 262144 validators, against a vector";
+    let walks = "a walk to each of them, against these passes";
+    tell_joined(rt, what, tree, vector, joined).and(tell_ratio(rt, walks, walked, tree))
 }
 
 /// Passes over the balances of both, and prints their times.
-fn time_balances(
-    rt: &(impl AllocGlobal + Print + CpuClock),
-    state: &State,
-    balances: &[u64],
-) -> Result<()> {
-    let (whole, first) = time_pass(rt, Pass::Balances(state))?;
-    let (measure, second) = time_pass(rt, Pass::Numbers(balances))?;
-    let passes = Ratio { whole, measure };
-    let joined = first ^ second;
-    println!(rt;
-        "{PASSES} passes over {VALIDATORS} balances, against a vector: {passes} (joined {joined})"
-    )?;
-    Ok(())
-}
-
-/// The same of the registry, with a vector of it.
-fn time_registries(rt: &(impl AllocGlobal + Print + CpuClock), state: &State) -> Result<()> {
-    match registry_of(rt.alloc(), state) {
-        Ok(validators) => time_registry(rt, state, &validators),
-        Err(refused) => Err(refused.into()),
-    }
+fn time_balances(rt: &(impl Print + CpuClock), state: &State, balances: &[u64]) -> Result<()> {
+    let (whole, first) = time_pass(rt, Pass::Balances(state));
+    let (measure, second) = time_pass(rt, Pass::Numbers(balances));
+    let what = "20 passes over 262144 balances, against a vector";
+    tell_joined(rt, what, whole, measure, first ^ second)
 }
 
 /// Makes the vectors, and passes over all.
 fn time_passes(rt: &(impl AllocGlobal + Print + CpuClock), state: &State) -> Result<()> {
-    time_registries(rt, state)?;
-    match balances_of(rt.alloc(), state) {
-        Ok(balances) => time_balances(rt, state, &balances),
-        Err(refused) => Err(refused.into()),
-    }
+    let validators = registry_of(rt.alloc(), state)?;
+    let balances = balances_of(rt.alloc(), state)?;
+    time_registry(rt, state, &validators).and(time_balances(rt, state, &balances))
 }
 
 /// Reads the state, passes over it, and prints the times.
 pub fn measure(rt: &(impl AllocGlobal + Print + CpuClock)) -> Result<()> {
-    match mainnet_state(rt.alloc(), &Shape::at_genesis(VALIDATORS)) {
-        Ok(state) => time_passes(rt, &state),
+    match read_mainnet(rt, &Shape::at_genesis(VALIDATORS)) {
+        Ok(reading) => time_passes(rt, &reading.state),
         Err(error) => Err(error),
     }
 }

@@ -3,15 +3,16 @@
 ghost use Rattle.std.specs.Prelude.{◌≡◌, ◌<◌, ◌≤◌, ◌^◌, length, IfOk};
 ghost use Rattle.tree_nodes.specs.Changes.{AreChanges};
 
-use crate::ratio::{Ratio, now, time_since};
+use crate::ratio::{Time, now, tell_number, tell_ratio, time_since};
 use anyhow::Result;
 use bc_words::{NoMemory, Steps};
 use beacon_types::Validator;
+use hash_tree::Root;
 use shared_tree::{PackedList, SharedList};
 use std::alloc::Global;
 use std::marker::Brand;
 use std::sync::ledger::{Blank, Ledger};
-use std::time::{CpuClock, Duration};
+use std::time::CpuClock;
 
 /// How many items there are.
 const ITEMS: u64 = 262_144;
@@ -81,74 +82,77 @@ fn number_changes(alloc: Global) -> Result<Vec<(u64, u64)>, NoMemory>
 
 /// The time in which every place of the list is set.
 fn time_set<L: Ledger>(
-    rt: &impl CpuClock,
+    rt: &(impl AllocGlobal + CpuClock),
     list: &mut SharedList<Validator>,
-    changes: Vec<(u64, Validator)>,
     blank: Blank,
-) -> Result<Duration>
+) -> Result<Time, NoMemory>
     requires name { blank.name ≡ L.name }
     requires parts { blank.parts ≡ L.parts }
     requires some { 0 < blank.parts }
-    requires places { AreChanges 0 (length list.old.items) changes.items }
+    requires all { length list.old.items ≡ 262144 }
 {
     let mut steps = Steps::<L>::new(blank);
+    let changes = validator_changes(rt.alloc())?;
     let begin = now(rt);
     list.set_many(changes, &mut steps)?;
-    time_since(rt, begin)
+    Ok(time_since(rt, begin))
 }
 
 /// The same of numbers.
 fn time_set_numbers<L: Ledger>(
-    rt: &impl CpuClock,
+    rt: &(impl AllocGlobal + CpuClock),
     list: &mut PackedList,
-    changes: Vec<(u64, u64)>,
     blank: Blank,
-) -> Result<Duration>
+) -> Result<Time, NoMemory>
     requires name { blank.name ≡ L.name }
     requires parts { blank.parts ≡ L.parts }
     requires some { 0 < blank.parts }
-    requires places { AreChanges 0 (length list.old.items) changes.items }
+    requires all { length list.old.items ≡ 262144 }
 {
     let mut steps = Steps::<L>::new(blank);
+    let changes = number_changes(rt.alloc())?;
     let begin = now(rt);
     list.set_many(changes, &mut steps)?;
-    time_since(rt, begin)
+    Ok(time_since(rt, begin))
 }
 
 /// Prints how long each item of a list was set, and how long the list was made.
-fn tell(rt: &impl Print, items: &str, times: &Ratio, first: u8) -> Result<()> {
-    println!(rt;
-        "every one of {ITEMS} {items} set, against their list made anew: {times} (root {first:02x}..)"
-    )?;
-    Ok(())
+fn tell(rt: &impl Print, what: &str, whole: Time, measure: Time, root: &Root) -> Result<()> {
+    tell_ratio(rt, what, whole, measure).and(tell_number(
+        rt,
+        "first byte of the root",
+        u64::from(root[0]),
+    ))
 }
 
-/// Sets each of the validators of a list that was begun then, and prints both times.
+/// Sets each of the validators of a list that was made in this time, and prints both times.
 fn measure_setting(
     rt: &(impl AllocGlobal + Print + CpuClock),
     list: &mut SharedList<Validator>,
-    begin: Option<Duration>,
+    measure: Time,
 ) -> Result<()>
     requires all { length list.old.items ≡ 262144 }
 {
-    let measure = time_since(rt, begin)?;
-    let changes = validator_changes(rt.alloc())?;
-    let whole = time_set::<Brand>(rt, list, changes, Blank::new(1))?;
-    tell(rt, "validators", &Ratio { whole, measure }, list.root()[0])
+    let what = "every one of 262144 validators set, against their list made anew";
+    match time_set::<Brand>(rt, list, Blank::new(1)) {
+        Ok(whole) => tell(rt, what, whole, measure, &list.root()),
+        Err(stop) => Err(stop.into()),
+    }
 }
 
 /// The same of numbers.
 fn measure_setting_numbers(
     rt: &(impl AllocGlobal + Print + CpuClock),
     list: &mut PackedList,
-    begin: Option<Duration>,
+    measure: Time,
 ) -> Result<()>
     requires all { length list.old.items ≡ 262144 }
 {
-    let measure = time_since(rt, begin)?;
-    let changes = number_changes(rt.alloc())?;
-    let whole = time_set_numbers::<Brand>(rt, list, changes, Blank::new(1))?;
-    tell(rt, "numbers", &Ratio { whole, measure }, list.root()[0])
+    let what = "every one of 262144 numbers set, against their list made anew";
+    match time_set_numbers::<Brand>(rt, list, Blank::new(1)) {
+        Ok(whole) => tell(rt, what, whole, measure, &list.root()),
+        Err(stop) => Err(stop.into()),
+    }
 }
 
 /// Makes a list of validators, sets each, and prints both times.
@@ -156,7 +160,7 @@ fn measure_validators(rt: &(impl AllocGlobal + Print + CpuClock)) -> Result<()> 
     let items = validators(rt.alloc())?;
     let begin = now(rt);
     match SharedList::from_vec(items, LIMIT) {
-        Ok(mut list) => measure_setting(rt, &mut list, begin),
+        Ok(mut list) => measure_setting(rt, &mut list, time_since(rt, begin)),
         Err(stop) => Err(stop.into()),
     }
 }
@@ -166,7 +170,7 @@ fn measure_numbers(rt: &(impl AllocGlobal + Print + CpuClock)) -> Result<()> {
     let items = numbers(rt.alloc())?;
     let begin = now(rt);
     match PackedList::from_vec(items, LIMIT) {
-        Ok(mut list) => measure_setting_numbers(rt, &mut list, begin),
+        Ok(mut list) => measure_setting_numbers(rt, &mut list, time_since(rt, begin)),
         Err(stop) => Err(stop.into()),
     }
 }

@@ -1,12 +1,11 @@
 //! The penalties of the slashed (beacon-chain.md, "process_slashings").
 
-ghost use Rattle.std.specs.Prelude.{◌≡◌, ◌≤◌, ◌+◌, ◌/◌, ◌==◌, ◌&&◌, length, slice_get, slice_index, Some, IfOk};
-ghost use Rattle.bc_words.specs.Outcome.{Changes, GivesBy, GivesExactly, checked_mul, checked_sum};
+ghost use Rattle.std.specs.Prelude.{◌≡◌, ◌≤◌, ◌+◌, ◌/◌, ◌==◌, ◌&&◌, slice_index};
+ghost use Rattle.bc_words.specs.Outcome.{Changes, GivesExactly, checked_mul, checked_sum};
 ghost use Rattle.spec_state.specs.Accessors.{get_current_epoch};
-ghost use Rattle.spec_epochs.specs.Each.{validator_indices, checked_map};
 ghost use Rattle.spec_epochs.specs.ProcessSlashings.{process_slashings, penalized_balance};
 
-use crate::balances::next_balance;
+use crate::each_validator::{EachValidator, made_of_each};
 use balance_totals::{current_epoch, total_active};
 use bc_words::{Refusal, Stop, checked_add, checked_mul};
 use beacon_state::State;
@@ -50,61 +49,39 @@ fn whole_penalty(numerator: u64, total: u64, increment: u64) -> Result<u64, Stop
     checked_mul(numerator / total, increment)
 }
 
-/// The balance of a validator without its penalty, in Gwei. `slashed` is what was slashed lately, at most `total`; `index` is
-/// the validator's own, at which `balance` stands where there is one.
-#[tactic(auto, unfolding(spec_epochs::specs::ProcessSlashings::penalized_balance), using(bc_preset::proofs::Bounds::preset_bounds))]
-fn penalized_balance(
-    state: &State,
+/// Balances without their penalties, in Gwei: what was slashed lately, at most the total, and the total active balance.
+#[derive(Clone, Copy)]
+struct Penalized {
     slashed: u64,
     total: u64,
-    index: u64,
-    validator: &Validator,
-    balance: Option<u64>,
-) -> Result<u64, Stop>
-    requires total { 1 ≤ total }
-    requires validator { slice_get state.now.validators index ≡ Some validator.now }
-    requires balance { slice_get state.now.balances index ≡ balance }
-    ensures { GivesExactly result (penalized_balance state.now slashed total index) }
-{
-    let Some(balance) = balance else {
-        return Err(Stop::Refused(Refusal::IndexRange));
-    };
-    if !pays(state, validator) {
-        return Ok(balance);
-    }
-    let increment = state.preset().effective_balance_increment;
-    let numerator = checked_mul(validator.effective_balance / increment, slashed)?;
-    let penalty = whole_penalty(numerator, total, increment)?;
-    Ok(balance.saturating_sub(penalty))
 }
 
-/// The balances of all validators without their penalties, in Gwei.
-#[tactic(auto, unfolding(spec_epochs::specs::Each::validator_indices), using(crate::proofs::MadeLeft::making, spec_epochs::proofs::Each::made_few, balance_totals::proofs::LeftOf::first_left, balance_totals::proofs::LeftOf::others_left))]
-fn penalized_balances(
-    alloc: Global,
-    state: &State,
-    slashed: u64,
-    total: u64,
-) -> Result<Vec<u64>, Stop>
-    requires { 1 ≤ total }
-    ensures exact { GivesBy (λ balances. balances.items) result (checked_map (penalized_balance state.now slashed total) (validator_indices state.now)) }
-    ensures few { IfOk result (λ balances. length balances.items ≤ state.now.preset.validator_registry_limit) }
-{
-    let mut penalized = Vec::with_capacity(alloc, state.validators_len() as usize)?;
-    let mut balances = state.balance_list().iter();
-    let validators = state.validator_list().iter();
-    for (index, validator) in validators.enumerate() {
-        let balance = next_balance(&mut balances);
-        penalized.push(penalized_balance(
-            state,
-            slashed,
-            total,
-            index as u64,
-            validator,
-            balance,
-        )?)?;
+impl EachValidator for Penalized {
+    type Made = u64;
+
+    ghost is_fit = { λ kept. 1 ≤ kept.total };
+
+    ghost made_of = { λ kept state. penalized_balance state kept.slashed kept.total };
+
+    #[tactic(auto, unfolding(spec_epochs::specs::ProcessSlashings::penalized_balance), using(bc_preset::proofs::Bounds::preset_bounds))]
+    fn make(
+        &self,
+        state: &State,
+        _index: u64,
+        validator: &Validator,
+        balance: Option<u64>,
+    ) -> Result<u64, Stop> {
+        let Some(balance) = balance else {
+            return Err(Stop::Refused(Refusal::IndexRange));
+        };
+        if !pays(state, validator) {
+            return Ok(balance);
+        }
+        let increment = state.preset().effective_balance_increment;
+        let numerator = checked_mul(validator.effective_balance / increment, self.slashed)?;
+        let penalty = whole_penalty(numerator, self.total, increment)?;
+        Ok(balance.saturating_sub(penalty))
     }
-    Ok(penalized)
 }
 
 /// Takes from each slashed validator that is half way to its withdrawal its part of what was slashed lately
@@ -116,7 +93,11 @@ pub fn process_slashings(alloc: Global, state: &mut State) -> Result<(), Stop>
     let total = total_active(state, current_epoch(state))?;
     let slashed = slashed_lately(state)?;
     let multiplied = checked_mul(slashed, state.preset().proportional_slashing_multiplier)?;
-    let balances = penalized_balances(alloc, state, multiplied.min(total), total)?;
+    let penalized = Penalized {
+        slashed: multiplied.min(total),
+        total,
+    };
+    let balances = made_of_each(alloc, state, &penalized)?;
     state.set_balances(balances)?;
     Ok(())
 }

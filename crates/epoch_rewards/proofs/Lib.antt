@@ -1,6 +1,3 @@
-pub mod Among
-pub mod Gathered
-pub mod Divisor
 pub mod Components
 pub mod Included
 pub mod Nothing

@@ -22,12 +22,16 @@ use Rattle.spec_epochs.specs.ProcessRewardsAndPenalties.{rewarded_balance, proce
 use Rattle.participation.specs.declared.inclusions.Inclusion.{Inclusion}
 use Rattle.participation.specs.inside.Marks.{flagged, flagged_from, attester_flags}
 use Rattle.participation.specs.inside.Inclusions.{inclusion_entries}
-use Rattle.epoch_rewards.specs.declared.paid.Delta.{Delta}
-use Rattle.epoch_rewards.specs.inside.Components.{component_reward, component_penalty, needed_balance, component_deltas}
-use Rattle.epoch_rewards.specs.inside.Inclusions.{all_included, own_reward, joined_reward, all_joined, joined_deltas}
-use Rattle.epoch_rewards.specs.inside.Leak.{leak_penalty, penalties_of, leak_deltas}
+use Rattle.validator_rewards.specs.declared.paid.Delta.{Delta}
+use Rattle.validator_rewards.specs.inside.Components.{component_reward, component_penalty}
+use Rattle.epoch_rewards.specs.inside.Components.{needed_balance, component_deltas}
+use Rattle.validator_rewards.specs.inside.Inclusions.{own_reward, joined_reward}
+use Rattle.epoch_rewards.specs.inside.Inclusions.{all_included, all_joined, joined_deltas}
+use Rattle.validator_rewards.specs.inside.Leak.{leak_penalty}
+use Rattle.epoch_rewards.specs.inside.Leak.{penalties_of, leak_deltas}
 use Rattle.epoch_rewards.specs.inside.Added.{added}
-use Rattle.epoch_rewards.specs.inside.Paid.{sum_of_four, component_delta, leak_part, settled, summed, paid_balance, weights_by, all_rewarded, all_paid}
+use Rattle.validator_rewards.specs.inside.Paid.{sum_of_four, component_delta, leak_part, settled, summed, paid_balance, weights_by}
+use Rattle.epoch_rewards.specs.inside.Paid.{all_rewarded, all_paid}
 use Rattle.epoch_rewards.proofs.Overflows.{OnlyOverflows, bound_only, add_only, sub_only, mul_only, total_only, item_only, validator_only, base_only, proposer_only, own_only}
 use Rattle.epoch_rewards.proofs.Gained.{all_only}
 use Rattle.epoch_rewards.proofs.Joined.{same_map, indices_below, filtered_below, joined_are}

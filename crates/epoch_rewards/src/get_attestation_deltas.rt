@@ -14,25 +14,32 @@ use crate::get_inactivity_penalty_deltas::inactivity_deltas;
 use crate::get_inclusion_delay_deltas::inclusion_deltas;
 use crate::get_source_deltas::source_deltas;
 use crate::get_target_deltas::target_deltas;
-use crate::numbers::{number_at, push_made};
-use crate::paid::sum_of_four;
+use crate::numbers::push_made;
 use bc_words::Stop;
 use beacon_state::State;
 use committees::EpochCommittees;
 use spec_epochs::Deltas;
 use ssz_codec::Items;
 use std::alloc::Global;
+use validator_rewards::numbers::number_at;
+use validator_rewards::paid::sum_of_four;
 
 /// The sum of what stands at a place of four lists.
-#[tactic(auto, unfolding(spec_epochs::specs::GetAttestationDeltas::sum_at, crate::specs::inside::Paid::sum_of_four))]
-fn sum_at(a: &[u64], b: &[u64], c: &[u64], d: &[u64], index: u64) -> Result<u64, Stop>
+#[tactic(auto, unfolding(spec_epochs::specs::GetAttestationDeltas::sum_at, validator_rewards::specs::inside::Paid::sum_of_four))]
+fn sum_at(
+    a: &Items<u64>,
+    b: &Items<u64>,
+    c: &Items<u64>,
+    d: &Items<u64>,
+    index: u64,
+) -> Result<u64, Stop>
     ensures { GivesExactly result (sum_at a.now b.now c.now d.now index) }
 {
     sum_of_four(
-        number_at(a, index),
-        number_at(b, index),
-        number_at(c, index),
-        number_at(d, index),
+        number_at(a.as_slice(), index),
+        number_at(b.as_slice(), index),
+        number_at(c.as_slice(), index),
+        number_at(d.as_slice(), index),
     )
 }
 
@@ -41,10 +48,10 @@ fn sum_at(a: &[u64], b: &[u64], c: &[u64], d: &[u64], index: u64) -> Result<u64,
 fn sums(
     alloc: Global,
     state: &State,
-    a: &[u64],
-    b: &[u64],
-    c: &[u64],
-    d: &[u64],
+    a: &Items<u64>,
+    b: &Items<u64>,
+    c: &Items<u64>,
+    d: &Items<u64>,
 ) -> Result<Vec<u64>, Stop>
     ensures { GivesBy (λ sums. sums.items) result (checked_map (sum_at a.now b.now c.now d.now) (validator_indices state.now)) }
 {
@@ -75,18 +82,18 @@ fn added(
     let rewards = sums(
         alloc,
         state,
-        source.rewards.as_slice(),
-        target.rewards.as_slice(),
-        head.rewards.as_slice(),
-        inclusion.rewards.as_slice(),
+        &source.rewards,
+        &target.rewards,
+        &head.rewards,
+        &inclusion.rewards,
     )?;
     let penalties = sums(
         alloc,
         state,
-        source.penalties.as_slice(),
-        target.penalties.as_slice(),
-        head.penalties.as_slice(),
-        inactivity.penalties.as_slice(),
+        &source.penalties,
+        &target.penalties,
+        &head.penalties,
+        &inactivity.penalties,
     )?;
     Ok(Deltas {
         rewards: Items::from_vec(rewards),

@@ -1,116 +1,28 @@
 //! Penalties of the leak (beacon-chain.md, "get_inactivity_penalty_deltas").
 
-ghost use Rattle.std.specs.Prelude.{◌≡◌, if◌then◌else◌};
-ghost use Rattle.bc_words.specs.Outcome.{Gives, GivesBy, GivesExactly, done};
+ghost use Rattle.std.specs.Prelude.{◌≡◌};
+ghost use Rattle.bc_words.specs.Outcome.{Gives, GivesBy};
 ghost use Rattle.spec_state.specs.Accessors.{get_previous_epoch, epoch_committees};
 ghost use Rattle.spec_state.specs.Soundness.{IsSoundWithinEpoch};
-ghost use Rattle.spec_epochs.specs.Each.{validator_indices, checked_map, is_among};
-ghost use Rattle.spec_epochs.specs.GetInactivityPenaltyDeltas.{absence_penalty, inactivity_penalty, get_inactivity_penalty_deltas};
+ghost use Rattle.spec_epochs.specs.GetInactivityPenaltyDeltas.{get_inactivity_penalty_deltas};
 ghost use Rattle.participation.specs.inside.Marks.{flagged};
-ghost use Rattle.spec_epochs.specs.GetBaseReward.{get_base_reward};
-ghost use Rattle.epoch_rewards.specs.inside.Stakes.{stakes_of};
-ghost use Rattle.epoch_rewards.specs.inside.Leak.{leak_penalty, penalties_of, leak_deltas};
+ghost use Rattle.validator_rewards.specs.inside.Stakes.{stakes_of};
+ghost use Rattle.epoch_rewards.specs.inside.Leak.{penalties_of, leak_deltas};
 
+use crate::amounts::all_amounts;
 use crate::attested::previous_attesters;
-use crate::eligible::{is_attester, is_eligible};
-use crate::get_base_reward::{base_reward, divisor, proposer_reward};
-use crate::leak::{finality_delay, in_leak};
-use crate::numbers::{push_made, zeros};
-use crate::stakes::{Stake, stake_at, stakes};
-use bc_words::{Stop, checked_add, checked_mul, checked_sub};
+use crate::numbers::zeros;
+use bc_words::Stop;
 use beacon_state::State;
 use committees::EpochCommittees;
 use participation::Vote;
 use spec_epochs::Deltas;
 use ssz_codec::Items;
 use std::alloc::Global;
-
-/// What a validator that didn't attest to the target loses besides, in Gwei.
-#[tactic(auto, using(crate::proofs::Gathered::absence_by, bc_preset::proofs::Bounds::preset_bounds))]
-fn absence_penalty(state: &State, stakes: &[Stake], index: u64) -> Result<u64, Stop>
-    requires { stakes.now ≡ stakes_of state.now }
-    ensures { GivesExactly result (absence_penalty state.now index) }
-{
-    let stake = stake_at(stakes, index)?;
-    let delay = finality_delay(state)?;
-    let weighed = checked_mul(stake.effective_balance, delay)?;
-    Ok(weighed / state.preset().inactivity_penalty_quotient)
-}
-
-/// What a validator loses for its absence, in Gwei: nothing, where it attested to the target.
-fn absence(state: &State, stakes: &[Stake], flags: &[bool], index: u64) -> Result<u64, Stop>
-    requires { stakes.now ≡ stakes_of state.now }
-    ensures { GivesExactly result (if is_among index (flagged state.now flags.now) then done 0 else absence_penalty state.now index) }
-{
-    if is_attester(state, stakes, flags, index) {
-        return Ok(0);
-    }
-    absence_penalty(state, stakes, index)
-}
-
-/// What an eligible validator loses in the leak, in Gwei.
-#[tactic(auto, unfolding(spec_epochs::specs::GetInactivityPenaltyDeltas::inactivity_penalty))]
-fn inactivity_penalty(
-    state: &State,
-    stakes: &[Stake],
-    base: Result<u64, Stop>,
-    flags: &[bool],
-    index: u64,
-) -> Result<u64, Stop>
-    requires stakes { stakes.now ≡ stakes_of state.now }
-    requires base { GivesExactly base (get_base_reward state.now index) }
-    ensures { GivesExactly result (inactivity_penalty state.now (flagged state.now flags.now) index) }
-{
-    let whole = base?;
-    let proposer = proposer_reward(state, base, index)?;
-    let all = checked_mul(4, whole)?;
-    let penalty = checked_sub(all, proposer)?;
-    let more = absence(state, stakes, flags, index)?;
-    checked_add(penalty, more)
-}
-
-/// What a validator loses in the leak, in Gwei.
-#[tactic(auto, unfolding(crate::specs::inside::Leak::leak_penalty))]
-pub(crate) fn leak_penalty(
-    state: &State,
-    stakes: &[Stake],
-    base: Result<u64, Stop>,
-    flags: &[bool],
-    index: u64,
-) -> Result<u64, Stop>
-    requires stakes { stakes.now ≡ stakes_of state.now }
-    requires base { GivesExactly base (get_base_reward state.now index) }
-    ensures { GivesExactly result (leak_penalty state.now (flagged state.now flags.now) index) }
-{
-    if !is_eligible(state, stakes, index) {
-        return Ok(0);
-    }
-    inactivity_penalty(state, stakes, base, flags, index)
-}
-
-/// What each validator loses in the leak, in Gwei, in order of index.
-#[tactic(auto, unfolding(spec_epochs::specs::Each::validator_indices), using(spec_epochs::proofs::Each::made_begins))]
-fn leak_penalties(
-    alloc: Global,
-    state: &State,
-    stakes: &[Stake],
-    flags: &[bool],
-) -> Result<Vec<u64>, Stop>
-    requires { stakes.now ≡ stakes_of state.now }
-    ensures { GivesBy (λ penalties. penalties.items) result (checked_map (leak_penalty state.now (flagged state.now flags.now)) (validator_indices state.now)) }
-{
-    let divisor = divisor(state);
-    let mut penalties = Vec::new(alloc);
-    for index in 0..state.validators_len() {
-        let base = base_reward(state, stakes, divisor, index);
-        let penalty = leak_penalty(state, stakes, base, flags, index);
-        match push_made(&mut penalties, penalty) {
-            Ok(()) => {}
-            Err(stop) => return Err(stop),
-        }
-    }
-    Ok(penalties)
-}
+use validator_rewards::get_base_reward::divisor;
+use validator_rewards::inactivity::Leak;
+use validator_rewards::leak::in_leak;
+use validator_rewards::stakes::{Stake, stakes};
 
 /// What each validator loses, in Gwei, in order of index: nothing outside the leak.
 #[tactic(auto, unfolding(crate::specs::inside::Leak::penalties_of))]
@@ -125,7 +37,7 @@ fn penalties_of(
     ensures { GivesBy (λ penalties. penalties.items) result (penalties_of state.now leak (flagged state.now flags.now)) }
 {
     if leak {
-        return leak_penalties(alloc, state, stakes, flags);
+        return all_amounts(alloc, state, stakes, divisor(state), &Leak { flags });
     }
     let penalties = zeros(alloc, state)?;
     Ok(penalties)

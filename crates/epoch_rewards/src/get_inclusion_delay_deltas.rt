@@ -1,61 +1,30 @@
 //! Rewards for the inclusion of attestations (beacon-chain.md, "get_inclusion_delay_deltas").
 
-ghost use Rattle.std.specs.Prelude.{◌≡◌, ◌/◌, slice_index, slice_set};
-ghost use Rattle.bc_words.specs.Outcome.{Gives, GivesBy, GivesExactly, Moves, bind, done, checked_add};
+ghost use Rattle.std.specs.Prelude.{◌≡◌};
+ghost use Rattle.bc_words.specs.Outcome.{Gives, GivesBy, GivesExactly};
 ghost use Rattle.spec_state.specs.Accessors.{get_previous_epoch, epoch_committees};
 ghost use Rattle.spec_state.specs.Soundness.{IsSoundWithinEpoch};
 ghost use Rattle.spec_epochs.specs.GetInclusionDelayDeltas.{get_inclusion_delay_deltas};
 ghost use Rattle.participation.specs.inside.Marks.{flagged};
-ghost use Rattle.spec_epochs.specs.GetBaseReward.{get_base_reward};
-ghost use Rattle.epoch_rewards.specs.inside.Divisor.{divisor_of};
-ghost use Rattle.epoch_rewards.specs.inside.Stakes.{stakes_of};
-ghost use Rattle.epoch_rewards.specs.inside.Inclusions.{entry_at, included, all_gains, delayed_by, own_reward};
-ghost use Rattle.epoch_rewards.specs.inside.Inclusions.{joined_reward, joined_rewards, all_joined, joined_deltas};
+ghost use Rattle.validator_rewards.specs.inside.Divisor.{divisor_of};
+ghost use Rattle.validator_rewards.specs.inside.Stakes.{stakes_of};
+ghost use Rattle.epoch_rewards.specs.inside.Inclusions.{all_gains};
+ghost use Rattle.epoch_rewards.specs.inside.Inclusions.{all_joined, joined_deltas};
 
+use crate::amounts::all_amounts;
 use crate::attested::{previous_attesters, previous_inclusions};
-use crate::eligible::{counted, is_attester};
-use crate::get_base_reward::{base_reward, divisor, proposer_reward};
-use crate::numbers::{number_at, push_made, zeros};
-use crate::stakes::{Stake, stakes};
-use bc_words::{Stop, checked_add, checked_sub};
+use crate::numbers::zeros;
+use bc_words::Stop;
 use beacon_state::State;
 use committees::EpochCommittees;
-use participation::{Inclusion, Vote, inclusion_at};
+use participation::{Inclusion, Vote};
 use spec_epochs::Deltas;
 use ssz_codec::Items;
 use std::alloc::Global;
-
-/// Adds to the gains of a validator.
-fn add_gain(gains: &mut Vec<u64>, index: u64, reward: u64) -> Result<(), Stop>
-    ensures { Moves result gains.new.items (bind (checked_add (slice_index gains.old.items index) reward) (λ sum. done (slice_set gains.old.items index sum))) }
-{
-    let sum = checked_add(number_at(gains, index), reward)?;
-    if (index as usize) < gains.len() {
-        gains[index as usize] = sum;
-    }
-    Ok(())
-}
-
-/// Adds the gain of the proposer who included an attester, whose base reward is known, or why it has none.
-#[tactic(auto, unfolding(crate::specs::inside::Inclusions::included))]
-fn include(
-    gains: &mut Vec<u64>,
-    state: &State,
-    base: Result<u64, Stop>,
-    entries: &[Option<Inclusion>],
-    attester: u64,
-) -> Result<(), Stop>
-    requires { GivesExactly base (get_base_reward state.now attester) }
-    ensures { Moves result gains.new.items (included state.now attester (entry_at entries.now attester) gains.old.items) }
-{
-    match inclusion_at(entries, attester) {
-        Some(inclusion) => {
-            let reward = proposer_reward(state, base, attester)?;
-            add_gain(gains, inclusion.proposer, reward)
-        }
-        None => Ok(()),
-    }
-}
+use validator_rewards::eligible::counted;
+use validator_rewards::get_base_reward::{base_reward, divisor};
+use validator_rewards::inclusion::{Included, include};
+use validator_rewards::stakes::{Stake, stakes};
 
 /// What each validator gains as a proposer, in Gwei, in order of index.
 #[tactic(auto, using(crate::proofs::Included::including))]
@@ -87,101 +56,6 @@ pub(crate) fn proposer_gains(
     Ok(gains)
 }
 
-/// What is left of the most that an attester may get, in Gwei, after a delay.
-fn after_delay(most: u64, delay: u64) -> u64
-    ensures { result ≡ most / delay }
-{
-    most.checked_div(delay).unwrap_or(0)
-}
-
-/// What an attester gets for an inclusion, in Gwei, after its delay, where its base reward is known, or why it has none.
-#[tactic(auto, unfolding(crate::specs::inside::Inclusions::delayed_by))]
-fn delayed_reward(
-    state: &State,
-    base: Result<u64, Stop>,
-    index: u64,
-    inclusion: Option<Inclusion>,
-) -> Result<u64, Stop>
-    requires { GivesExactly base (get_base_reward state.now index) }
-    ensures { GivesExactly result (delayed_by state.now index inclusion) }
-{
-    match inclusion {
-        Some(inclusion) => {
-            let whole = base?;
-            let proposer = proposer_reward(state, base, index)?;
-            let most = checked_sub(whole, proposer)?;
-            Ok(after_delay(most, inclusion.delay))
-        }
-        None => Ok(0),
-    }
-}
-
-/// What a validator gets as an attester, in Gwei, where it is one.
-#[tactic(auto, unfolding(crate::specs::inside::Inclusions::own_reward))]
-fn own_reward(
-    state: &State,
-    stakes: &[Stake],
-    base: Result<u64, Stop>,
-    flags: &[bool],
-    entries: &[Option<Inclusion>],
-    index: u64,
-) -> Result<u64, Stop>
-    requires stakes { stakes.now ≡ stakes_of state.now }
-    requires base { GivesExactly base (get_base_reward state.now index) }
-    ensures { GivesExactly result (own_reward state.now entries.now (flagged state.now flags.now) index) }
-{
-    if !is_attester(state, stakes, flags, index) {
-        return Ok(0);
-    }
-    delayed_reward(state, base, index, inclusion_at(entries, index))
-}
-
-/// What a validator gets, in Gwei, by its gains as a proposer and as an attester.
-#[tactic(auto, unfolding(crate::specs::inside::Inclusions::joined_reward))]
-pub(crate) fn joined_reward(
-    state: &State,
-    stakes: &[Stake],
-    base: Result<u64, Stop>,
-    flags: &[bool],
-    entries: &[Option<Inclusion>],
-    gains: &[u64],
-    index: u64,
-) -> Result<u64, Stop>
-    requires stakes { stakes.now ≡ stakes_of state.now }
-    requires base { GivesExactly base (get_base_reward state.now index) }
-    ensures { GivesExactly result (joined_reward state.now entries.now (flagged state.now flags.now) gains.now index) }
-{
-    let own = own_reward(state, stakes, base, flags, entries, index)?;
-    checked_add(number_at(gains, index), own)
-}
-
-/// What each validator gets, in Gwei, in order of index.
-#[tactic(auto, unfolding(spec_epochs::specs::Each::validator_indices), using(spec_epochs::proofs::Each::made_begins))]
-fn joined_rewards(
-    alloc: Global,
-    state: &State,
-    stakes: &[Stake],
-    divisor: Result<u64, Stop>,
-    flags: &[bool],
-    entries: &[Option<Inclusion>],
-    gains: &[u64],
-) -> Result<Vec<u64>, Stop>
-    requires stakes { stakes.now ≡ stakes_of state.now }
-    requires divisor { GivesExactly divisor (divisor_of state.now) }
-    ensures { GivesBy (λ rewards. rewards.items) result (joined_rewards state.now entries.now (flagged state.now flags.now) gains.now) }
-{
-    let mut rewards = Vec::new(alloc);
-    for index in 0..state.validators_len() {
-        let base = base_reward(state, stakes, divisor, index);
-        let reward = joined_reward(state, stakes, base, flags, entries, gains, index);
-        match push_made(&mut rewards, reward) {
-            Ok(()) => {}
-            Err(stop) => return Err(stop),
-        }
-    }
-    Ok(rewards)
-}
-
 /// What each validator gets for inclusions, in Gwei, in order of index.
 #[tactic(auto, unfolding(crate::specs::inside::Inclusions::all_joined))]
 fn inclusion_rewards(
@@ -196,7 +70,12 @@ fn inclusion_rewards(
 {
     let divisor = divisor(state);
     let gains = proposer_gains(alloc, state, stakes, divisor, flags, entries)?;
-    joined_rewards(alloc, state, stakes, divisor, flags, entries, &gains)
+    let included = Included {
+        flags,
+        entries,
+        gains: &gains,
+    };
+    all_amounts(alloc, state, stakes, divisor, &included)
 }
 
 /// Rewards and penalties where those with a flag, the slashed aside, attested with these inclusions.

@@ -6,22 +6,18 @@
 //! published function that it holds.
 #![tactic(auto)]
 
+mod amounts;
 mod attested;
 mod attesting_balance;
-mod eligible;
 mod get_attestation_component_deltas;
 mod get_attestation_deltas;
-mod get_base_reward;
 mod get_head_deltas;
 mod get_inactivity_penalty_deltas;
 mod get_inclusion_delay_deltas;
 mod get_source_deltas;
 mod get_target_deltas;
-mod leak;
 mod numbers;
-mod paid;
 mod process_rewards_and_penalties;
-mod stakes;
 mod vote_deltas;
 
 pub use get_attestation_deltas::attestation_deltas;

@@ -1,6 +1,6 @@
 //! Lists of a number for each validator.
 
-ghost use Rattle.std.specs.Prelude.{◌≡◌, ◌∷◌, ◌++◌, [], length, replicate, slice_index, IfOk, IfErr, OnOk, IsOkAnd, MatchResult};
+ghost use Rattle.std.specs.Prelude.{◌≡◌, ◌∷◌, ◌++◌, [], length, replicate, IfOk, IfErr, OnOk, IsOkAnd, MatchResult};
 ghost use Rattle.bc_words.specs.declared.stop.Stop.TheVariants as stops;
 
 use bc_words::{NoMemory, Stop};
@@ -13,13 +13,6 @@ pub(crate) fn zeros(alloc: Global, state: &State) -> Result<Vec<u64>, NoMemory>
 {
     let zeros = vec![in alloc; 0u64; state.validators_len() as usize]?;
     Ok(zeros)
-}
-
-/// A number of a list, or 0 past its end.
-pub(crate) fn number_at(numbers: &[u64], index: u64) -> u64
-    ensures { result ≡ slice_index numbers.now index }
-{
-    numbers.get(index as usize).copied().unwrap_or(0)
 }
 
 /// One number more behind the others, where there is one, and else why there is none.

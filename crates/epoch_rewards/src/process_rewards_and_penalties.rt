@@ -7,24 +7,26 @@ ghost use Rattle.spec_state.specs.Soundness.{IsSoundWithinEpoch};
 ghost use Rattle.spec_epochs.specs.ProcessRewardsAndPenalties.{process_rewards_and_penalties};
 ghost use Rattle.spec_epochs.specs.Helpers.{get_matching_source_attestations, get_matching_target_attestations, get_matching_head_attestations};
 ghost use Rattle.participation.specs.inside.Marks.{attester_flags, flagged};
-ghost use Rattle.epoch_rewards.specs.inside.Components.{AreWeights};
-ghost use Rattle.epoch_rewards.specs.inside.Divisor.{divisor_of};
+ghost use Rattle.validator_rewards.specs.inside.Components.{AreWeights};
+ghost use Rattle.validator_rewards.specs.inside.Divisor.{divisor_of};
 ghost use Rattle.epoch_rewards.specs.inside.Inclusions.{all_gains};
-ghost use Rattle.epoch_rewards.specs.inside.Stakes.{stakes_of};
+ghost use Rattle.validator_rewards.specs.inside.Stakes.{stakes_of};
 ghost use Rattle.epoch_rewards.specs.inside.Paid.{all_paid, all_rewarded, paid_balances};
 
+use crate::amounts::all_amounts;
 use crate::attested::{previous_attesters, previous_inclusions};
-use crate::get_attestation_component_deltas::{needed_balance, weights_of};
+use crate::get_attestation_component_deltas::needed_balance;
 use crate::get_inclusion_delay_deltas::proposer_gains;
-use crate::leak::in_leak;
-use crate::paid::{Voters, paid_balances};
-use crate::stakes::{Stake, stakes};
 use balance_totals::{current_epoch, total_active};
 use bc_words::{Stop, isqrt};
 use beacon_state::State;
 use committees::EpochCommittees;
 use participation::{Inclusion, Vote};
 use std::alloc::Global;
+use validator_rewards::components::{Voters, weights_of};
+use validator_rewards::leak::in_leak;
+use validator_rewards::paid::Paid;
+use validator_rewards::stakes::{Stake, stakes};
 
 /// The balances of all validators after their rewards and penalties, in Gwei, by those who had each vote right and by their
 /// inclusions. The stakes are the state's.
@@ -32,31 +34,36 @@ fn paid_by_voters(
     alloc: Global,
     state: &State,
     stakes: &[Stake],
-    sources: &Voters<'_>,
-    targets: &Voters<'_>,
-    heads: &Voters<'_>,
+    sources: Voters<'_>,
+    targets: Voters<'_>,
+    heads: Voters<'_>,
     entries: &[Option<Inclusion>],
     divisor: Result<u64, Stop>,
 ) -> Result<Vec<u64>, Stop>
     requires stakes { stakes.now ≡ stakes_of state.now }
-    requires source { AreWeights state.now sources.now.weights }
-    requires target { AreWeights state.now targets.now.weights }
-    requires head { AreWeights state.now heads.now.weights }
+    requires source { AreWeights state.now sources.weights }
+    requires target { AreWeights state.now targets.weights }
+    requires head { AreWeights state.now heads.weights }
     requires divisor { GivesExactly divisor (divisor_of state.now) }
-    ensures exact { let s = sources.now in let t = targets.now in let h = heads.now in let who = λ (flags : List Bool). flagged state.now flags in
+    ensures exact { let s = sources.entry in let t = targets.entry in let h = heads.entry in let who = λ (flags : List Bool). flagged state.now flags in
         GivesBy (λ balances. balances.items) result (bind (all_gains state.now entries.now (who s.flags.now))
         (λ gains. paid_balances state.now (who s.flags.now) (who t.flags.now) (who h.flags.now) s.weights t.weights h.weights entries.now gains)) }
     ensures few { IfOk result (λ balances. length balances.items ≤ state.now.preset.validator_registry_limit) }
 {
     let gains = proposer_gains(alloc, state, stakes, divisor, sources.flags, entries)?;
-    paid_balances(
-        alloc, state, stakes, sources, targets, heads, entries, &gains, divisor,
-    )
+    let paid = Paid {
+        sources,
+        targets,
+        heads,
+        entries,
+        gains: &gains,
+    };
+    all_amounts(alloc, state, stakes, divisor, &paid)
 }
 
 /// The balances of all validators after their rewards and penalties, in Gwei, by the flags of those who had each vote right
 /// and by their inclusions. The stakes are the state's.
-#[tactic(auto, unfolding(crate::specs::inside::Paid::all_paid, crate::specs::inside::Paid::weights_by, crate::specs::inside::Divisor::divisor_of), using(spec_epochs::proofs::Totals::least_total))]
+#[tactic(auto, unfolding(crate::specs::inside::Paid::all_paid, validator_rewards::specs::inside::Paid::weights_by, validator_rewards::specs::inside::Divisor::divisor_of), using(spec_epochs::proofs::Totals::least_total))]
 fn all_paid(
     alloc: Global,
     state: &State,
@@ -90,7 +97,7 @@ fn all_paid(
     };
     let divisor = Ok(isqrt(total));
     paid_by_voters(
-        alloc, state, stakes, &by_source, &by_target, &by_head, entries, divisor,
+        alloc, state, stakes, by_source, by_target, by_head, entries, divisor,
     )
 }
 

@@ -1,4 +1,4 @@
-//! The head of the chain (fork-choice.md, "get_head"), looked up in the array of nodes.
+//! The head of the chain (fork-choice.md, "get_head").
 
 ghost use Rattle.std.specs.Prelude.{◌≡◌, ◌+◌, ◌≤◌};
 ghost use Rattle.spec_fork_choice.specs.GetHead.{get_head};
@@ -9,22 +9,18 @@ use crate::store::Store;
 use bc_words::Steps;
 use hash_tree::Root;
 use std::sync::ledger::Ledger;
-use store_parts::get_ancestor::root_at;
+use store_changes::get_head::get_head;
 
 impl Store {
     /// The root of the head: from the justified block go to the viable child of the greatest weight, of the greatest root among
     /// those of one weight, as long as there is one (fork-choice.md, `get_head`). It takes no memory, and leaves the array
     /// applied. A step is the delta of one validator, or one visit of a node.
-    #[tactic(auto, using(store_parts::proofs::Heads::heading))]
     pub fn head<L: Ledger>(&mut self, steps: &mut Steps<L>) -> Root
         ensures root { result ≡ get_head self.old.plain }
         ensures same { self.new.plain ≡ self.old.plain }
         ensures applied { self.new.array ≡ made self.old.array }
         ensures steps { steps.new ≤ steps.old + steps_of self.old.array }
     {
-        self.fields.is_sound();
-        self.array.apply(steps);
-        let number = self.array.head();
-        root_at(self.fields.blocks().roots(), number as usize)
+        get_head(&self.fields, &mut self.array, steps)
     }
 }

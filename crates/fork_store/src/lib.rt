@@ -5,19 +5,13 @@
 //! needed them.
 #![tactic(auto)]
 
-mod accept_block;
-mod balances;
-mod feed;
 mod get_head;
-mod kept_state;
 mod on_attestation;
 mod on_block;
 mod on_event;
 mod on_tick;
 mod store;
 mod store_new;
-mod store_target_checkpoint_state;
-mod update_latest_messages;
 
 pub use on_event::Accepted;
 pub use store::Store;

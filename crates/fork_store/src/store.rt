@@ -12,7 +12,6 @@ ghost use Rattle.store_parts.specs.inside.Chains.{IsDone};
 ghost use Rattle.store_parts.specs.inside.Keepers.{IsKeeperOf};
 ghost use Rattle.store_parts.specs.inside.Roots.{roots_of};
 
-use crate::kept_state::kept_state;
 use bc_words::NoMemory;
 use beacon_body::BeaconBlock;
 use beacon_state::State;
@@ -21,6 +20,7 @@ use block_array::BlockArray;
 use hash_tree::Root;
 use state_keeper::Keeper;
 use std::marker::Model;
+use store_changes::kept_state::kept_state;
 use store_parts::chain_stepper::ChainStepper;
 use store_parts::kept_block::block_of;
 use store_parts::ready_balances::ReadyBalances;

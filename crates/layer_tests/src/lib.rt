@@ -1,4 +1,4 @@
-//! Tests of the public calls of files, of the state and of the layers above it, each layer being proved once.
+//! Tests of the public calls of all layers, in a crate of their own, so that each layer is proved once.
 #![tactic(auto)]
 
 #[cfg(test)]
@@ -6,7 +6,15 @@ mod blocks;
 #[cfg(test)]
 mod changes;
 #[cfg(test)]
+mod configuration;
+#[cfg(test)]
+mod containers;
+#[cfg(test)]
+mod duties;
+#[cfg(test)]
 mod genesis;
+#[cfg(test)]
+mod hashing;
 #[cfg(test)]
 mod keeper;
 #[cfg(test)]
@@ -18,6 +26,18 @@ mod records;
 #[cfg(test)]
 mod safety;
 #[cfg(test)]
+mod shuffles;
+#[cfg(test)]
+mod small_state;
+#[cfg(test)]
+mod ssz;
+#[cfg(test)]
 mod texts;
 #[cfg(test)]
 mod totals;
+#[cfg(test)]
+mod trees;
+#[cfg(test)]
+mod votes;
+#[cfg(test)]
+mod words;

@@ -1,5 +1,6 @@
--- A loop that makes a value for each index below n, in order, and stops with the first that stops. It names `each_made` in
--- its #[tactic(auto, using(..))] and has the invariant `made_from make n i values ≡ checked_map make (range_with_len 0 n)`.
+-- A loop that makes a value for each index below n, in order, and stops with the first that stops. It names `made_begins`
+-- in its #[tactic(auto, using(..))], has the invariant `made_from make n i values ≡ checked_map make (range_with_len 0 n)`, and its answers
+-- cite `made_more`, `made_ends` and `made_stops`.
 use Rattle.std.proofs.Common.{◌≡◌, ℕ, zero, suc, ◌+◌, ◌-◌, ◌<◌, ◌≤◌, List, [], ◌∷◌, ◌++◌, length, refl, sym, ap, ◌∙◌, arith, append_assoc}
 use Rattle.std.specs.List.{range_with_len}
 use Rattle.std.proofs.lemmas.List.{append-nil}
@@ -58,9 +59,6 @@ made_stops make n i values stop less e = rw (opens make n i values less) (stops_
 pub made_stops_exactly : {B : Type 0} (make : ℕ → Outcome B) (n i : ℕ) (values : List B) (stop : Stop) → i < n → StopsExactly stop (make i) → StopsExactly stop (made_from make n i values)
 unfolding behind
 made_stops_exactly make n i values stop less e = rw (opens make n i values less) (exactly_bound stop _ _ (exactly_bound stop (make i) _ e))
-
--- the four of a loop
-pub ruleset each_made = (made_begins, made_ends, made_more, made_stops)
 
 -- ---- as many values as indices
 

@@ -30,9 +30,9 @@ root_in_place blocks root n numbered roots same =
     let it = at_number blocks root n numbered in
     ap (λ (r : List (List ℕ)). get_or r n []) same ∙ roots_at blocks n it.kept it.at ∙ it.named
 
-module _ (store : Store) (a told : PlainArray) (ready : Option Balances) (head : ℕ) (sound : IsStore store) (whole : IsWhole store a ready) (is : told ≡ made a) (at : head ≡ heads.get_head told) where
+module _ (store : Store) (a told : PlainArray) (head : ℕ) (sound : IsStore store) (of_store : IsArrayOf store a) (is : told ≡ made a) (at : head ≡ heads.get_head told) where
   made_array : IsArrayOf store told
-  made_array = subst (IsArrayOf store) (sym is) (keeps_made store a whole.array_of)
+  made_array = subst (IsArrayOf store) (sym is) (keeps_made store a of_store)
 
   numbered : number_of store.blocks (get_head store) ≡ Some head
   numbered = head_number store told made_array sound.tree sound.presets ∙ ap Some (sym at)
@@ -48,4 +48,4 @@ made_whole store a told ready whole is = record { array_of = subst (IsArrayOf st
 
 pub ruleset reading = (read_some, no_place)
 
-pub ruleset heading = (head_fits, head_is, made_whole)
+pub ruleset heading = (head_fits, head_is)

@@ -2,7 +2,7 @@
 //! them.
 //!
 //! What contracts say of a store stands here too: that its array of nodes, its keeper of states and the chain behind its states are
-//! its own. `fork_store` has the handlers.
+//! its own. `store_changes` has what the handlers do with these parts, and `fork_store` the store and the handlers.
 #![tactic(auto)]
 
 pub mod array_laws;

@@ -3,4 +3,3 @@ pub mod Tests
 pub mod Genesis
 pub mod Blocks
 pub mod Epochs
-pub mod Counted

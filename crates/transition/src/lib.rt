@@ -4,11 +4,9 @@
 #![tactic(auto)]
 
 pub mod get_beacon_proposer_index;
-pub mod operations_keep_sound;
 mod pending;
 pub mod process_block;
 pub mod process_epoch;
-pub mod process_operations;
 pub mod process_slots;
 mod soundness;
 pub mod state_transition;

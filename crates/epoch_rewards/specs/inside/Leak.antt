@@ -3,13 +3,9 @@ use Rattle.std.specs.Prelude.{ℕ, Bool, List, replicate, length, if◌then◌el
 use Rattle.bc_words.specs.Outcome.{Outcome, done, ◌>>=◌}
 use Rattle.spec_state.specs.declared.plain.PlainState.{PlainState}
 use Rattle.spec_epochs.specs.declared.deltas.Deltas.{Deltas}
-use Rattle.spec_epochs.specs.Each.{validator_indices, checked_map, is_among}
-use Rattle.spec_epochs.specs.RewardHelpers.{is_in_inactivity_leak, get_eligible_validator_indices}
-use Rattle.spec_epochs.specs.GetInactivityPenaltyDeltas.{inactivity_penalty}
-
--- what a validator loses in the leak
-unfoldable pub leak_penalty : PlainState → List ℕ → ℕ → Outcome ℕ
-leak_penalty state target_attesters index = if is_among index (get_eligible_validator_indices state) then inactivity_penalty state target_attesters index else done 0
+use Rattle.spec_epochs.specs.Each.{validator_indices, checked_map}
+use Rattle.spec_epochs.specs.RewardHelpers.{is_in_inactivity_leak}
+use Rattle.validator_rewards.specs.inside.Leak.{leak_penalty}
 
 -- what all lose
 unfoldable pub penalties_of : PlainState → Bool → List ℕ → Outcome (List ℕ)

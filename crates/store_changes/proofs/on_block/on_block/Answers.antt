@@ -1,0 +1,55 @@
+use Rattle.std.proofs.Common.{refl}
+use Rattle.store_parts.proofs.Keepers.{keeper_same}
+use Rattle.store_parts.proofs.Walks.{whole_nodes}
+use Rattle.store_changes.proofs.on_block.on_block.Goals as goal
+
+pub block_step-requires-clause-nodes : goal.block_step-requires-clause-nodes
+block_step-requires-clause-nodes c = whole_nodes c.args.store.now c.args.array.now c.args.ready.now c.requires.whole
+
+pub block_step-requires-clause-chained : goal.block_step-requires-clause-chained
+block_step-requires-clause-chained c = c.requires.whole.chained
+
+pub block_step-requires-clause-keeper : goal.block_step-requires-clause-keeper
+block_step-requires-clause-keeper c = c.requires.keeper
+
+pub accept_unless-requires-clause-whole : goal.accept_unless-requires-clause-whole
+accept_unless-requires-clause-whole c = c.requires.whole
+
+pub accept_unless-requires-clause-few : goal.accept_unless-requires-clause-few
+accept_unless-requires-clause-few c = c.requires.few
+
+pub accept_unless-requires-clause-keeper : goal.accept_unless-requires-clause-keeper
+accept_unless-requires-clause-keeper c = keeper_same c.args.store.now c.args.keeper.now c.block_step.new.keeper c.requires.keeper c.in_ok-step.ensures.same
+
+pub accept_unless-requires-clause-behind : goal.accept_unless-requires-clause-behind
+accept_unless-requires-clause-behind c = c.in_ok-step.ensures.behind
+
+pub accept_unless-requires-clause-parent : goal.accept_unless-requires-clause-parent
+accept_unless-requires-clause-parent c = c.in_ok-step.ensures.parent
+
+pub accept_unless-requires-clause-preset : goal.accept_unless-requires-clause-preset
+accept_unless-requires-clause-preset c = c.in_ok-step.ensures.preset
+
+pub accept_unless-requires-clause-linked : goal.accept_unless-requires-clause-linked
+accept_unless-requires-clause-linked c = c.in_ok-step.ensures.linked
+
+pub accept_unless-requires-clause-stepped : goal.accept_unless-requires-clause-stepped
+accept_unless-requires-clause-stepped c = c.in_ok-step.ensures.stepped
+
+pub returns-in_err-step-clause-whole : goal.returns-in_err-step-clause-whole
+returns-in_err-step-clause-whole c = c.requires.whole
+
+pub returns-in_err-step-clause-keeper : goal.returns-in_err-step-clause-keeper
+returns-in_err-step-clause-keeper c = keeper_same c.args.store.now c.args.keeper.now c.block_step.new.keeper c.requires.keeper c.in_err-step.ensures.same
+
+pub returns-in_err-step-clause-unset : goal.returns-in_err-step-clause-unset
+returns-in_err-step-clause-unset c = λ _. refl
+
+pub returns-clause-whole : goal.returns-clause-whole
+returns-clause-whole c = c.accept_unless.ensures.whole
+
+pub returns-clause-keeper : goal.returns-clause-keeper
+returns-clause-keeper c = c.accept_unless.ensures.keeper
+
+pub returns-clause-unset : goal.returns-clause-unset
+returns-clause-unset c = c.accept_unless.ensures.unset

@@ -1,0 +1,4 @@
+pub mod Among
+pub mod Gathered
+pub mod Divisor
+pub mod Included
