@@ -1,7 +1,7 @@
 -- How a status, the bytes written and the names asked for meet a run.
-use Rattle.std.specs.Prelude.{◌≡◌, ℕ, zero, suc, ◌≤◌, Bool, true, false, List, [], ◌∷◌, ◌++◌, length, take, Option, Some, None}
-use Rattle.bc_outside.specs.Told.{FileHanded, ShelfTold, Agrees}
-use Rattle.bc_outside.specs.Calls.{Rose}
+use Rattle.std.specs.Prelude.{◌≡◌, ℕ, zero, suc, ◌≤◌, Bool, true, false, List, [], ◌∷◌, ◌++◌, length, take, Option, Some, None, IfSome}
+use Rattle.bc_outside.specs.Told.{FileHanded, ShelfTold, SinkTold, Agrees}
+use Rattle.bc_outside.specs.Calls.{Rose, ShelfKeeps, SinkKeeps}
 use Rattle.spec_replay.specs.Run.{Run, End, done, no_command, bad_config, bad_genesis, bad_record, limited, clash, over, with_files}
 use Rattle.spec_replay.specs.Words.{ReplayFiles, replay_files_of}
 use Rattle.beacon_node.specs.declared.status.Status.{Status}
@@ -83,3 +83,10 @@ paced_run_of words contents opened = with_taken contents opened (replay_files_of
 pub record HasCauses (status : Status) (shelf shelf_then sink sink_then : ℕ) : Type 0 where
   pub read : status ≡ statuses.ReadFault → Rose shelf shelf_then
   pub write : status ≡ statuses.WriteFault → Rose sink sink_then
+
+-- What a run does to the outside, where it ended with this status or goes on: a fault is answered only where its count
+-- rose, the shelf is asked for these names at most, and the sink keeps what it must.
+pub record OutsideKeeps (names : List (List ℕ)) (ended : Option Status) (told told_then : ShelfTold) (took took_then : SinkTold) : Type 0 where
+  pub causes : IfSome ended (λ status. HasCauses status told.faults told_then.faults took.faults took_then.faults)
+  pub shelf : ShelfKeeps names told told_then
+  pub sink : SinkKeeps took took_then

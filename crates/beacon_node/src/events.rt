@@ -1,10 +1,9 @@
 //! The record of a run: each event is read, handed to the store, and answered by a line.
 
-ghost use Rattle.std.specs.Prelude.{◌≡◌, ◌≢◌, ◌<◌, ◌≤◌, ◌+◌, ◌-◌, ◌^◌, [], ◌∷◌, length, IfSome, IfNone, IfOk, IfErr, Ok};
-ghost use Rattle.bc_outside.specs.Calls.{ShelfKeeps, SinkKeeps};
+ghost use Rattle.std.specs.Prelude.{◌≡◌, ◌≢◌, ◌<◌, ◌≤◌, ◌+◌, ◌-◌, ◌^◌, [], ◌∷◌, length, Some, IfSome, IfNone, IfOk, IfErr, Ok};
 ghost use Rattle.spec_replay.specs.Run.{with_record};
 ghost use Rattle.record_file.specs.Sources.{IsOpenedFile};
-ghost use Rattle.beacon_node.specs.Answers.{HasCauses, Replayed, taken_of};
+ghost use Rattle.beacon_node.specs.Answers.{OutsideKeeps, Replayed, taken_of};
 ghost use Rattle.beacon_node.specs.inside.Statuses.{unwritten, no_frame};
 ghost use Rattle.beacon_node.specs.inside.Progress.{Progress, OneMore, EventsOver, HasLine, EndsAt, outcome_of};
 
@@ -115,15 +114,12 @@ fn replay_event<S: EventSource, F: Shelf, O: Sink>(
 ) -> Option<Status>
     requires opened { IsOpenedFile (S.seen source.old).file (F.told shelf.old) }
     requires few { length store.old.plain.blocks ≤ (S.seen source.old).events + 1 }
-    ensures few { IfNone result (length store.new.plain.blocks ≤ (S.seen source.new).events + 1) }
     ensures goes_on { IfNone result (Progress store.old.plain (S.seen source.old) (F.told shelf.old) (O.told out.old).taken
-        store.new.plain (S.seen source.new) (F.told shelf.new) (O.told out.new).taken × OneMore (S.seen source.old) (S.seen source.new)) }
+        store.new.plain (S.seen source.new) (F.told shelf.new) (O.told out.new).taken
+        × OneMore (S.seen source.old) (S.seen source.new) × (length store.new.plain.blocks ≤ (S.seen source.new).events + 1)) }
     ensures over { IfSome result (λ status. EventsOver status store.old.plain (S.seen source.old) (F.told shelf.old) (F.told shelf.new)
         (O.told out.old).taken (O.told out.new).taken) }
-    ensures causes { IfSome result (λ status. HasCauses status (F.told shelf.old).faults (F.told shelf.new).faults
-        (O.told out.old).faults (O.told out.new).faults) }
-    ensures shelf { ShelfKeeps [] (F.told shelf.old) (F.told shelf.new) }
-    ensures sink { SinkKeeps (O.told out.old) (O.told out.new) }
+    ensures outside { OutsideKeeps [] result (F.told shelf.old) (F.told shelf.new) (O.told out.old) (O.told out.new) }
 {
     let event = match source.next_event(shelf) {
         Ok(Some(event)) => event,
@@ -154,10 +150,9 @@ fn replay_events<S: EventSource, F: Shelf, O: Sink>(
     requires opened { IsOpenedFile (S.seen source.old).file (F.told shelf.old) }
     requires few { length store.old.plain.blocks ≤ (S.seen source.old).events + 1 }
     ensures over { EventsOver result store.old.plain (S.seen source.old) (F.told shelf.old) (F.told shelf.new) (O.told out.old).taken (O.told out.new).taken }
-    ensures causes { HasCauses result (F.told shelf.old).faults (F.told shelf.new).faults (O.told out.old).faults (O.told out.new).faults }
     ensures command { result ≢ Status.Words }
-    ensures shelf { ShelfKeeps [] (F.told shelf.old) (F.told shelf.new) }
-    ensures sink { SinkKeeps (O.told out.old) (O.told out.new) }
+    ensures outside { OutsideKeeps [] (Some result)
+        (F.told shelf.old) (F.told shelf.new) (O.told out.old) (O.told out.new) }
 {
     'events: loop {
         if let Some(status) = replay_event(alloc, source, store, shelf, out) {
@@ -178,10 +173,9 @@ pub fn replay_record<F: Shelf, O: Sink>(
     requires few { length store.old.plain.blocks ≤ 1 }
     ensures answers { Replayed (λ contents. with_record store.old.plain (contents name.now)) (λ contents opened. with_record store.old.plain (taken_of 0 opened))
         (name.now ∷ []) result (F.told shelf.old) (F.told shelf.new) (O.told out.old).taken (O.told out.new).taken }
-    ensures causes { HasCauses result (F.told shelf.old).faults (F.told shelf.new).faults (O.told out.old).faults (O.told out.new).faults }
     ensures command { result ≢ Status.Words }
-    ensures shelf { ShelfKeeps (name.now ∷ []) (F.told shelf.old) (F.told shelf.new) }
-    ensures sink { SinkKeeps (O.told out.old) (O.told out.new) }
+    ensures outside { OutsideKeeps (name.now ∷ []) (Some result)
+        (F.told shelf.old) (F.told shelf.new) (O.told out.old) (O.told out.new) }
 {
     let file = match shelf.open(name) {
         Ok(file) => file,

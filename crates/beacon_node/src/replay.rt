@@ -1,10 +1,9 @@
 //! The command `replay`: configuration, genesis and record are read in this order, each only where the ones before it
 //! have no fault, and each event's line is written before the next frame is read.
 
-ghost use Rattle.std.specs.Prelude.{◌≡◌, ◌≢◌, ◌<◌, ◌+◌, ◌^◌, ◌∷◌, [], length, None};
-ghost use Rattle.bc_outside.specs.Calls.{ShelfKeeps, SinkKeeps};
+ghost use Rattle.std.specs.Prelude.{◌≡◌, ◌≢◌, ◌<◌, ◌+◌, ◌^◌, ◌∷◌, [], length, Some, None};
 ghost use Rattle.spec_replay.specs.Run.{with_files, with_genesis};
-ghost use Rattle.beacon_node.specs.Answers.{HasCauses, Replayed, taken_of};
+ghost use Rattle.beacon_node.specs.Answers.{OutsideKeeps, Replayed, taken_of};
 ghost use Rattle.spec_state.specs.Genesis.{genesis_fault};
 ghost use Rattle.beacon_node.specs.inside.GenesisAnswers.{no_genesis, no_store, run_from};
 
@@ -56,14 +55,12 @@ fn replay_from<F: Shelf, O: Sink>(
     out: &mut O,
 ) -> Status
     requires few { length (F.told shelf.old).files < 2 ^ 32 }
-    requires preset { genesis.preset ≡ config.now.preset }
-    requires checked { genesis_fault genesis ≡ None }
+    requires genesis { (genesis.preset ≡ config.now.preset) × (genesis_fault genesis ≡ None) }
     ensures answers { Replayed (λ contents. run_from config.now genesis (contents record_name.now)) (λ contents opened. run_from config.now genesis (taken_of 0 opened))
         (record_name.now ∷ []) result (F.told shelf.old) (F.told shelf.new) (O.told out.old).taken (O.told out.new).taken }
-    ensures causes { HasCauses result (F.told shelf.old).faults (F.told shelf.new).faults (O.told out.old).faults (O.told out.new).faults }
     ensures command { result ≢ Status.Words }
-    ensures shelf { ShelfKeeps (record_name.now ∷ []) (F.told shelf.old) (F.told shelf.new) }
-    ensures sink { SinkKeeps (O.told out.old) (O.told out.new) }
+    ensures outside { OutsideKeeps (record_name.now ∷ []) (Some result)
+        (F.told shelf.old) (F.told shelf.new) (O.told out.old) (O.told out.new) }
 {
     match Store::new(alloc, config, genesis) {
         Ok(mut store) => replay_record(alloc, &mut store, record_name, shelf, out),
@@ -84,10 +81,9 @@ fn replay_genesis<F: Shelf, O: Sink>(
     ensures answers { Replayed (λ contents. with_genesis config.now (contents genesis_name.now) (contents record_name.now))
         (λ contents opened. with_genesis config.now (contents genesis_name.now) (taken_of 1 opened))
         (genesis_name.now ∷ record_name.now ∷ []) result (F.told shelf.old) (F.told shelf.new) (O.told out.old).taken (O.told out.new).taken }
-    ensures causes { HasCauses result (F.told shelf.old).faults (F.told shelf.new).faults (O.told out.old).faults (O.told out.new).faults }
     ensures command { result ≢ Status.Words }
-    ensures shelf { ShelfKeeps (genesis_name.now ∷ record_name.now ∷ []) (F.told shelf.old) (F.told shelf.new) }
-    ensures sink { SinkKeeps (O.told out.old) (O.told out.new) }
+    ensures outside { OutsideKeeps (genesis_name.now ∷ record_name.now ∷ []) (Some result)
+        (F.told shelf.old) (F.told shelf.new) (O.told out.old) (O.told out.new) }
 {
     let bytes = match read_named(alloc, shelf, genesis_name, MAX_GENESIS_LEN + 1) {
         Ok(bytes) => bytes,
@@ -115,10 +111,9 @@ pub fn replay<F: Shelf, O: Sink>(
         (λ contents opened. with_files (contents files.now.config.now) (contents files.now.genesis.now) (taken_of 2 opened))
         (files.now.config.now ∷ files.now.genesis.now ∷ files.now.events.now ∷ [])
         result (F.told shelf.old) (F.told shelf.new) (O.told out.old).taken (O.told out.new).taken }
-    ensures causes { HasCauses result (F.told shelf.old).faults (F.told shelf.new).faults (O.told out.old).faults (O.told out.new).faults }
     ensures command { result ≢ Status.Words }
-    ensures shelf { ShelfKeeps (files.now.config.now ∷ files.now.genesis.now ∷ files.now.events.now ∷ []) (F.told shelf.old) (F.told shelf.new) }
-    ensures sink { SinkKeeps (O.told out.old) (O.told out.new) }
+    ensures outside { OutsideKeeps (files.now.config.now ∷ files.now.genesis.now ∷ files.now.events.now ∷ []) (Some result)
+        (F.told shelf.old) (F.told shelf.new) (O.told out.old) (O.told out.new) }
 {
     let bytes = match read_named(alloc, shelf, files.config, MAX_CONFIG_LEN + 1) {
         Ok(bytes) => bytes,

@@ -1,10 +1,9 @@
 //! All that the program does.
 
-ghost use Rattle.std.specs.Prelude.{◌≡◌, ◌<◌, ◌+◌, ◌^◌, ◌↔◌, length, map, string_bytes, None};
-ghost use Rattle.bc_outside.specs.Calls.{ShelfKeeps, SinkKeeps};
+ghost use Rattle.std.specs.Prelude.{◌≡◌, ◌<◌, ◌+◌, ◌^◌, ◌↔◌, length, map, string_bytes, Some, None};
 ghost use Rattle.spec_replay.specs.Run.{run_of};
 ghost use Rattle.spec_replay.specs.Words.{replay_files_of, names_of};
-ghost use Rattle.beacon_node.specs.Answers.{HasCauses, Replayed, paced_run_of};
+ghost use Rattle.beacon_node.specs.Answers.{OutsideKeeps, Replayed, paced_run_of};
 
 use crate::replay::replay;
 use crate::status::Status;
@@ -32,16 +31,14 @@ pub fn beacon_main<F: Shelf, O: Sink>(
         (names_of (replay_files_of (map (λ word. string_bytes word) words.now)))
         result (F.told shelf.old) (F.told shelf.new) (O.told out.old).taken (O.told out.new).taken }
 
-    // A fault of the outside is answered only where its count rose.
-    ensures causes { HasCauses result (F.told shelf.old).faults (F.told shelf.new).faults (O.told out.old).faults (O.told out.new).faults }
-
     // The words alone say whether they are a command.
     ensures command { (result ≡ Status.Words) ↔ (replay_files_of (map (λ word. string_bytes word) words.now) ≡ None) }
 
-    // The shelf is asked for these names at most, and the sink keeps what it must: over a shelf and a sink that have no
-    // cause to fail, where all the names are there, no count rises.
-    ensures shelf { ShelfKeeps (names_of (replay_files_of (map (λ word. string_bytes word) words.now))) (F.told shelf.old) (F.told shelf.new) }
-    ensures sink { SinkKeeps (O.told out.old) (O.told out.new) }
+    // A fault of the outside is answered only where its count rose. The shelf is asked for these names at most, and the
+    // sink keeps what it must: over a shelf and a sink that have no cause to fail, where all the names are there, no count
+    // rises.
+    ensures outside { OutsideKeeps (names_of (replay_files_of (map (λ word. string_bytes word) words.now))) (Some result)
+        (F.told shelf.old) (F.told shelf.new) (O.told out.old) (O.told out.new) }
 {
     match replay_files(words) {
         Some(files) => replay(alloc, &files, shelf, out),

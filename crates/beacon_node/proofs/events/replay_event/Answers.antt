@@ -1,4 +1,7 @@
 -- The events are at their end, one could not be read, the run is over at one, a line was written, or it could not be.
+use Rattle.std.proofs.Common.{[], arith}
+use Rattle.beacon_node.specs.declared.status.Status.TheVariants as statuses
+use Rattle.beacon_node.proofs.Outside.{so_far, only_shelf, ends_here, no_fault, frame_causes, event_causes, unwritten_causes}
 use Rattle.beacon_node.proofs.OneByOne.{over_done, over_stop, over_at, line_progress, line_over}
 use Rattle.beacon_node.proofs.events.replay_event.Goals as goal
 
@@ -23,6 +26,7 @@ returns-in-Ok-write_all-clause-goes_on g c =
     let has = rw c.given.ensures at c.in-Ok.ensures.line in (
       rw c.tell_head.ensures (line_progress c.in-Ok-Some.event (g.S.EventSource.seen c.args.source.now) (g.S.EventSource.seen c.next_event.new.self) c.args.store.now.plain _ _ next counts.0 _ _ has _ _ c.in-Ok-Some.ensures.file (rw c.deref.ensures.value at c.in-Ok-write_all.ensures.writes)),
       record { events = counts.0; within = counts.1 },
+      rw c.tell_head.ensures (omega (arith, c.in-Ok.ensures.few, c.requires.few, counts.0)),
     )
 
 pub returns-clause-over : goal.returns-clause-over
@@ -34,3 +38,21 @@ returns-clause-over g c =
 
 pub returns-in-Ok-write_all-clause-over : goal.returns-in-Ok-write_all-clause-over
 returns-in-Ok-write_all-clause-over g c = tt
+
+pub returns-in-Ok-None-clause-outside : goal.returns-in-Ok-None-clause-outside
+returns-in-Ok-None-clause-outside g c = ends_here [] [] (only_shelf c.next_event.ensures.keeps) (no_fault statuses.Done (λ is. cc) (λ is. cc))
+
+pub returns-in-Err-clause-outside : goal.returns-in-Err-clause-outside
+returns-in-Err-clause-outside g c =
+    rw c.no_event.ensures (ends_here [] [] (only_shelf c.next_event.ensures.keeps) (frame_causes _ c.in-Err.stop c.in-Err.ensures.causes))
+
+pub returns-in-Err-handle_event-clause-outside : goal.returns-in-Err-handle_event-clause-outside
+returns-in-Err-handle_event-clause-outside g c =
+    ends_here [] [] (only_shelf c.next_event.ensures.keeps) (event_causes c.in-Err-handle_event.status _ _ c.in-Err-handle_event.ensures.over)
+
+pub returns-in-Ok-write_all-clause-outside : goal.returns-in-Ok-write_all-clause-outside
+returns-in-Ok-write_all-clause-outside g c = so_far c.next_event.ensures.keeps c.write_all.ensures.keeps
+
+pub returns-clause-outside : goal.returns-clause-outside
+returns-clause-outside g c =
+    rw c.unwritten.ensures (ends_here [] [] (so_far c.next_event.ensures.keeps c.write_all.ensures.keeps) (unwritten_causes c.in-Err-write_all.trouble c.in-Err-write_all.ensures.causes))

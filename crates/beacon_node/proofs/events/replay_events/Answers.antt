@@ -1,30 +1,28 @@
 -- One event more, or the run is over.
 use Rattle.std.proofs.Common.{[], subst, sym}
-use Rattle.bc_outside.proofs.Keeping.{keeps_none, keeps_then, sink_keeps_none, sink_keeps_then}
 use Rattle.record_file.specs.Sources.{IsOpenedFile}
 use Rattle.record_file.proofs.Supplying.{opened_on}
 use Rattle.beacon_node.proofs.OneByOne.{no_progress, progress_then, over_then, over_command}
+use Rattle.beacon_node.proofs.Outside.{untouched, outside_then}
 use Rattle.beacon_node.proofs.events.replay_events.Goals as goal
 
 pub events-init : goal.events-init
 events-init g c = record {
   progress = no_progress c.args.store.now.plain (g.S.EventSource.seen c.args.source.now) (g.F.Shelf.told c.args.shelf.now) (g.O.Sink.told c.args.out.now).taken;
-  shelf = keeps_none (g.F.Shelf.told c.args.shelf.now);
-  sink = sink_keeps_none (g.O.Sink.told c.args.out.now);
+  outside = untouched (g.F.Shelf.told c.args.shelf.now) (g.O.Sink.told c.args.out.now);
   few = c.requires.few;
 }
 
 pub replay_event-requires-clause-opened : goal.replay_event-requires-clause-opened
 replay_event-requires-clause-opened g c =
     subst (λ file. IsOpenedFile file (g.F.Shelf.told c.events.shelf)) (sym c.events.invariant.progress.file)
-    (opened_on (g.S.EventSource.seen c.args.source.now).file (g.F.Shelf.told c.args.shelf.now) (g.F.Shelf.told c.events.shelf) c.events.invariant.shelf.opened c.requires.opened)
+    (opened_on (g.S.EventSource.seen c.args.source.now).file (g.F.Shelf.told c.args.shelf.now) (g.F.Shelf.told c.events.shelf) c.events.invariant.outside.shelf.opened c.requires.opened)
 
 pub events-preserved : goal.events-preserved
 events-preserved g c = record {
   progress = progress_then c.events.invariant.progress c.in_default.ensures.goes_on.0;
-  shelf = keeps_then [] [] c.events.invariant.shelf c.replay_event.ensures.shelf;
-  sink = sink_keeps_then c.events.invariant.sink c.replay_event.ensures.sink;
-  few = c.in_default.ensures.few;
+  outside = outside_then [] [] c.events.invariant.outside c.in_default.ensures.outside;
+  few = c.in_default.ensures.goes_on.2;
 }
 
 pub returns-in-Some-clause-over : goal.returns-in-Some-clause-over
@@ -33,8 +31,5 @@ returns-in-Some-clause-over g c = over_then c.events.invariant.progress c.in-Som
 pub returns-in-Some-clause-command : goal.returns-in-Some-clause-command
 returns-in-Some-clause-command g c = over_command c.in-Some.status _ _ _ _ _ _ c.in-Some.ensures.over
 
-pub returns-in-Some-clause-shelf : goal.returns-in-Some-clause-shelf
-returns-in-Some-clause-shelf g c = keeps_then [] [] c.events.invariant.shelf c.replay_event.ensures.shelf
-
-pub returns-in-Some-clause-sink : goal.returns-in-Some-clause-sink
-returns-in-Some-clause-sink g c = sink_keeps_then c.events.invariant.sink c.replay_event.ensures.sink
+pub returns-in-Some-clause-outside : goal.returns-in-Some-clause-outside
+returns-in-Some-clause-outside g c = outside_then [] [] c.events.invariant.outside c.in-Some.ensures.outside

@@ -1,6 +1,6 @@
 -- The record could not be opened, or its events come.
 use Rattle.std.proofs.Common.{[], ◌∷◌}
-use Rattle.bc_outside.proofs.Keeping.{keeps_then}
+use Rattle.beacon_node.proofs.Outside.{only_shelf, outside_then, ends_here, unopened_causes}
 use Rattle.beacon_node.proofs.Steps.{unopened, unopened_files}
 use Rattle.beacon_node.proofs.Readers.{record_over, unread_record}
 use Rattle.beacon_node.proofs.events.replay_record.Goals as goal
@@ -13,5 +13,9 @@ pub returns-clause-answers : goal.returns-clause-answers
 returns-clause-answers g c =
     record_over c.args.name.now c.in-Ok.file c.args.store.now.plain c.replay_events.result _ _ _ _ _ c.in-Ok.ensures.opens (rw c.new-frames.ensures at c.replay_events.ensures.over)
 
-pub returns-clause-shelf : goal.returns-clause-shelf
-returns-clause-shelf g c = keeps_then (c.args.name.now ∷ []) [] c.open.ensures.keeps c.replay_events.ensures.shelf
+pub returns-in-Err-clause-outside : goal.returns-in-Err-clause-outside
+returns-in-Err-clause-outside g c =
+    rw c.unread.ensures (ends_here (c.args.name.now ∷ []) [] (only_shelf c.open.ensures.keeps) (unopened_causes c.in-Err.trouble c.in-Err.ensures.causes))
+
+pub returns-clause-outside : goal.returns-clause-outside
+returns-clause-outside g c = outside_then (c.args.name.now ∷ []) [] (only_shelf c.open.ensures.keeps) c.replay_events.ensures.outside

@@ -1,8 +1,9 @@
 -- Each exit is one step of the run: the configuration could not be read, has a fault, or the genesis state comes next.
 use Rattle.std.proofs.Common.{◌≡◌, [], ◌∷◌, Err, Ok}
 use Rattle.bc_preset.specs.Configs.{config_of}
-use Rattle.bc_outside.proofs.Keeping.{keeps_then, keeps_more}
 use Rattle.beacon_node.specs.inside.Files.{files_named}
+use Rattle.beacon_node.specs.declared.status.Status.TheVariants as statuses
+use Rattle.beacon_node.proofs.Outside.{only_shelf, outside_then, ends_here, no_fault, unread_causes}
 use Rattle.beacon_node.proofs.Readers.{unread_files, config_stops, config_goes_on}
 use Rattle.beacon_node.proofs.replay.replay.Goals as goal
 
@@ -20,11 +21,14 @@ returns-clause-answers g c =
     let gives : Err c.in-Err-read.fault ≡ config_of c.in-Ok.bytes.items = rw c.deref.ensures.value at c.in-Err-read.ensures in
     config_stops (files_named c.args.files.now) c.in-Ok.bytes.items _ _ c.in-Ok.ensures.reads _ c.in-Err-read.fault gives
 
-pub returns-in-Ok-read-clause-shelf : goal.returns-in-Ok-read-clause-shelf
-returns-in-Ok-read-clause-shelf g c = keeps_then (c.args.files.now.config.now ∷ []) (c.args.files.now.genesis.now ∷ c.args.files.now.events.now ∷ []) c.read_named.ensures.keeps c.replay_genesis.ensures.shelf
+pub returns-in-Ok-read-clause-outside : goal.returns-in-Ok-read-clause-outside
+returns-in-Ok-read-clause-outside g c =
+    outside_then (c.args.files.now.config.now ∷ []) (c.args.files.now.genesis.now ∷ c.args.files.now.events.now ∷ []) (only_shelf c.read_named.ensures.keeps) c.replay_genesis.ensures.outside
 
-pub returns-in-Err-clause-shelf : goal.returns-in-Err-clause-shelf
-returns-in-Err-clause-shelf g c = keeps_more (c.args.files.now.config.now ∷ []) (c.args.files.now.genesis.now ∷ c.args.files.now.events.now ∷ []) c.read_named.ensures.keeps
+pub returns-in-Err-clause-outside : goal.returns-in-Err-clause-outside
+returns-in-Err-clause-outside g c =
+    rw c.unread.ensures (ends_here (c.args.files.now.config.now ∷ []) (c.args.files.now.genesis.now ∷ c.args.files.now.events.now ∷ []) (only_shelf c.read_named.ensures.keeps) (unread_causes c.in-Err.trouble c.in-Err.ensures.causes))
 
-pub returns-clause-shelf : goal.returns-clause-shelf
-returns-clause-shelf g c = keeps_more (c.args.files.now.config.now ∷ []) (c.args.files.now.genesis.now ∷ c.args.files.now.events.now ∷ []) c.read_named.ensures.keeps
+pub returns-clause-outside : goal.returns-clause-outside
+returns-clause-outside g c =
+    ends_here (c.args.files.now.config.now ∷ []) (c.args.files.now.genesis.now ∷ c.args.files.now.events.now ∷ []) (only_shelf c.read_named.ensures.keeps) (no_fault (statuses.Config c.in-Err-read.fault) (λ is. cc) (λ is. cc))

@@ -1,4 +1,6 @@
 -- The store at genesis doesn't open, or the record comes next.
+use Rattle.std.proofs.Common.{[], ◌∷◌}
+use Rattle.beacon_node.proofs.Outside.{untouched, ends_here, store_causes}
 use Rattle.beacon_node.proofs.Readers.{opened_goes_on, opening_over}
 use Rattle.beacon_node.proofs.replay.replay_from.Goals as goal
 
@@ -9,3 +11,6 @@ returns-in-Err-clause-answers g c =
 pub returns-in-Ok-clause-answers : goal.returns-in-Ok-clause-answers
 returns-in-Ok-clause-answers g c =
     opened_goes_on c.args.config.now c.args.genesis c.in-Ok.store.plain c.args.record_name.now c.replay_record.result _ _ _ _ c.in-Ok.ensures c.replay_record.ensures.answers
+
+pub returns-in-Err-clause-outside : goal.returns-in-Err-clause-outside
+returns-in-Err-clause-outside g c = rw c.no_store.ensures (ends_here [] (c.args.record_name.now ∷ []) (untouched _ _) (store_causes c.in-Err.stop))

@@ -1,8 +1,8 @@
 -- Each exit is one step of the run: the genesis file could not be read, has a fault, or the record comes next.
 use Rattle.std.proofs.Common.{[], ◌∷◌, Err, Ok}
 use Rattle.spec_state.specs.Genesis.{genesis_of}
-use Rattle.bc_outside.proofs.Keeping.{keeps_then, keeps_more}
 use Rattle.beacon_node.specs.inside.GenesisAnswers.{GivesGenesis}
+use Rattle.beacon_node.proofs.Outside.{only_shelf, outside_then, ends_here, unread_causes, genesis_causes}
 use Rattle.beacon_node.proofs.Readers.{unread_genesis, genesis_stops, genesis_goes_on}
 use Rattle.beacon_node.proofs.replay.replay_genesis.Goals as goal
 
@@ -20,11 +20,14 @@ returns-in-Err-read_genesis-clause-answers g c =
     let gives : GivesGenesis (Err c.in-Err-read_genesis.stop) (genesis_of c.args.config.now.preset c.in-Ok.bytes.items) = rw (c.preset.ensures.exact, c.deref.ensures.value) at c.in-Err-read_genesis.ensures.gives in
     rw c.no_genesis.ensures (genesis_stops c.args.config.now c.args.genesis_name.now c.args.record_name.now c.in-Ok.bytes.items _ _ c.in-Ok.ensures.reads _ c.in-Err-read_genesis.stop gives)
 
-pub returns-in-Ok-read_genesis-clause-shelf : goal.returns-in-Ok-read_genesis-clause-shelf
-returns-in-Ok-read_genesis-clause-shelf g c = keeps_then (c.args.genesis_name.now ∷ []) (c.args.record_name.now ∷ []) c.read_named.ensures.keeps c.replay_from.ensures.shelf
+pub returns-in-Ok-read_genesis-clause-outside : goal.returns-in-Ok-read_genesis-clause-outside
+returns-in-Ok-read_genesis-clause-outside g c =
+    outside_then (c.args.genesis_name.now ∷ []) (c.args.record_name.now ∷ []) (only_shelf c.read_named.ensures.keeps) c.replay_from.ensures.outside
 
-pub returns-in-Err-clause-shelf : goal.returns-in-Err-clause-shelf
-returns-in-Err-clause-shelf g c = keeps_more (c.args.genesis_name.now ∷ []) (c.args.record_name.now ∷ []) c.read_named.ensures.keeps
+pub returns-in-Err-clause-outside : goal.returns-in-Err-clause-outside
+returns-in-Err-clause-outside g c =
+    rw c.unread.ensures (ends_here (c.args.genesis_name.now ∷ []) (c.args.record_name.now ∷ []) (only_shelf c.read_named.ensures.keeps) (unread_causes c.in-Err.trouble c.in-Err.ensures.causes))
 
-pub returns-in-Err-read_genesis-clause-shelf : goal.returns-in-Err-read_genesis-clause-shelf
-returns-in-Err-read_genesis-clause-shelf g c = keeps_more (c.args.genesis_name.now ∷ []) (c.args.record_name.now ∷ []) c.read_named.ensures.keeps
+pub returns-in-Err-read_genesis-clause-outside : goal.returns-in-Err-read_genesis-clause-outside
+returns-in-Err-read_genesis-clause-outside g c =
+    rw c.no_genesis.ensures (ends_here (c.args.genesis_name.now ∷ []) (c.args.record_name.now ∷ []) (only_shelf c.read_named.ensures.keeps) (genesis_causes c.in-Err-read_genesis.stop))
