@@ -1,12 +1,12 @@
 -- The value of digits, digit by digit.
-use Rattle.std.proofs.Common.{◌≡◌, ℕ, ◌+◌, ◌-◌, ◌*◌, ◌<◌, ◌≤◌, length, get_or, List, [], ◌∷◌, take, drop, fold, arith, ap, sym, ◌∙◌, true, refl, ◌^◌, Some, None}
+use Rattle.std.proofs.Common.{◌≡◌, ℕ, ◌+◌, ◌-◌, ◌*◌, ◌<◌, ◌≤◌, length, get_or, List, [], ◌∷◌, take, drop, fold, arith, ap, sym, ◌∙◌, true, not, ◌==◌, refl, ◌^◌, Some, None}
 use Rattle.std.specs.List.{list_all}
 use Rattle.std.specs.Char.{is_ascii_digit}
 use Rattle.std.proofs.lemmas.List.{take-append-drop, take_all}
 use Rattle.std.proofs.lemmas.List.Sums.{fold-append, fold_more}
 use Rattle.std.proofs.lemmas.List.Recursion.{and_at}
 use Rattle.std.proofs.lemmas.Bool.Decides.{nat_tests}
-use Rattle.bc_preset.specs.Numbers.{decimal_value, within_u64}
+use Rattle.bc_preset.specs.Numbers.{decimal_value, has_first_digit, within_u64}
 
 grows : (value : ℕ) (digits : List ℕ) → value ≤ fold (λ value digit. value * 10 + (digit - 48)) value digits
 grows value [] = omega arith
@@ -57,3 +57,9 @@ value_done digits i value h e fits =
     rw whole (grind (arith, nat_tests))
 
 pub ruleset digit_steps = (value_none, digit_at, value_too_large, value_done)
+
+-- the first of two digits or more is not 0
+pub first_of_more : (digits : List ℕ) → 2 ≤ length digits → not (get_or digits 0 0 == 48) ≡ has_first_digit digits
+first_of_more [] some = absurd (omega arith)
+first_of_more (digit ∷ []) some = absurd (omega arith)
+first_of_more (first ∷ second ∷ digits) some = refl
