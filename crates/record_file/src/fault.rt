@@ -25,13 +25,21 @@ pub enum RecordFault {
 
 impl fmt::Display for RecordFault {
     fn fmt<W: fmt::Write>(&self, f: &mut fmt::Formatter<W>) -> fmt::Result {
-        match self {
-            RecordFault::BadMagic => write!(f, "a record begins with BCR1"),
-            RecordFault::TooMany => write!(f, "more than 4194304 events"),
-            RecordFault::BadKind(kind) => write!(f, "a frame of kind {kind}, and kinds are 1 to 4"),
-            RecordFault::Torn => write!(f, "the record ends inside the event"),
-            RecordFault::TooLong(size) => write!(f, "a payload of {size} bytes, where at most 4194304 are allowed"),
-        }
+        let text = match self {
+            RecordFault::BadMagic => "a record begins with BCR1",
+            RecordFault::TooMany => "more than 4194304 events",
+            RecordFault::Torn => "the record ends inside the event",
+            RecordFault::BadKind(kind) => {
+                return write!(f, "a frame of kind {kind}, and kinds are 1 to 4");
+            }
+            RecordFault::TooLong(size) => {
+                return write!(
+                    f,
+                    "a payload of {size} bytes, where at most 4194304 are allowed"
+                );
+            }
+        };
+        f.write_str(text)
     }
 }
 
