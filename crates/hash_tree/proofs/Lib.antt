@@ -1,3 +1,4 @@
+pub mod Bits
 pub mod Chunks
 pub mod Depths
 pub mod Halves

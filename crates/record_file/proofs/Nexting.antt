@@ -1,5 +1,5 @@
 -- What `next` answers, by what was taken and found.
-use Rattle.std.proofs.Common.{◌≡◌, ◌≤◌, ◌<◌, ℕ, ◌+◌, Bool, true, false, List, [], ◌++◌, take, drop, Option, Some, None, Result, Ok, Err, refl, ap, ◌∙◌, append_assoc, arith, inl, inr}
+use Rattle.std.proofs.Common.{◌≡◌, ◌≤◌, ◌<◌, ℕ, ◌+◌, Bool, true, false, List, [], ◌++◌, take, drop, Option, Some, None, Result, Ok, Err, refl, ap, ◌∙◌, append_assoc, arith, inl, inr, length-take}
 use Rattle.std.specs.Str.{bytes_eq}
 use Rattle.bc_outside.specs.Told.{ShelfTold}
 use Rattle.bc_outside.specs.declared.trouble.Trouble.{Trouble}
@@ -10,12 +10,14 @@ use Rattle.record_file.specs.declared.fault.RecordFault.{RecordFault}
 use Rattle.record_file.specs.declared.fault.RecordFault.TheVariants.{BadMagic}
 use Rattle.record_file.specs.declared.fault.FrameStop.{FrameStop}
 use Rattle.record_file.specs.declared.fault.FrameStop.TheVariants.{Fault, ReadFault, NoMemory}
+use Rattle.record_file.specs.declared.found.Found.{Found}
 use Rattle.record_file.specs.declared.found.Found.TheVariants as found
 use Rattle.record_file.specs.declared.place.Place.TheVariants.{AtMagic, AtFrame, Stopped}
 use Rattle.record_file.specs.Record.{magic, most_events}
 use Rattle.record_file.specs.Stops.{StopsBy, stop_of}
 use Rattle.record_file.specs.Frames.{Reading, events_at, coming, Comes, Gives, Nexts, Moves}
-use Rattle.record_file.specs.inside.Found.{is_short}
+use Rattle.record_file.specs.inside.Found.{is_short, is_frame, IsWhole}
+use Rattle.record_file.specs.inside.Given.{Given}
 use Rattle.record_file.specs.inside.Fetched.{Fetched, Shows, Finds, Fills, Begins}
 use Rattle.record_file.proofs.Coming.{comes_as, ended_comes, fault_comes, short_comes, frame_comes, magic_comes, no_magic_comes, short_magic_comes, long_enough}
 
@@ -56,6 +58,36 @@ module _ (file events : ℕ) (old new : List ℕ) (s t : ShelfTold) (le : events
     gives = (refl, λ behind. comes_as AtFrame events old h.bytes new behind h.behind, short_comes events le f new short shows);
   }
   next_fails troubles.NoMemory (h, (f, short, shows)) = next_no_memory h
+
+  pub next_given : (f : Found) (result : Result (Option Event) FrameStop) (then : Reading) → (is_frame f ≡ true → events < most_events) → Fetched file (is_short f) old new s t → Shows events f new
+      → Given f result (record { file = file; events = events; place = AtFrame; buffered = new }) then → Nexts result (record { file = file; events = events; place = AtFrame; buffered = old }) then s t
+  next_given found.Ended result then room h shows g = rw (g.0, g.1) (next_ended h shows)
+  next_given (found.Fault reason) result then room h shows g = rw (g.0, g.1) (next_fault reason h shows)
+  next_given (found.Frame kind size) (Ok (Some event)) then room h shows g = rw (g.0, g.1) (next_frame kind size _ _ (room refl) h shows refl refl)
+  next_given (found.Frame kind size) (Ok None) then room h shows g = absurd g
+  next_given (found.Frame kind size) (Err (Fault reason)) then room h shows g = absurd g
+  next_given (found.Frame kind size) (Err ReadFault) then room h shows g = absurd g
+  next_given (found.Frame kind size) (Err NoMemory) then room h shows g = rw g (next_no_memory h)
+
+-- what was found moves the place
+pub moves_given : (f : Found) (result : Result (Option Event) FrameStop) (old new : Reading) → old.place ≡ AtFrame → IsWhole f old.buffered → Given f result old new → Moves result old new
+moves_given found.Ended result old new at whole g = rw (g.0, g.1) (refl, at)
+moves_given (found.Fault reason) result old new at whole g = rw (g.0, g.1) (refl, refl)
+moves_given (found.Frame kind size) (Ok (Some event)) old new at whole g = rw (g.0, g.1) (refl, at, whole.2, omega (arith, length-take size (drop 5 old.buffered), whole.1))
+moves_given (found.Frame kind size) (Ok None) old new at whole g = absurd g
+moves_given (found.Frame kind size) (Err (Fault reason)) old new at whole g = absurd g
+moves_given (found.Frame kind size) (Err ReadFault) old new at whole g = absurd g
+moves_given (found.Frame kind size) (Err NoMemory) old new at whole g = rw g refl
+
+-- the file stays, and no fault of the shelf is answered
+pub stays_given : (f : Found) (result : Result (Option Event) FrameStop) (old new : Reading) (before now : ℕ) → before ≤ now → Given f result old new → (new.file ≡ old.file) × StopsBy result before now
+stays_given found.Ended result old new before now le g = rw (g.0, g.1) (refl, le)
+stays_given (found.Fault reason) result old new before now le g = rw (g.0, g.1) (refl, le)
+stays_given (found.Frame kind size) (Ok (Some event)) old new before now le g = rw g.1 (refl, le)
+stays_given (found.Frame kind size) (Ok None) old new before now le g = absurd g
+stays_given (found.Frame kind size) (Err (Fault reason)) old new before now le g = absurd g
+stays_given (found.Frame kind size) (Err ReadFault) old new before now le g = absurd g
+stays_given (found.Frame kind size) (Err NoMemory) old new before now le g = rw g (refl, le)
 
 -- the record's first bytes
 module _ (file : ℕ) (old new : List ℕ) (s t : ShelfTold) where

@@ -51,7 +51,8 @@ pub fn find_frame<F: Shelf>(
 {
     loop {
         let found = frame_at(events, buffer.as_slice());
-        if !found.is_short() {
+        let whole = !found.is_short();
+        if whole {
             return Ok(found);
         }
         match buffer.more(shelf, file) {

@@ -1,13 +1,15 @@
 //! The frames of a record, one after the other.
 
-ghost use Rattle.std.specs.Prelude.{◌≡◌, ◌<◌, [], take, length, Err};
+ghost use Rattle.std.specs.Prelude.{◌≡◌, ◌<◌, [], take, length, true, Err};
 ghost use Rattle.std.specs.Str.{bytes_eq};
 ghost use Rattle.bc_outside.specs.Calls.{ShelfKeeps};
-ghost use Rattle.record_file.specs.Record.{fault_event, magic};
+ghost use Rattle.record_file.specs.Record.{fault_event, magic, most_events};
 ghost use Rattle.record_file.specs.Stops.{StopsBy};
 ghost use Rattle.record_file.specs.declared.fault.FrameStop.TheVariants.{Fault};
 ghost use Rattle.record_file.specs.Frames.{unread_file, Nexts, Moves, IsPlace, IfStopped};
 ghost use Rattle.record_file.specs.inside.Fetched.{Begins};
+ghost use Rattle.record_file.specs.inside.Found.{IsWhole, is_frame};
+ghost use Rattle.record_file.specs.inside.Given.{Given};
 ghost use Rattle.record_file.specs.declared.place.Place.TheVariants.{AtMagic, AtFrame};
 
 use crate::buffer::Buffer;
@@ -104,10 +106,19 @@ impl Frames {
         ensures causes { StopsBy result (F.told shelf.old).faults (F.told shelf.new).faults }
         ensures keeps { ShelfKeeps [] (F.told shelf.old) (F.told shelf.new) }
     {
-        let found = match find_frame(&mut self.buffer, shelf, self.file, self.events) {
-            Ok(found) => found,
-            Err(trouble) => return Err(FrameStop::from(trouble)),
-        };
+        match find_frame(&mut self.buffer, shelf, self.file, self.events) {
+            Ok(found) => self.give(found),
+            Err(trouble) => Err(FrameStop::from(trouble)),
+        }
+    }
+
+    // Gives what was found at the front of the buffer. A frame is read, unless memory runs out.
+    fn give(&mut self, found: Found) -> Result<Option<Event>, FrameStop>
+        requires at { self.old.place ≡ AtFrame }
+        requires whole { IsWhole found self.old.buffered }
+        requires room { is_frame found ≡ true → self.old.events < most_events }
+        ensures given { Given found result self.old self.new }
+    {
         match found {
             Found::Ended => Ok(None),
             Found::Fault(fault) => {

@@ -1,6 +1,6 @@
 -- How a pass over pairs of mirror images goes on.
 use Rattle.std.proofs.Common.{◌≡◌, ℕ, ◌+◌, ◌-◌, ◌<◌, ◌≤◌, List, Bool, true, false, cond, ◌==◌, slice_index}
-use Rattle.std.proofs.Common.{refl, ap, ◌∙◌, arith, inl, inr}
+use Rattle.std.proofs.Common.{refl, ap, sym, ◌∙◌, ◌⊎◌, arith, inl, inr}
 use Rattle.std.specs.Int.{bit_at}
 use Rattle.std.proofs.lemmas.Bool.{cases_lt}
 use Rattle.shuffling.specs.Shuffling.{pivot_of, bit_in, bit_of, after_round}
@@ -48,6 +48,49 @@ join_word source sum first middle bits old list new one fits same before after =
     let at : middle + (later sum place - middle) ≡ later sum place = omega arith in
     let bit : bit_at bits (later sum place - middle) ≡ bit_in source (later sum place) = same (later sum place - middle) (omega arith) ∙ ap (bit_in source) at in
     (ap (λ b. cond (b == 1) (sum - place) place) bit, later_same sum place (bit_in source (later sum place) == 1) (omega arith)))
+
+-- one of two that are equal to two others, each
+pub either_of : (b : Bool) (x y u v : ℕ) → x ≡ u → y ≡ v → cond b x y ≡ cond b u v
+either_of true x y u v one two = one
+either_of false x y u v one two = two
+
+item_of : (b : Bool) (list : List ℕ) (m n : ℕ) → cond b (slice_index list m) (slice_index list n) ≡ slice_index list (cond b m n)
+item_of true list m n = refl
+item_of false list m n = refl
+
+-- Sixteen items that were written over, first the later ones and then the earlier ones, are passed by the bits of a word.
+pub swapped_word : (bits sum first images : ℕ) (old mid new : List ℕ) → sum < first + first → first + 16 ≤ sum + 1 → images ≡ sum - first - 15
+    → ((j : ℕ) → j < 16 → slice_index mid (first + j) ≡ cond (bit_at bits j == 1) (slice_index old (images + (15 - j))) (slice_index old (first + j)))
+    → ((index : ℕ) → (index < first) ⊎ (first + 16 ≤ index) → slice_index mid index ≡ slice_index old index)
+    → ((j : ℕ) → j < 16 → slice_index new (images + j) ≡ cond (bit_at bits (15 - j) == 1) (slice_index old (first + (15 - j))) (slice_index old (images + (15 - (15 - j)))))
+    → ((index : ℕ) → (index < images) ⊎ (images + 16 ≤ index) → slice_index new index ≡ slice_index mid index)
+    → Passed (by_word bits first sum) sum first (first + 16) old new
+swapped_word bits sum first images old mid new earlier fits at high high_else low low_else = record {
+  inside = λ index more less. elim (cases_lt index first) [
+    | inl below ↦
+        let j : ℕ = index - images in
+        let here : images + j ≡ index = omega arith in
+        let bit : 15 - j ≡ later sum index - first = omega arith in
+        let other : first + (15 - j) ≡ sum - index = omega arith in
+        let same : images + (15 - (15 - j)) ≡ index = omega arith in
+        ap (slice_index new) (sym here) ∙ low j (omega arith) ∙ item_of (bit_at bits (15 - j) == 1) old (first + (15 - j)) (images + (15 - (15 - j)))
+        ∙ ap (slice_index old) (ap (λ k. cond (bit_at bits k == 1) (first + (15 - j)) (images + (15 - (15 - j)))) bit ∙ either_of (bit_at bits (later sum index - first) == 1) _ _ _ _ other same)
+    | inr above ↦
+        let j : ℕ = index - first in
+        let here : first + j ≡ index = omega arith in
+        let bit : j ≡ later sum index - first = omega arith in
+        let other : images + (15 - j) ≡ sum - index = omega arith in
+        low_else index (inr (omega arith)) ∙ ap (slice_index mid) (sym here) ∙ high j (omega arith) ∙ item_of (bit_at bits j == 1) old (images + (15 - j)) (first + j)
+        ∙ ap (slice_index old) (ap (λ k. cond (bit_at bits k == 1) (images + (15 - j)) (first + j)) bit ∙ either_of (bit_at bits (later sum index - first) == 1) _ _ _ _ other here)
+  ];
+  outside = λ index out. elim (cases_lt index first) [
+    | inl below ↦ elim (cases_lt index images) [
+      | inl less ↦ low_else index (inl less) ∙ high_else index (inl below)
+      | inr more ↦ low_else index (inr (omega (arith, out))) ∙ high_else index (inl below)
+    ]
+    | inr above ↦ low_else index (inr (omega arith)) ∙ high_else index (inr (omega (arith, out)))
+  ];
+}
 
 -- a round takes the item for a place from where its page's bit says
 pub same_choice : (seed source : List ℕ) (round count sum place : ℕ) → place ≤ sum → flip_of (pivot_of seed round count) count place ≡ sum - place → bit_in source (later sum place) ≡ bit_of seed round (later sum place) → (by_source source sum place ≡ after_round seed round count place) × (later sum (after_round seed round count place) ≡ later sum place)

@@ -24,16 +24,18 @@ fn swap_loaded(list: &mut [u8], sum: usize, first: usize, one: u8x16, other: u8x
     store(list, images, turned(mixed(other, one, bits)));
 }
 
-/// Swaps one position with its mirror image where its bit is 1.
+/// Swaps one position with its mirror image where its bit is 1. Both are written in any case.
 fn swap_one(list: &mut [u8], sum: usize, position: usize, source: &[u8; 32])
     requires in_list { position < length list.old }
     requires earlier { sum < position + position }
     requires image { position ≤ sum }
     ensures { Passed (by_source source.now sum) sum position (position + 1) list.old list.new }
 {
-    if bit_at(source, position as u64) == 1 {
-        list.swap(sum - position, position);
-    }
+    let image = sum - position;
+    let (one, other) = (list[position], list[image]);
+    let swaps = bit_at(source, position as u64) == 1;
+    list[position] = if swaps { other } else { one };
+    list[image] = if swaps { one } else { other };
 }
 
 /// Swaps positions with their mirror images one by one where their bits are 1.

@@ -1,27 +1,41 @@
 //! What one round of the shuffle takes from the seed: its pivot, and a bit for each position.
 
-ghost use Rattle.std.specs.Prelude.{◌≡◌, ℕ, ◌+◌, ◌<◌, ◌/◌, ◌%◌, ◌^◌};
-ghost use Rattle.std.specs.Int.{bit_at};
+ghost use Rattle.std.specs.Prelude.{◌≡◌, ℕ, ◌+◌, ◌<◌, ◌/◌, ◌%◌, ◌^◌, [], ◌∷◌, ◌++◌, take};
+ghost use Rattle.std.specs.Int.{bit_at, from_le_bytes, w64};
+ghost use Rattle.hash_tree.specs.Merkle.{hash};
 ghost use Rattle.shuffling.specs.Shuffling.{pivot_of, source_of, bit_in};
 
 use hash_tree::Root;
 use sha2::{Digest, Sha256};
 
+/// The hash of the seed and a round's number.
+#[tactic(auto, unfolding(hash_tree::specs::Merkle::hash))]
+fn round_hash(seed: &Root, round: u8) -> [u8; 32]
+    ensures { result ≡ hash (seed.now ++ round ∷ []) }
+{
+    let mut hasher = Sha256::new();
+    hasher.update(seed);
+    hasher.update(&[round]);
+    hasher.finalize()
+}
+
+/// The number that the first eight bytes write.
+fn first_number(bytes: &[u8; 32]) -> u64
+    ensures { result ≡ from_le_bytes w64 (take 8 bytes.now) }
+{
+    u64::from_le_bytes([
+        bytes[0], bytes[1], bytes[2], bytes[3], bytes[4], bytes[5], bytes[6], bytes[7],
+    ])
+}
+
 /// The pivot of a round, below `count`.
-#[tactic(auto, unfolding(crate::specs::Shuffling::pivot_of, hash_tree::specs::Merkle::hash))]
 pub fn pivot_at(seed: &Root, round: u8, count: u64) -> u64
     requires { 0 < count }
     ensures pivot { result ≡ pivot_of seed.now round count }
     ensures below { result < count }
 {
-    let mut hasher = Sha256::new();
-    hasher.update(seed);
-    hasher.update(&[round]);
-    let digest = hasher.finalize();
-    let first = [
-        digest[0], digest[1], digest[2], digest[3], digest[4], digest[5], digest[6], digest[7],
-    ];
-    u64::from_le_bytes(first) % count
+    let number = first_number(&round_hash(seed, round));
+    number % count
 }
 
 /// The bits of the page of 256 positions in which `position` is.

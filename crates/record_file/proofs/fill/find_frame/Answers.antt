@@ -19,7 +19,7 @@ pub returns-in-Err-clause-finds : goal.returns-in-Err-clause-finds
 returns-in-Err-clause-finds g c =
     let f = c.in-Err.ensures.fetches in
     let shows : Shows c.args.events c.frame_at-found.result c.more.new.self = rw (f.0, ← c.as_slice.ensures) c.frame_at-found.ensures.read in
-    (fetched_then c.loop-found.invariant.fetched (fetched_stays c.args.file f.0 f.1), (c.frame_at-found.result, sym c.is_short.ensures ∙ c.if-not-is_short.false, shows))
+    (fetched_then c.loop-found.invariant.fetched (fetched_stays c.args.file f.0 f.1), (c.frame_at-found.result, sym c.is_short-whole.ensures ∙ c.if-whole.false, shows))
 
 pub returns-then-not-came-clause-keeps : goal.returns-then-not-came-clause-keeps
 returns-then-not-came-clause-keeps g c = keeps_then [] [] c.loop-found.invariant.keeps c.more.ensures.keeps
@@ -27,13 +27,13 @@ returns-then-not-came-clause-keeps g c = keeps_then [] [] c.loop-found.invariant
 pub returns-then-not-came-clause-finds : goal.returns-then-not-came-clause-finds
 returns-then-not-came-clause-finds g c =
     let f = c.in-Ok.ensures.fetches in
-    let short : is_short c.frame_at-found.result ≡ true = sym c.is_short.ensures ∙ c.if-not-is_short.false in
+    let short : is_short c.frame_at-found.result ≡ true = sym c.is_short-whole.ensures ∙ c.if-whole.false in
     let shows : Shows c.args.events c.frame_at-found.result c.more.new.self = rw (f.2 c.if-not-came.true, ← c.as_slice.ensures) c.frame_at-found.ensures.read in
     (rw short (fetched_once_end c.args.file c.in-Ok.came c.if-not-came.true c.loop-found.invariant.fetched f.0), shows)
 
-pub returns-then-not-is_short-clause-finds : goal.returns-then-not-is_short-clause-finds
-returns-then-not-is_short-clause-finds g c =
-    let whole : is_short c.frame_at-found.result ≡ false = sym c.is_short.ensures ∙ c.if-not-is_short.true in
+pub returns-then-whole-clause-finds : goal.returns-then-whole-clause-finds
+returns-then-whole-clause-finds g c =
+    let whole : is_short c.frame_at-found.result ≡ false = sym c.is_short-whole.ensures ∙ c.if-whole.true in
     (rw whole c.loop-found.invariant.fetched, rw c.as_slice.ensures at c.frame_at-found.ensures.read)
 
 pub loop-found-preserved : goal.loop-found-preserved

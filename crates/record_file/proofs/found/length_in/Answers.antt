@@ -1,6 +1,6 @@
 -- The low byte of a length comes first.
-use Rattle.std.proofs.Common.{rules}
+use Rattle.std.proofs.Common.{arith}
 use Rattle.record_file.proofs.found.length_in.Goals as goal
 
 pub returns : goal.returns
-returns c = search rules
+returns c = omega arith

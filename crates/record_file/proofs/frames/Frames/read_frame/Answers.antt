@@ -2,8 +2,7 @@ use Rattle.std.proofs.Common.{◌≡◌, ◌≤◌, ◌∙◌, ap, refl, subst}
 use Rattle.record_file.specs.declared.place.Place.TheVariants.{AtFrame}
 use Rattle.record_file.specs.Record.{most_events}
 use Rattle.record_file.specs.Frames.{Reading, IsPlace}
-use Rattle.record_file.proofs.Parts.{part_of}
-use Rattle.record_file.proofs.Nexting.{next_fails, next_ended, next_fault, next_frame, next_no_memory}
+use Rattle.record_file.proofs.Nexting.{next_fails, next_given, moves_given, moves_after, stays_given}
 use Rattle.record_file.proofs.frames.Frames.read_frame.Goals as goal
 
 pub returns-in-Err-clause-nexts : goal.returns-in-Err-clause-nexts
@@ -12,30 +11,19 @@ returns-in-Err-clause-nexts g c =
     let events : c.self.inside.events ≤ most_events = subst (λ s. IsPlace s c.self.inside.events) place c.self.invariant in
     rw (c.from.ensures, ← c.self.view_is, place) (next_fails c.self.inside.file c.self.inside.events c.self.inside.buffer c.find_frame.new.buffer _ _ events _ c.in-Err.ensures.finds)
 
-pub returns-in-Ended-clause-nexts : goal.returns-in-Ended-clause-nexts
-returns-in-Ended-clause-nexts g c =
+pub returns-in-Ok-clause-nexts : goal.returns-in-Ok-clause-nexts
+returns-in-Ok-clause-nexts g c =
     let place : c.self.inside.place ≡ AtFrame = ap (λ (r : Reading). r.place) c.self.view_is ∙ c.requires.at in
     let events : c.self.inside.events ≤ most_events = subst (λ s. IsPlace s c.self.inside.events) place c.self.invariant in
-    let finds = rw c.in-Ended.is at c.in-Ok.ensures.finds in
-    rw (← c.self.view_is, place) (next_ended c.self.inside.file c.self.inside.events c.self.inside.buffer c.find_frame.new.buffer _ _ events finds.0 finds.1)
+    rw (← c.self.view_is, place) (next_given c.self.inside.file c.self.inside.events c.self.inside.buffer c.find_frame.new.buffer _ _ events c.in-Ok.found _ _ c.in-Ok.ensures.room c.in-Ok.ensures.finds.0 c.in-Ok.ensures.finds.1 (rw place at c.give.ensures.given))
 
-pub returns-in-Fault-clause-nexts : goal.returns-in-Fault-clause-nexts
-returns-in-Fault-clause-nexts g c =
+pub returns-in-Ok-clause-moves : goal.returns-in-Ok-clause-moves
+returns-in-Ok-clause-moves g c =
     let place : c.self.inside.place ≡ AtFrame = ap (λ (r : Reading). r.place) c.self.view_is ∙ c.requires.at in
-    let events : c.self.inside.events ≤ most_events = subst (λ s. IsPlace s c.self.inside.events) place c.self.invariant in
-    let finds = rw c.in-Fault.is at c.in-Ok.ensures.finds in
-    rw (← c.self.view_is, place) (next_fault c.self.inside.file c.self.inside.events c.self.inside.buffer c.find_frame.new.buffer _ _ events c.in-Fault.fault finds.0 finds.1)
+    rw (← c.self.view_is) (moves_after c.give.result _ _ c.give.new.self refl (moves_given c.in-Ok.found c.give.result _ c.give.new.self place c.in-Ok.ensures.whole c.give.ensures.given))
 
-pub returns-in-Ok-from_slice-clause-nexts : goal.returns-in-Ok-from_slice-clause-nexts
-returns-in-Ok-from_slice-clause-nexts g c =
-    let place : c.self.inside.place ≡ AtFrame = ap (λ (r : Reading). r.place) c.self.view_is ∙ c.requires.at in
-    let events : c.self.inside.events ≤ most_events = subst (λ s. IsPlace s c.self.inside.events) place c.self.invariant in
-    let finds = rw c.in-Frame.is at c.in-Ok.ensures.finds in
-    rw (← c.self.view_is, place) (next_frame c.self.inside.file c.self.inside.events c.self.inside.buffer c.find_frame.new.buffer _ _ events c.in-Frame.kind c.in-Frame.size c.new.result c.read.new.self (c.in-Ok.ensures.room (rw c.in-Frame.is refl)) finds.0 finds.1 (c.new.ensures ∙ c.in-Ok-from_slice.ensures.items ∙ part_of 5 c.in-Frame.size _ _ c.as_slice.ensures) c.read.ensures)
+pub returns-in-Ok-clause-file : goal.returns-in-Ok-clause-file
+returns-in-Ok-clause-file g c = rw (← c.self.view_is) (stays_given c.in-Ok.found c.give.result _ c.give.new.self _ _ c.in-Ok.ensures.causes c.give.ensures.given).0
 
-pub returns-in-Err-from_slice-clause-nexts : goal.returns-in-Err-from_slice-clause-nexts
-returns-in-Err-from_slice-clause-nexts g c =
-    let place : c.self.inside.place ≡ AtFrame = ap (λ (r : Reading). r.place) c.self.view_is ∙ c.requires.at in
-    let events : c.self.inside.events ≤ most_events = subst (λ s. IsPlace s c.self.inside.events) place c.self.invariant in
-    let finds = rw c.in-Frame.is at c.in-Ok.ensures.finds in
-    rw (← c.self.view_is, place) (next_no_memory c.self.inside.file c.self.inside.events c.self.inside.buffer c.find_frame.new.buffer _ _ events finds.0)
+pub returns-in-Ok-clause-causes : goal.returns-in-Ok-clause-causes
+returns-in-Ok-clause-causes g c = (stays_given c.in-Ok.found c.give.result _ c.give.new.self _ _ c.in-Ok.ensures.causes c.give.ensures.given).1
