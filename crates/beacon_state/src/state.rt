@@ -188,9 +188,9 @@ impl State {
     {
         let lists = both(self.share_roots(), self.share_registry());
         let ((roots, registry), pending) = both(lists, self.share_pending())?;
-        let (block_roots, state_roots, historical_roots, randao_mixes) = roots;
-        let (validators, balances, slashings) = registry;
-        let (eth1_data_votes, previous_epoch_attestations, current_epoch_attestations) = pending;
+        let (((block_roots, state_roots), historical_roots), randao_mixes) = roots;
+        let ((validators, balances), slashings) = registry;
+        let ((eth1_data_votes, previous_epoch_attestations), current_epoch_attestations) = pending;
         let genesis_validators_root = self.genesis_validators_root;
         let justification_bits = self.justification_bits;
         Ok(State {
@@ -223,22 +223,20 @@ impl State {
     /// The lists of roots once more.
     fn share_roots(
         &self,
-    ) -> Result<(Values<Root>, Values<Root>, Values<Root>, Values<Root>), NoMemory>
+    ) -> Result<(((Values<Root>, Values<Root>), Values<Root>), Values<Root>), NoMemory>
         ensures { IfOk result (HasRoots self.now) }
     {
-        let vectors = both(self.block_roots.share(), self.state_roots.share());
-        let others = both(self.historical_roots.share(), self.randao_mixes.share());
-        let ((block_roots, state_roots), (historical_roots, randao_mixes)) = both(vectors, others)?;
-        Ok((block_roots, state_roots, historical_roots, randao_mixes))
+        let of_chain = both(self.block_roots.share(), self.state_roots.share());
+        let roots = both(of_chain, self.historical_roots.share());
+        both(roots, self.randao_mixes.share())
     }
 
     /// The registry, the balances and the slashed balances once more.
-    fn share_registry(&self) -> Result<(Values<Validator>, Numbers, Numbers), NoMemory>
+    fn share_registry(&self) -> Result<((Values<Validator>, Numbers), Numbers), NoMemory>
         ensures { IfOk result (HasRegistry self.now) }
     {
-        let amounts = both(self.balances.share(), self.slashings.share());
-        let (validators, (balances, slashings)) = both(self.validators.share(), amounts)?;
-        Ok((validators, balances, slashings))
+        let registry = both(self.validators.share(), self.balances.share());
+        both(registry, self.slashings.share())
     }
 
     /// The votes and the pending attestations once more.
@@ -246,20 +244,18 @@ impl State {
         &self,
     ) -> Result<
         (
-            Values<Eth1Data>,
-            Values<PendingAttestation>,
+            (Values<Eth1Data>, Values<PendingAttestation>),
             Values<PendingAttestation>,
         ),
         NoMemory,
     >
         ensures { IfOk result (HasPending self.now) }
     {
-        let attestations = both(
+        let pending = both(
+            self.eth1_data_votes.share(),
             self.previous_epoch_attestations.share(),
-            self.current_epoch_attestations.share(),
         );
-        let (votes, (previous, current)) = both(self.eth1_data_votes.share(), attestations)?;
-        Ok((votes, previous, current))
+        both(pending, self.current_epoch_attestations.share())
     }
 
     /// The state is within the limits of its preset. It does nothing when it runs.

@@ -1,9 +1,13 @@
 //! Writing a state: its fields come from the state, and the bytes go to files.
 
-ghost use Rattle.std.specs.Prelude.{◌≡◌, Some, OnOk, IfOk};
-ghost use Rattle.ssz_codec.specs.Layout.{fixed_length};
+ghost use Rattle.std.specs.Prelude.{◌≡◌, ◌≤◌, ◌^◌, length, map, replicate, Some, OnOk, IfOk};
+ghost use Rattle.std.specs.List.{flat_map};
+ghost use Rattle.ssz_codec.specs.declared.layout.Field.TheVariants.{Variable};
+ghost use Rattle.ssz_codec.specs.Basic.{uint64};
+ghost use Rattle.ssz_codec.specs.Layout.{fixed_length, joined};
 ghost use Rattle.ssz_codec.specs.Containers.{layout_of, parts_of};
-ghost use Rattle.ssz_codec.specs.inside.Halves.{with_parts};
+ghost use Rattle.ssz_codec.specs.inside.Halves.{with_fixed, with_variable, with_parts};
+ghost use Rattle.beacon_types.specs.Containers.{pending_attestation_codec};
 ghost use Rattle.spec_state.specs.States.{state_fields, state_codec};
 ghost use Rattle.state_parts.specs.inside.Groups.{clock_fields, history_fields, eth1_fields, registry_fields, pending_fields, finality_fields, clock_of, history_of, eth1_of, registry_of, pending_of, finality_of};
 ghost use Rattle.spec_state.specs.Limits.{IsState};
@@ -15,29 +19,80 @@ ghost use Rattle.beacon_state.specs.Writing.{HasWriting};
 use crate::state::State;
 use bc_preset::Preset;
 use bc_words::NoMemory;
-use ssz_codec::PartsWriter;
+use beacon_types::PendingAttestation;
+use ssz_codec::{FieldRow, PartsWriter, pieces_of};
+use state_parts::{InRange, Values};
 use std::alloc::Global;
 
 #[tactic(auto, unfolding(state_parts::specs::inside::Groups::clock_fields))]
 fn add_clock(s: &State, out: &mut PartsWriter) -> Result<(), NoMemory>
     ensures { OnOk result (out.new ≡ with_parts (layout_of clock_fields) (parts_of clock_fields (clock_of s.now)) out.old) }
 {
-    out.add(&s.genesis_time())?;
-    out.add(&s.genesis_validators_root())?;
-    out.add(&s.slot())?;
-    out.add(&s.fork())?;
-    out.add(&s.latest_block_header())?;
-    Ok(())
+    let fields = pieces_of!(
+        &s.genesis_time(),
+        &s.genesis_validators_root(),
+        &s.slot(),
+        &s.fork(),
+        &s.latest_block_header()
+    );
+    fields.add_to(out)
+}
+
+/// A vector of the state.
+fn add_vector<T: InRange>(
+    alloc: Global,
+    values: &Values<T>,
+    out: &mut PartsWriter,
+) -> Result<(), NoMemory>
+    ensures { OnOk result (out.new ≡ with_fixed (flat_map T.Ssz.codec.serialize values.now.items) out.old) }
+{
+    match values.copied(alloc) {
+        Ok(copies) => out.add_vector(&copies),
+        Err(refused) => Err(refused),
+    }
+}
+
+/// A list of the state, of values of fixed size.
+fn add_items<T: InRange>(
+    alloc: Global,
+    values: &Values<T>,
+    out: &mut PartsWriter,
+) -> Result<(), NoMemory>
+    ensures { OnOk result (out.new ≡ with_variable (flat_map T.Ssz.codec.serialize values.now.items) out.old) }
+{
+    match values.copied(alloc) {
+        Ok(copies) => out.add_items(&copies),
+        Err(refused) => Err(refused),
+    }
+}
+
+/// The slashed balances.
+fn add_slashings(alloc: Global, s: &State, out: &mut PartsWriter) -> Result<(), NoMemory>
+    ensures { OnOk result (out.new ≡ with_fixed (flat_map uint64.serialize s.now.slashings) out.old) }
+{
+    match s.slashings().copied(alloc) {
+        Ok(copies) => out.add_vector(&copies),
+        Err(refused) => Err(refused),
+    }
+}
+
+/// The balances.
+fn add_balances(alloc: Global, s: &State, out: &mut PartsWriter) -> Result<(), NoMemory>
+    ensures { OnOk result (out.new ≡ with_variable (flat_map uint64.serialize s.now.balances) out.old) }
+{
+    match s.balances().copied(alloc) {
+        Ok(copies) => out.add_items(&copies),
+        Err(refused) => Err(refused),
+    }
 }
 
 #[tactic(auto, unfolding(state_parts::specs::inside::Groups::history_fields))]
 fn add_history(alloc: Global, s: &State, out: &mut PartsWriter) -> Result<(), NoMemory>
     ensures { OnOk result (out.new ≡ with_parts (layout_of (history_fields s.now.preset)) (parts_of (history_fields s.now.preset) (history_of s.now)) out.old) }
 {
-    out.add_vector(&s.block_roots().copied(alloc)?)?;
-    out.add_vector(&s.state_roots().copied(alloc)?)?;
-    out.add_items(&s.historical_roots().copied(alloc)?)?;
-    Ok(())
+    add_vector(alloc, s.block_roots(), out)?;
+    add_vector(alloc, s.state_roots(), out)?;
+    add_items(alloc, s.historical_roots(), out)
 }
 
 #[tactic(auto, unfolding(state_parts::specs::inside::Groups::eth1_fields))]
@@ -45,20 +100,33 @@ fn add_eth1(alloc: Global, s: &State, out: &mut PartsWriter) -> Result<(), NoMem
     ensures { OnOk result (out.new ≡ with_parts (layout_of (eth1_fields s.now.preset)) (parts_of (eth1_fields s.now.preset) (eth1_of s.now)) out.old) }
 {
     out.add(&s.eth1_data())?;
-    out.add_items(&s.eth1_data_votes().copied(alloc)?)?;
-    out.add(&s.eth1_deposit_index())?;
-    Ok(())
+    add_items(alloc, s.eth1_data_votes(), out)?;
+    out.add(&s.eth1_deposit_index())
 }
 
 #[tactic(auto, unfolding(state_parts::specs::inside::Groups::registry_fields))]
 fn add_registry(alloc: Global, s: &State, out: &mut PartsWriter) -> Result<(), NoMemory>
     ensures { OnOk result (out.new ≡ with_parts (layout_of (registry_fields s.now.preset)) (parts_of (registry_fields s.now.preset) (registry_of s.now)) out.old) }
 {
-    out.add_items(&s.validators().copied(alloc)?)?;
-    out.add_items(&s.balances().copied(alloc)?)?;
-    out.add_vector(&s.randao_mixes().copied(alloc)?)?;
-    out.add_vector(&s.slashings().copied(alloc)?)?;
-    Ok(())
+    add_items(alloc, s.validators(), out)?;
+    add_balances(alloc, s, out)?;
+    add_vector(alloc, s.randao_mixes(), out)?;
+    add_slashings(alloc, s, out)
+}
+
+/// A list of pending attestations.
+fn add_attestations(
+    alloc: Global,
+    values: &Values<PendingAttestation>,
+    out: &mut PartsWriter,
+) -> Result<(), NoMemory>
+    requires { length values.now.items ≤ 2 ^ 40 }
+    ensures { OnOk result (out.new ≡ with_variable (joined (replicate (length values.now.items) Variable) (map pending_attestation_codec.serialize values.now.items)) out.old) }
+{
+    match values.copied(alloc) {
+        Ok(copies) => out.add_list(&copies),
+        Err(refused) => Err(refused),
+    }
 }
 
 #[tactic(auto, unfolding(state_parts::specs::inside::Groups::pending_fields), using(bc_preset::proofs::Bounds::preset_bounds))]
@@ -66,20 +134,21 @@ fn add_pending(alloc: Global, s: &State, out: &mut PartsWriter) -> Result<(), No
     ensures { OnOk result (out.new ≡ with_parts (layout_of (pending_fields s.now.preset)) (parts_of (pending_fields s.now.preset) (pending_of s.now)) out.old) }
 {
     let _preset = s.preset();
-    out.add_list(&s.previous_epoch_attestations().copied(alloc)?)?;
-    out.add_list(&s.current_epoch_attestations().copied(alloc)?)?;
-    Ok(())
+    add_attestations(alloc, s.previous_epoch_attestations(), out)?;
+    add_attestations(alloc, s.current_epoch_attestations(), out)
 }
 
 #[tactic(auto, unfolding(state_parts::specs::inside::Groups::finality_fields))]
 fn add_finality(s: &State, out: &mut PartsWriter) -> Result<(), NoMemory>
     ensures { OnOk result (out.new ≡ with_parts (layout_of finality_fields) (parts_of finality_fields (finality_of s.now)) out.old) }
 {
-    out.add(&s.justification_bits())?;
-    out.add(&s.previous_justified_checkpoint())?;
-    out.add(&s.current_justified_checkpoint())?;
-    out.add(&s.finalized_checkpoint())?;
-    Ok(())
+    let fields = pieces_of!(
+        &s.justification_bits(),
+        &s.previous_justified_checkpoint(),
+        &s.current_justified_checkpoint(),
+        &s.finalized_checkpoint()
+    );
+    fields.add_to(out)
 }
 
 /// The length of the fixed part of a writing, in bytes, which no state of the preset is shorter than.

@@ -54,21 +54,21 @@ pub record IsHeld (s : Inside) : Type 0 where
 
 -- these are the lists of a state, each with its limit: those of roots, those by validator or epoch, and those that a period or
 -- an epoch fills
-abbrev pub HasRoots : PlainState → Limited (List ℕ) × Limited (List ℕ) × Limited (List ℕ) × Limited (List ℕ) → Type 0
+abbrev pub HasRoots : PlainState → ((Limited (List ℕ) × Limited (List ℕ)) × Limited (List ℕ)) × Limited (List ℕ) → Type 0
 HasRoots s lists =
-    (lists.0 ≡ limited_to s.preset.slots_per_historical_root s.block_roots)
-    × (lists.1 ≡ limited_to s.preset.slots_per_historical_root s.state_roots)
-    × (lists.2 ≡ limited_to s.preset.historical_roots_limit s.historical_roots)
-    × (lists.3 ≡ limited_to s.preset.epochs_per_historical_vector s.randao_mixes)
+    (lists.0.0.0 ≡ limited_to s.preset.slots_per_historical_root s.block_roots)
+    × (lists.0.0.1 ≡ limited_to s.preset.slots_per_historical_root s.state_roots)
+    × (lists.0.1 ≡ limited_to s.preset.historical_roots_limit s.historical_roots)
+    × (lists.1 ≡ limited_to s.preset.epochs_per_historical_vector s.randao_mixes)
 
-abbrev pub HasRegistry : PlainState → Limited Validator × Limited ℕ × Limited ℕ → Type 0
+abbrev pub HasRegistry : PlainState → (Limited Validator × Limited ℕ) × Limited ℕ → Type 0
 HasRegistry s lists =
-    (lists.0 ≡ limited_to s.preset.validator_registry_limit s.validators)
-    × (lists.1 ≡ limited_to s.preset.validator_registry_limit s.balances)
-    × (lists.2 ≡ limited_to s.preset.epochs_per_slashings_vector s.slashings)
+    (lists.0.0 ≡ limited_to s.preset.validator_registry_limit s.validators)
+    × (lists.0.1 ≡ limited_to s.preset.validator_registry_limit s.balances)
+    × (lists.1 ≡ limited_to s.preset.epochs_per_slashings_vector s.slashings)
 
-abbrev pub HasPending : PlainState → Limited Eth1Data × Limited PendingAttestation × Limited PendingAttestation → Type 0
+abbrev pub HasPending : PlainState → (Limited Eth1Data × Limited PendingAttestation) × Limited PendingAttestation → Type 0
 HasPending s lists =
-    (lists.0 ≡ limited_to (votes_limit s.preset) s.eth1_data_votes)
-    × (lists.1 ≡ limited_to (attestations_limit s.preset) s.previous_epoch_attestations)
-    × (lists.2 ≡ limited_to (attestations_limit s.preset) s.current_epoch_attestations)
+    (lists.0.0 ≡ limited_to (votes_limit s.preset) s.eth1_data_votes)
+    × (lists.0.1 ≡ limited_to (attestations_limit s.preset) s.previous_epoch_attestations)
+    × (lists.1 ≡ limited_to (attestations_limit s.preset) s.current_epoch_attestations)
