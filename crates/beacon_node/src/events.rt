@@ -7,12 +7,12 @@ ghost use Rattle.beacon_node.specs.Answers.{OutsideKeeps, Replayed, taken_of};
 ghost use Rattle.beacon_node.specs.inside.Statuses.{unwritten, no_frame};
 ghost use Rattle.beacon_node.specs.inside.Progress.{Progress, OneMore, EventsOver, HasLine, EndsAt, outcome_of};
 
+use crate::head::head_of;
+use crate::lines::{accepted_line, refused_line};
 use crate::reading::unread;
 use crate::status::Status;
 use bc_outside::{Shelf, Sink, Trouble, write_all};
 use bc_words::{NoMemory, StoreStop};
-use event_lines::head::head_of;
-use event_lines::lines::{accepted_line, refused_line};
 use fork_store::Store;
 use record_file::{Event, EventSource, FrameStop, Frames};
 use std::alloc::Global;

@@ -3,7 +3,9 @@
 
 mod events;
 mod genesis;
+mod head;
 mod law;
+mod lines;
 mod reading;
 mod replay;
 mod status;
