@@ -4,3 +4,4 @@ pub mod Chains
 pub mod Items
 pub mod Keeps
 pub mod Made
+pub mod Taken

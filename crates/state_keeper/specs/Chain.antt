@@ -1,5 +1,5 @@
 -- Blocks, each behind its parent, and the states that they stand for.
-use Rattle.std.specs.Prelude.{◌≡◌, ℕ, ◌+◌, List, [], ◌∷◌, ◌++◌, Option, Some, slice_get, option_map, unwrap_or}
+use Rattle.std.specs.Prelude.{◌≡◌, ℕ, ◌+◌, ◌<◌, List, [], ◌∷◌, ◌++◌, Option, Some, slice_get, option_map, unwrap_or}
 use Rattle.bc_words.specs.Outcome.{Outcome, done, ◌>>=◌}
 use Rattle.spec_state.specs.declared.plain.PlainState.{PlainState}
 
@@ -47,3 +47,13 @@ module _ {B : Type 0} where
 
   unfoldable pub distance_of : List (ChainBlock B) → ℕ → ℕ
   distance_of blocks number = unwrap_or (slice_get (distances_of blocks) number) 0
+
+  -- The block of a number was added by a done step from the state of its parent, which might be asked for
+  pub record WasStep (can : PlainState → B → Type 0) (step : PlainState → B → Outcome PlainState) (blocks : List (ChainBlock B)) (number : ℕ) : Type 0 where
+    pub block : ChainBlock B
+    pub there : slice_get blocks number ≡ Some block
+    pub parent : ChainBlock B
+    pub behind : slice_get blocks block.parent ≡ Some parent
+    pub before : block.parent < number
+    pub can_step : can parent.state block.block
+    pub done_step : step parent.state block.block ≡ done block.state

@@ -6,7 +6,7 @@
 ghost use Rattle.std.specs.Prelude.{◌≡◌, ℕ, ◌+◌, ◌-◌, ◌%◌, ◌<◌, ◌≤◌, ◌^◌, [], ◌∷◌, ◌++◌, Some, length, option_map, slice_get, IfOk, IfSome, OnOk, IsOk};
 ghost use Rattle.bc_words.specs.Outcome.{Becomes, done};
 ghost use Rattle.spec_state.specs.declared.plain.PlainState.{PlainState};
-ghost use Rattle.state_keeper.specs.Chain.{HasState, state_at, distance_of, kept_every};
+ghost use Rattle.state_keeper.specs.Chain.{HasState, WasStep, state_at, distance_of, kept_every};
 ghost use Rattle.state_keeper.specs.inside.Entries.{kept_of};
 
 use crate::cache::{recall, remember, share_found};
@@ -159,6 +159,14 @@ impl<P: Stepper> Keeper<P> {
     /// The law that each block stands for the state of the chain of plain steps from genesis. It does nothing when it runs.
     pub fn states_are_of_the_chain(&self)
         ensures { (n : ℕ) (state : PlainState) → HasState self.now.blocks n state → state_at (P.plain_step self.now.stepper) self.now.blocks n ≡ Some (done state) }
+    {
+        let _entries = &self.entries;
+    }
+
+    /// The law that each block but that of genesis was added by a done step from the state of its parent. It does nothing when it
+    /// runs.
+    pub fn steps_were_taken(&self)
+        ensures { (n : ℕ) → 0 < n → n < length self.now.blocks → WasStep (P.can_step self.now.stepper) (P.plain_step self.now.stepper) self.now.blocks n }
     {
         let _entries = &self.entries;
     }

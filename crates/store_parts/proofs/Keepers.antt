@@ -55,7 +55,7 @@ module _ (ks : List (ChainBlock SignedBeaconBlock)) (blocks : List KeptBlock) (s
       omega (arith, fits, length_held)
 
   -- what the keeper has at a number, as a kept block
-  in_keeper : (n : ℕ) → option_map kept_block (slice_get ks n) ≡ slice_get blocks n
+  pub in_keeper : (n : ℕ) → option_map kept_block (slice_get ks n) ≡ slice_get blocks n
   unfolding kept_blocks
   in_keeper n = sym (slice_get-map kept_block ks n) ∙ ap (λ (bs : List KeptBlock). slice_get bs n) same
 

@@ -36,3 +36,4 @@ pub mod AtGenesis
 pub mod CheckpointStates
 pub mod Keepers
 pub mod Stepping
+pub mod Again

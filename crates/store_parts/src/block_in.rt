@@ -6,7 +6,7 @@ ghost use Rattle.std.specs.Prelude.{◌≡◌};
 
 use hash_tree::Root;
 use std::marker::Model;
-use transition::States;
+use transition::Seen;
 
 /// The roots of an accepted block and of the state behind it, and the states on which epoch processing was entered on the way.
 #[derive(Drop)]
@@ -15,8 +15,8 @@ pub struct BlockIn {
     pub root: Root,
     /// The root of the state behind it.
     pub state_root: Root,
-    /// The states on which epoch processing was entered, in order.
-    pub entered: States,
+    /// The states on which epoch processing was entered, in order, which only clauses see.
+    pub entered: Seen,
 }
 
 impl Model for BlockIn {

@@ -3,3 +3,4 @@ pub mod Tests
 pub mod Genesis
 pub mod Blocks
 pub mod Epochs
+pub mod Visits

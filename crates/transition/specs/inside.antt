@@ -1,2 +1,4 @@
 pub mod Tests
 pub mod Epochs
+pub mod Visits
+pub mod Memories

@@ -8,9 +8,13 @@ mod pending;
 pub mod process_block;
 pub mod process_epoch;
 pub mod process_slots;
+mod seen;
 mod soundness;
 pub mod state_transition;
 mod step;
+mod visitor;
 
+pub use seen::Seen;
 pub use soundness::{genesis_is_sound, is_sound, is_sound_within_epoch, sound_within_epoch};
 pub use step::{States, Step};
+pub use visitor::Visitor;

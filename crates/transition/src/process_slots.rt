@@ -1,29 +1,23 @@
 //! The way of a state through slots without a block (beacon-chain.md, "process_slots").
 
-ghost use Rattle.std.specs.Prelude.{◌≡◌, ◌+◌, ◌-◌, ◌<◌, ◌^◌, [], IfOk};
-ghost use Rattle.bc_words.specs.Outcome.{Becomes, Gives, Moves, each_from};
+ghost use Rattle.std.specs.Prelude.{◌≡◌, ◌+◌, ◌<◌, ◌^◌, IfOk, OnErr};
+ghost use Rattle.bc_words.specs.Outcome.{Becomes, Gives, GivesBy, Moves};
 ghost use Rattle.spec_state.specs.Soundness.{IsSound};
 ghost use Rattle.spec_transition.specs.ProcessSlot.{process_slot};
-ghost use Rattle.spec_transition.specs.ProcessSlots.{Stepped, is_last_of_epoch, end_epoch, next_slot, process_slots};
+ghost use Rattle.spec_transition.specs.ProcessSlots.{is_last_of_epoch, process_slots};
+ghost use Rattle.transition.specs.Shown.{showing, WasShown};
+ghost use Rattle.transition.specs.inside.Visits.{end_visited, next_visited, visited, IsLeft};
 
 use crate::process_epoch::process_epoch;
-use crate::step::{States, Step};
+use crate::seen::Seen;
+use crate::step::Step;
+use crate::visitor::Visitor;
 use bc_preset::Config;
 use bc_preset::constants::MAX_SLOTS;
 use bc_words::{Limit, NoMemory, Refusal, Stop};
 use beacon_state::State;
 use slot_step::process_slot::process_slot;
 use std::alloc::Global;
-
-/// A step that has not begun: a share of the state, which entered no epoch processing.
-fn begun(alloc: Global, state: &State) -> Result<Step, NoMemory>
-    ensures { IfOk result (λ step. step ≡ record { state = state.now; entered = [] }) }
-{
-    Ok(Step {
-        state: state.share()?,
-        entered: States::new(alloc),
-    })
-}
 
 /// Whether the state's slot is the last one of its epoch.
 #[tactic(auto, unfolding(spec_transition::specs::ProcessSlots::is_last_of_epoch))]
@@ -36,20 +30,25 @@ fn is_last_of_epoch(state: &State) -> bool
     (state.slot() + 1) % preset.slots_per_epoch == 0
 }
 
-/// The epoch's processing where the state's slot is its last one. The state is kept among those entered as it is before it.
-#[tactic(auto, unfolding(spec_transition::specs::ProcessSlots::end_epoch))]
-fn end_epoch(alloc: Global, step: &mut Step, config: &Config) -> Result<(), Stop>
-    requires later { step.old.state.slot + 1 < 2 ^ 64 }
-    requires sound { IsSound step.old.state }
-    ensures step { Moves result step.new (end_epoch config.now step.old) }
-    ensures slot { IfOk result (λ _. step.new.state.slot ≡ step.old.state.slot) }
+/// The epoch's processing where the state's slot is its last one. The visitor is shown the state as it is before it.
+#[tactic(auto, unfolding(crate::specs::inside::Visits::end_visited))]
+fn end_epoch<V: Visitor>(
+    alloc: Global,
+    state: &mut State,
+    visitor: &mut V,
+    config: &Config,
+) -> Result<(), Stop>
+    requires later { state.old.slot + 1 < 2 ^ 64 }
+    requires sound { IsSound state.old }
+    ensures step { Moves result (state.new, visitor.new) (end_visited V.shown config.now (state.old, visitor.old)) }
+    ensures slot { IfOk result (λ _. state.new.slot ≡ state.old.slot) }
+    ensures left { OnErr result (IsLeft V.shown visitor.old visitor.new state.old) }
 {
-    if !is_last_of_epoch(&step.state) {
+    if !is_last_of_epoch(state) {
         return Ok(());
     }
-    let before = step.state.share()?;
-    step.entered.push(before)?;
-    process_epoch(alloc, &mut step.state, config)?;
+    visitor.enter(alloc, state)?;
+    process_epoch(alloc, state, config)?;
     Ok(())
 }
 
@@ -64,49 +63,70 @@ fn end_slot(state: &mut State) -> Result<(), NoMemory>
 }
 
 /// One slot: it ends, and its epoch where it is the last one, and the next one begins.
-#[tactic(auto, unfolding(spec_transition::specs::ProcessSlots::next_slot, spec_transition::specs::ProcessSlots::with_next_slot))]
-fn next_slot(alloc: Global, step: &mut Step, config: &Config) -> Result<(), Stop>
-    requires later { step.old.state.slot + 1 < 2 ^ 64 }
-    requires sound { IsSound step.old.state }
-    ensures { Moves result step.new (next_slot config.now step.old) }
+#[tactic(auto, unfolding(crate::specs::inside::Visits::next_visited, spec_transition::specs::ProcessSlots::with_next_slot))]
+fn next_slot<V: Visitor>(
+    alloc: Global,
+    state: &mut State,
+    visitor: &mut V,
+    config: &Config,
+) -> Result<(), Stop>
+    requires later { state.old.slot + 1 < 2 ^ 64 }
+    requires sound { IsSound state.old }
+    ensures step { Moves result (state.new, visitor.new) (next_visited V.shown config.now (state.old, visitor.old)) }
+    ensures left { OnErr result (IsLeft V.shown visitor.old visitor.new (process_slot state.old)) }
 {
-    end_slot(&mut step.state)?;
-    end_epoch(alloc, step, config)?;
-    let slot = step.state.slot();
-    step.state.set_slot(slot + 1);
+    end_slot(state)?;
+    end_epoch(alloc, state, visitor, config)?;
+    let slot = state.slot();
+    state.set_slot(slot + 1);
     Ok(())
 }
 
 /// All slots up to this one.
 #[tactic(auto, using(bc_words::proofs::Folds::each_index))]
-fn go_to(alloc: Global, state: &State, slot: u64, config: &Config) -> Result<Step, Stop>
+fn go_to<V: Visitor>(
+    alloc: Global,
+    state: &State,
+    slot: u64,
+    config: &Config,
+    visitor: &mut V,
+) -> Result<State, Stop>
     requires later { state.now.slot < slot }
     requires sound { IsSound state.now }
-    ensures sound { IfOk result (λ step. IsSound step.state) }
-    ensures slot { IfOk result (λ step. step.state.slot ≡ slot) }
-    ensures preset { IfOk result (λ step. step.state.preset ≡ state.now.preset) }
-    ensures step { Gives result (each_from (λ index. next_slot config.now) (slot - state.now.slot) state.now.slot (record { state = state.now; entered = [] })) }
+    ensures sound { IfOk result (λ now. IsSound now) }
+    ensures slot { IfOk result (λ now. now.slot ≡ slot) }
+    ensures preset { IfOk result (λ now. now.preset ≡ state.now.preset) }
+    ensures step { GivesBy (λ now. (now, visitor.new)) result (visited V.shown visitor.old state.now slot config.now) }
+    ensures seen { WasShown V.shown config.now state.now slot visitor.old visitor.new }
 {
     state.preset().bounds();
-    let mut step = begun(alloc, state)?;
+    let mut now = state.share()?;
     for index in state.slot()..slot {
-        next_slot(alloc, &mut step, config)?;
+        next_slot(alloc, &mut now, visitor, config)?;
     }
-    Ok(step)
+    Ok(now)
 }
 
-/// Takes the sound state through all slots up to this one (beacon-chain.md, `process_slots`), and keeps the states on which
-/// epoch processing was entered. The given state is untouched, and the new one is sound.
+/// Takes the sound state through all slots up to this one (beacon-chain.md, `process_slots`), and shows a visitor each state on
+/// which epoch processing is entered. The given state is untouched, and the new one is sound. The visitor was
+/// shown all of them, and after a stop those of the first slots, and maybe the one whose processing stopped.
 ///
 /// Refused as not later for a slot that isn't behind the state's, limited where it is more than `MAX_SLOTS` behind it, and
 /// else refused where the processing of an epoch is.
-#[tactic(auto, unfolding(spec_transition::specs::ProcessSlots::process_slots))]
-pub fn process_slots(alloc: Global, state: &State, slot: u64, config: &Config) -> Result<Step, Stop>
+#[tactic(auto, unfolding(spec_transition::specs::ProcessSlots::process_slots, crate::specs::Shown::showing))]
+pub fn visit_slots<V: Visitor>(
+    alloc: Global,
+    state: &State,
+    slot: u64,
+    config: &Config,
+    visitor: &mut V,
+) -> Result<State, Stop>
     requires sound { IsSound state.now }
-    ensures sound { IfOk result (λ step. IsSound step.state) }
-    ensures slot { IfOk result (λ step. step.state.slot ≡ slot) }
-    ensures preset { IfOk result (λ step. step.state.preset ≡ state.now.preset) }
-    ensures step { Gives result (process_slots state.now slot config.now) }
+    ensures sound { IfOk result (λ now. IsSound now) }
+    ensures slot { IfOk result (λ now. now.slot ≡ slot) }
+    ensures preset { IfOk result (λ now. now.preset ≡ state.now.preset) }
+    ensures step { GivesBy (λ now. (now, visitor.new)) result (showing V.shown visitor.old (process_slots state.now slot config.now)) }
+    ensures seen { WasShown V.shown config.now state.now slot visitor.old visitor.new }
 {
     if slot <= state.slot() {
         return Err(Stop::Refused(Refusal::SlotNotLater));
@@ -114,5 +134,19 @@ pub fn process_slots(alloc: Global, state: &State, slot: u64, config: &Config) -
     if slot - state.slot() > MAX_SLOTS {
         return Err(Stop::Limit(Limit::Slots(slot - state.slot())));
     }
-    go_to(alloc, state, slot, config)
+    go_to(alloc, state, slot, config, visitor)
+}
+
+/// The same, with the states on which epoch processing was entered for clauses alone: none is kept.
+#[tactic(auto, using(crate::proofs::Visits::stops_shown))]
+pub fn process_slots(alloc: Global, state: &State, slot: u64, config: &Config) -> Result<Step, Stop>
+    requires sound { IsSound state.now }
+    ensures sound { IfOk result (λ step. IsSound step.state) }
+    ensures slot { IfOk result (λ step. step.state.slot ≡ slot) }
+    ensures preset { IfOk result (λ step. step.state.preset ≡ state.now.preset) }
+    ensures step { Gives result (process_slots state.now slot config.now) }
+{
+    let mut entered = Seen::new();
+    let state = visit_slots(alloc, state, slot, config, &mut entered)?;
+    Ok(Step { state, entered })
 }

@@ -1,7 +1,7 @@
 //! The step of a state by a block (beacon-chain.md, "Beacon chain state transition function").
 
 ghost use Rattle.std.specs.Prelude.{◌≡◌, ℕ, ◌<◌, ◌^◌, false, IfOk};
-ghost use Rattle.bc_words.specs.Outcome.{Gives, GivesExactly, done};
+ghost use Rattle.bc_words.specs.Outcome.{Gives, GivesBy, GivesExactly, done};
 ghost use Rattle.bc_words.specs.declared.refusal.Refusal.TheVariants.{StateRoot};
 ghost use Rattle.bc_preset.specs.Presets.{IsPreset};
 ghost use Rattle.bc_preset.specs.declared.configuration.ConfigValues.{ConfigValues};
@@ -13,10 +13,14 @@ ghost use Rattle.spec_state.specs.Soundness.{IsSound};
 ghost use Rattle.spec_blocks.specs.Checks.{check};
 ghost use Rattle.spec_transition.specs.StateTransition.{IsLatest, IsNext, state_transition};
 ghost use Rattle.spec_transition.specs.ProcessSlots.{Stepped, process_slots};
+ghost use Rattle.transition.specs.Shown.{showing, WasShown};
+ghost use Rattle.transition.specs.inside.Visits.{transition_visited};
 
 use crate::process_block::process_block;
-use crate::process_slots::process_slots;
+use crate::process_slots::visit_slots;
+use crate::seen::Seen;
 use crate::step::Step;
+use crate::visitor::Visitor;
 use bc_preset::Config;
 use bc_words::{Refusal, Stop};
 use beacon_body::SignedBeaconBlock;
@@ -36,32 +40,55 @@ fn check_state_root(root: &Root, state: &mut State) -> Result<(), Stop>
 }
 
 /// The slots up to the block's, the block, and its state root.
-#[tactic(auto, unfolding(spec_transition::specs::StateTransition::state_transition))]
-fn take_block(
+#[tactic(auto, unfolding(crate::specs::inside::Visits::block_visited))]
+fn take_block<V: Visitor>(
     alloc: Global,
     state: &State,
     block: &SignedBeaconBlock,
     config: &Config,
-) -> Result<Step, Stop>
+    visitor: &mut V,
+) -> Result<State, Stop>
     requires sound { IsSound state.now }
-    ensures sound { IfOk result (λ step. IsSound step.state) }
-    ensures slot { IfOk result (λ step. step.state.slot ≡ block.now.message.slot) }
-    ensures preset { IfOk result (λ step. step.state.preset ≡ state.now.preset) }
-    ensures step { Gives result (state_transition state.now block.now config.now) }
+    ensures sound { IfOk result (λ now. IsSound now) }
+    ensures slot { IfOk result (λ now. now.slot ≡ block.now.message.slot) }
+    ensures preset { IfOk result (λ now. now.preset ≡ state.now.preset) }
+    ensures step { GivesBy (λ now. (now, visitor.new)) result (transition_visited V.shown visitor.old state.now block.now config.now) }
+    ensures seen { WasShown V.shown config.now state.now block.now.message.slot visitor.old visitor.new }
 {
-    let mut step = process_slots(alloc, state, block.message.slot, config)?;
-    process_block(alloc, &mut step.state, &block.message, config)?;
-    check_state_root(&block.message.state_root, &mut step.state)?;
-    Ok(step)
+    let mut now = visit_slots(alloc, state, block.message.slot, config, visitor)?;
+    process_block(alloc, &mut now, &block.message, config)?;
+    check_state_root(&block.message.state_root, &mut now)?;
+    Ok(now)
 }
 
 /// Takes the sound state through the slots up to the block's, and then through the block (beacon-chain.md,
-/// `state_transition`). The given state is untouched, and the new one is sound, of the block's slot, and has the block as its
-/// latest one. The signature isn't checked.
+/// `state_transition`), and shows a visitor each state on which epoch processing is entered. The given state is untouched, and
+/// the new one is sound, of the block's slot, and has the block as its latest one. The signature isn't checked. After a stop the
+/// visitor was shown those of the first slots, and maybe the one whose processing stopped.
 ///
 /// Refused, in this order: as the slots and the block are, and as `StateRoot` where the block's state root isn't that of the
 /// state behind it. The new state keeps its root, which its next slot takes.
-#[tactic(auto, using(spec_transition::proofs::HeaderRoot::block_is_latest))]
+#[tactic(auto, using(crate::proofs::Visits::transition_shown))]
+pub fn visit_transition<V: Visitor>(
+    alloc: Global,
+    state: &State,
+    block: &SignedBeaconBlock,
+    config: &Config,
+    visitor: &mut V,
+) -> Result<State, Stop>
+    requires sound { IsSound state.now }
+    ensures sound { IfOk result (λ now. IsSound now) }
+    ensures slot { IfOk result (λ now. now.slot ≡ block.now.message.slot) }
+    ensures preset { IfOk result (λ now. now.preset ≡ state.now.preset) }
+    ensures latest { IfOk result (λ now. IsLatest now block.now.message) }
+    ensures step { GivesBy (λ now. (now, visitor.new)) result (showing V.shown visitor.old (state_transition state.now block.now config.now)) }
+    ensures seen { WasShown V.shown config.now state.now block.now.message.slot visitor.old visitor.new }
+{
+    take_block(alloc, state, block, config, visitor)
+}
+
+/// The same, with the states on which epoch processing was entered for clauses alone: none is kept.
+#[tactic(auto, using(crate::proofs::Visits::stops_shown))]
 pub fn state_transition(
     alloc: Global,
     state: &State,
@@ -75,7 +102,9 @@ pub fn state_transition(
     ensures latest { IfOk result (λ step. IsLatest step.state block.now.message) }
     ensures step { Gives result (state_transition state.now block.now config.now) }
 {
-    take_block(alloc, state, block, config)
+    let mut entered = Seen::new();
+    let state = visit_transition(alloc, state, block, config, &mut entered)?;
+    Ok(Step { state, entered })
 }
 
 /// The law that the published checks of a block's slot and parent root hold of every block that the state transition takes:

@@ -5,6 +5,8 @@
 ghost use Rattle.std.specs.Prelude.{◌≡◌, ◌∷◌, ◌++◌, [], length, slice_get, option_map};
 ghost use Rattle.bc_words.specs.Outcome.{Becomes};
 
+use crate::seen::Seen;
+use crate::visitor::Visitor;
 use bc_words::NoMemory;
 use beacon_state::State;
 use std::alloc::Global;
@@ -59,13 +61,21 @@ impl States {
     }
 }
 
-/// A state, and the states on the way to it on which epoch processing was entered, in order.
+impl Visitor for States {
+    ghost shown = { λ states state. states ++ state ∷ [] };
+
+    fn enter(&mut self, _alloc: Global, state: &State) -> Result<(), NoMemory> {
+        self.push(state.share()?)
+    }
+}
+
+/// A state, and the states on the way to it on which epoch processing was entered, in order, which only clauses see.
 #[derive(Drop)]
 pub struct Step {
     /// The state.
     pub state: State,
-    /// The states on which epoch processing was entered.
-    pub entered: States,
+    /// The states on which epoch processing was entered. None is kept.
+    pub entered: Seen,
 }
 
 impl Model for Step {

@@ -9,9 +9,9 @@ use beacon_body::SignedBeaconBlock;
 use beacon_state::State;
 use ssz_codec::Ssz;
 use std::alloc::Global;
-use transition::process_slots::process_slots;
-use transition::state_transition::state_transition;
-use transition::{Step, is_sound};
+use transition::process_slots::visit_slots;
+use transition::state_transition::visit_transition;
+use transition::{States, is_sound};
 
 /// The line of a state on which epoch processing was entered, behind the end of the one before it.
 fn entered_line(alloc: Global, state: &State) -> Result<String> {
@@ -27,10 +27,10 @@ fn append_entered(alloc: Global, lines: &mut String, state: &State) -> Result<()
 }
 
 /// The lines of a step: the state's root, and then each state that was entered.
-fn step_lines(alloc: Global, step: &Step) -> Result<String> {
-    let mut lines = done_line(alloc, &step.state)?;
-    for index in 0..step.entered.len() {
-        if let Some(state) = step.entered.get(index) {
+fn step_lines(alloc: Global, state: &State, entered: &States) -> Result<String> {
+    let mut lines = done_line(alloc, state)?;
+    for index in 0..entered.len() {
+        if let Some(state) = entered.get(index) {
             append_entered(alloc, &mut lines, state)?;
         }
     }
@@ -38,9 +38,13 @@ fn step_lines(alloc: Global, step: &Step) -> Result<String> {
 }
 
 /// The lines of a step or of its stop.
-fn lines_of(alloc: Global, outcome: &Result<Step, Stop>) -> Result<String> {
+fn lines_of(
+    alloc: Global,
+    outcome: &Result<State, Stop>,
+    entered: &States,
+) -> Result<String> {
     match outcome {
-        Ok(step) => step_lines(alloc, step),
+        Ok(state) => step_lines(alloc, state, entered),
         Err(stop) => stop_line(alloc, *stop),
     }
 }
@@ -49,8 +53,12 @@ fn lines_of(alloc: Global, outcome: &Result<Step, Stop>) -> Result<String> {
 pub fn slots_lines(alloc: Global, state: &State, given: &Given) -> Result<String> {
     let slot = given.number()?;
     let config = given.config()?;
+    let mut entered = States::new(alloc);
     match is_sound(alloc, state) {
-        Ok(true) => lines_of(alloc, &process_slots(alloc, state, slot, &config)),
+        Ok(true) => {
+            let outcome = visit_slots(alloc, state, slot, &config, &mut entered);
+            lines_of(alloc, &outcome, &entered)
+        }
         _ => bail!("the state isn't sound"),
     }
 }
@@ -62,8 +70,12 @@ fn lines_behind(
     block: &SignedBeaconBlock,
     config: &Config,
 ) -> Result<String> {
+    let mut entered = States::new(alloc);
     match is_sound(alloc, state) {
-        Ok(true) => lines_of(alloc, &state_transition(alloc, state, block, config)),
+        Ok(true) => {
+            let outcome = visit_transition(alloc, state, block, config, &mut entered);
+            lines_of(alloc, &outcome, &entered)
+        }
         _ => bail!("the state isn't sound"),
     }
 }

@@ -1,8 +1,6 @@
 -- An epoch's processing leaves the slot.
-use Rattle.std.proofs.Common.{◌∙◌, ap}
 use Rattle.spec_epochs.proofs.Fixed.{epoch_slot}
-use Rattle.spec_transition.specs.ProcessSlots.{Stepped}
 use Rattle.transition.proofs.process_slots.end_epoch.Goals as goal
 
 pub returns-clause-slot : goal.returns-clause-slot
-returns-clause-slot c = epoch_slot _ _ _ c.in_ok-process_epoch.ensures ∙ ap (λ (x : Stepped). x.state.slot) c.step.view_is
+returns-clause-slot g c = epoch_slot _ _ _ c.in_ok-process_epoch.ensures

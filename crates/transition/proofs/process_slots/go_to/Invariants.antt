@@ -1,15 +1,16 @@
--- The slots that are left make of this step what all slots make of the first one.
-use Rattle.std.proofs.Common.{◌≡◌, ◌-◌, ◌≤◌, []}
-use Rattle.bc_words.specs.Outcome.{each_from}
+-- The slots that are left make of this state and visitor what all slots make of the first ones.
+use Rattle.std.proofs.Common.{◌≡◌, ◌-◌, ◌≤◌}
+use Rattle.bc_words.specs.Outcome.{done, each_from}
 use Rattle.spec_state.specs.Soundness.{IsSound}
-use Rattle.spec_transition.specs.ProcessSlots.{next_slot}
+use Rattle.transition.specs.inside.Visits.{next_visited, visited}
 use Rattle.transition.proofs.process_slots.go_to.Given as goal
 
 abbrev pub invariant-loop-index : goal.invariant-loop-index
-invariant-loop-index l = record {
+invariant-loop-index g l = record {
   from : l.state.slot ≤ l.index;
-  slot : l.step.state.slot ≡ l.index;
-  preset : l.step.state.preset ≡ l.state.preset;
-  sound : IsSound l.step.state;
-  left : each_from (λ index. next_slot l.config) (l.slot - l.index) l.index l.step ≡ each_from (λ index. next_slot l.config) (l.slot - l.state.slot) l.state.slot (record { state = l.state; entered = [] });
+  slot : l.now.slot ≡ l.index;
+  preset : l.now.preset ≡ l.state.preset;
+  sound : IsSound l.now;
+  shown : each_from (λ index. next_visited g.V.Visitor.shown l.config) (l.index - l.state.slot) l.state.slot (l.state, l.fn.visitor) ≡ done (l.now, l.visitor);
+  left : each_from (λ index. next_visited g.V.Visitor.shown l.config) (l.slot - l.index) l.index (l.now, l.visitor) ≡ visited g.V.Visitor.shown l.fn.visitor l.state l.slot l.config;
 }

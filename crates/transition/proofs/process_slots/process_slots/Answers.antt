@@ -1,8 +1,6 @@
--- The way through the slots, where there are no more than the limit.
-use Rattle.std.proofs.Common.{rules}
-use Rattle.spec_transition.specs.ProcessSlots.{process_slots}
+-- The list of all states that were shown is that of the states entered.
+use Rattle.transition.proofs.Visits.{gives_step}
 use Rattle.transition.proofs.process_slots.process_slots.Goals as goal
 
 pub returns-clause-step : goal.returns-clause-step
-unfolding process_slots
-returns-clause-step c = search rules
+returns-clause-step c = gives_step _ _ _ _ c.new-entered.ensures c.in_ok-state.ensures.step
