@@ -1,6 +1,6 @@
 //! A block.
 
-ghost use Rattle.std.specs.Prelude.{◌≡◌, refl, IsTrue, ◌↔◌};
+ghost use Rattle.std.specs.Prelude.{◌≡◌, refl, IfOk, IsTrue, ◌↔◌};
 ghost use Rattle.beacon_body.specs.Containers.{block_codec};
 ghost use Rattle.beacon_body.specs.laws.Containers.{block_lawful};
 
@@ -50,6 +50,19 @@ impl BeaconBlock {
             && self.parent_root == other.parent_root
             && self.state_root == other.state_root
             && self.body.equals(&other.body)
+    }
+
+    /// The same block once more.
+    pub fn copy(&self, alloc: Global) -> Result<BeaconBlock, NoMemory>
+        ensures { IfOk result (λ copy. copy ≡ self.now) }
+    {
+        Ok(BeaconBlock {
+            slot: self.slot,
+            proposer_index: self.proposer_index,
+            parent_root: self.parent_root,
+            state_root: self.state_root,
+            body: self.body.copy(alloc)?,
+        })
     }
 }
 

@@ -1,8 +1,8 @@
 //! What a block carries.
 
-ghost use Rattle.std.specs.Prelude.{◌≡◌, ◌≤◌, ◌^◌, [], refl, IsTrue, ◌↔◌};
+ghost use Rattle.std.specs.Prelude.{◌≡◌, ◌≤◌, ◌^◌, [], refl, IfOk, OnOk, IsTrue, ◌↔◌};
 ghost use Rattle.hash_tree.specs.Merkle.{merkleize, mix_in_length as mixed_in};
-ghost use Rattle.beacon_body.specs.Containers.{block_body_codec, empty_body_root as root_of_default};
+ghost use Rattle.beacon_body.specs.Containers.{block_body_codec, default_block_body, empty_body_root as root_of_default};
 ghost use Rattle.beacon_body.specs.laws.Containers.{block_body_lawful};
 
 use crate::attestation::Attestation;
@@ -16,7 +16,7 @@ use bc_words::NoMemory;
 use beacon_types::{Deposit, Eth1Data, SignedVoluntaryExit};
 use hash_tree::{Leaf, Root, depth_of, fields_root, mix_in_length, zero_hash};
 use ssz_codec::{
-    Field, LimitedList, ListLimit, Ssz, SszFault, VariableList, Writer, read_container,
+    Field, Items, LimitedList, ListLimit, Ssz, SszFault, VariableList, Writer, read_container,
     root_of_container, write_variable_container,
 };
 use std::alloc::Global;
@@ -91,6 +91,54 @@ impl BeaconBlockBody {
             && self.deposits.equals(&other.deposits)
             && self.voluntary_exits.equals(&other.voluntary_exits)
     }
+
+    /// The same body once more.
+    pub fn copy(&self, alloc: Global) -> Result<BeaconBlockBody, NoMemory>
+        ensures { IfOk result (λ copy. copy ≡ self.now) }
+    {
+        let mut copy = default_block_body(alloc);
+        copy.randao_reveal = self.randao_reveal;
+        copy.eth1_data = self.eth1_data;
+        copy.graffiti = self.graffiti;
+        copy_lists(alloc, self, &mut copy)?;
+        Ok(copy)
+    }
+}
+
+/// The body whose fields are all zero or empty, which the genesis block has (beacon-chain.md, "Genesis block").
+pub fn default_block_body(alloc: Global) -> BeaconBlockBody
+    ensures { result ≡ default_block_body }
+{
+    BeaconBlockBody {
+        randao_reveal: [0; 96],
+        eth1_data: Eth1Data {
+            deposit_root: [0; 32],
+            deposit_count: 0,
+            block_hash: [0; 32],
+        },
+        graffiti: [0; 32],
+        proposer_slashings: LimitedList::from_items(Items::new(alloc)),
+        attester_slashings: VariableList::from_items(Items::new(alloc)),
+        attestations: VariableList::from_items(Items::new(alloc)),
+        deposits: LimitedList::from_items(Items::new(alloc)),
+        voluntary_exits: LimitedList::from_items(Items::new(alloc)),
+    }
+}
+
+/// The lists of a body once more, in the place of another body's.
+fn copy_lists(
+    alloc: Global,
+    from: &BeaconBlockBody,
+    into: &mut BeaconBlockBody,
+) -> Result<(), NoMemory>
+    ensures { OnOk result (into.new ≡ record from.now { randao_reveal = into.old.randao_reveal; eth1_data = into.old.eth1_data; graffiti = into.old.graffiti }) }
+{
+    into.proposer_slashings = from.proposer_slashings.copy(alloc)?;
+    into.attester_slashings = from.attester_slashings.copy(alloc)?;
+    into.attestations = from.attestations.copy(alloc)?;
+    into.deposits = from.deposits.copy(alloc)?;
+    into.voluntary_exits = from.voluntary_exits.copy(alloc)?;
+    Ok(())
 }
 
 impl Leaf for BeaconBlockBody {

@@ -17,7 +17,7 @@ pub use attester_slashing::AttesterSlashing;
 pub use block::BeaconBlock;
 pub use body::{
     Attestations, AttesterSlashings, BeaconBlockBody, Deposits, ProposerSlashings, VoluntaryExits,
-    empty_body_root,
+    default_block_body, empty_body_root,
 };
 pub use limits::{
     AttestationsLimit, AttesterSlashingsLimit, DepositsLimit, ProposerSlashingsLimit,

@@ -1,6 +1,6 @@
 //! A block with its signature.
 
-ghost use Rattle.std.specs.Prelude.{◌≡◌, refl};
+ghost use Rattle.std.specs.Prelude.{◌≡◌, refl, IfOk};
 ghost use Rattle.beacon_body.specs.Containers.{signed_block_codec};
 ghost use Rattle.beacon_body.specs.laws.Containers.{signed_block_lawful};
 
@@ -28,6 +28,18 @@ impl Drop for SignedBeaconBlock {
             signature: _,
         } = self;
         drop(message);
+    }
+}
+
+impl SignedBeaconBlock {
+    /// The same signed block once more.
+    pub fn copy(&self, alloc: Global) -> Result<SignedBeaconBlock, NoMemory>
+        ensures { IfOk result (λ copy. copy ≡ self.now) }
+    {
+        Ok(SignedBeaconBlock {
+            message: self.message.copy(alloc)?,
+            signature: self.signature,
+        })
     }
 }
 

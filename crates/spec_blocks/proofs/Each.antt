@@ -1,6 +1,6 @@
 -- Steps for the items of a list, one at a time. A loop over the items names `each_item` in its #[tactic(auto, using(..))] and
 -- has the invariant `each_of step state (drop i items) ≡ each_of step old items`.
-use Rattle.std.proofs.Common.{◌≡◌, ℕ, suc, ◌+◌, ◌<◌, ◌≤◌, Option, Some, None, List, ◌∷◌, length, drop, get_or, slice_get, refl, sym, ap, ap₂, ◌∙◌, arith}
+use Rattle.std.proofs.Common.{◌≡◌, ℕ, suc, ◌+◌, ◌<◌, ◌≤◌, Option, Some, None, List, [], ◌∷◌, length, drop, get_or, slice_get, refl, sym, ap, ap₂, ◌∙◌, arith, subst}
 use Rattle.std.proofs.lemmas.List.{drop_all}
 use Rattle.std.proofs.lemmas.Option.{slice_get_within, slice_get-get_or}
 use Rattle.std.proofs.Math.Seq.{drop-cons}
@@ -8,6 +8,7 @@ use Rattle.bc_words.specs.Outcome.{Outcome, done, bind, Stops}
 use Rattle.bc_words.specs.declared.stop.Stop.{Stop}
 use Rattle.bc_words.proofs.Outcomes.{stops_bound}
 use Rattle.spec_blocks.specs.Checks.{each_of}
+use Rattle.spec_blocks.proofs.Done.{on_the_way, same_value}
 
 abbrev value_or : {A : Type 0} → A → Option A → A
 value_or x None = x
@@ -56,3 +57,11 @@ module _ {A S : Type 0} (step : S → A → Outcome S) where
 
 -- what a loop over the items needs
 pub ruleset each_item = (items_begin, items_end, item_done, item_stops, item_below_done, item_below_stops)
+
+-- a step that keeps a property, for each item of a list
+pub each_keeps : {A S : Type 0} (P : S → Type 0) (step : S → A → Outcome S) → ((s t : S) (a : A) → step s a ≡ done t → P s → P t) → (items : List A) (s t : S) → each_of step s items ≡ done t → P s → P t
+unfolding each_of
+each_keeps P step keeps [] s t is holds = subst P (same_value s t is) holds
+each_keeps P step keeps (item ∷ items) s t is holds =
+    let first = on_the_way (step s item) _ t is in
+    each_keeps P step keeps items first.value t first.then_done (keeps s first.value item first.first holds)

@@ -62,15 +62,15 @@ apart n a b less near same = elim (cases_lt (a / n) (b / n)) [
 pub other_place : (n e at : ℕ) → 64 ≤ n → at ≤ e → e ≤ at + 2 → e % n ≢ (at + n - 1 - 1) % n
 other_place n e at many low high = apart n e (at + n - 1 - 1) (omega arith) (omega arith)
 
-pub same_seed : (s : PlainState) (epoch written : ℕ) (mix : List ℕ) → HasPresetBounds s.preset → epoch ≤ written → written ≤ epoch + 2
-    → get_seed (record s { randao_mixes = slice_set s.randao_mixes (written % s.preset.epochs_per_historical_vector) mix }) epoch domain_beacon_attester ≡ get_seed s epoch domain_beacon_attester
+pub same_seed : (domain : List ℕ) (s : PlainState) (epoch written : ℕ) (mix : List ℕ) → HasPresetBounds s.preset → epoch ≤ written → written ≤ epoch + 2
+    → get_seed (record s { randao_mixes = slice_set s.randao_mixes (written % s.preset.epochs_per_historical_vector) mix }) epoch domain ≡ get_seed s epoch domain
 unfolding get_randao_mix seed_from
-same_seed s epoch written mix bounds low high =
+same_seed domain s epoch written mix bounds low high =
     let n : ℕ = s.preset.epochs_per_historical_vector in
     let place : ℕ → ℕ = λ (lookahead : ℕ). (epoch + n - lookahead - 1) % n in
     let taken : place s.preset.min_seed_lookahead ≡ place 1 = ap place bounds.min_seed_lookahead in
     let other : written % n ≢ place 1 = other_place n written epoch bounds.least_epochs_per_historical_vector low high in
-    ap (λ (m : List ℕ). hash (domain_beacon_attester ++ to_le_bytes w64 epoch ++ m))
+    ap (λ (m : List ℕ). hash (domain ++ to_le_bytes w64 epoch ++ m))
     (get_or-set_other s.randao_mixes (written % n) (place s.preset.min_seed_lookahead) mix [] (λ same. other (sym same ∙ taken)))
 
 same_epoch : (s : PlainState) (mixes : List (List ℕ)) → get_current_epoch (record s { randao_mixes = mixes }) ≡ get_current_epoch s
@@ -83,8 +83,8 @@ unfolding get_active_validator_indices
 randao_sound s mix bounds sound = still_sound s (record s { randao_mixes = slice_set s.randao_mixes (get_current_epoch s % s.preset.epochs_per_historical_vector) mix }) (record {
   epoch = same_epoch s _;
   slot = omega arith;
-  current = record { preset = refl; active = refl; seed = same_seed s (get_current_epoch s) (get_current_epoch s) mix bounds (omega arith) (omega arith) };
-  previous = record { preset = refl; active = refl; seed = let (below, above) = previous_below s in same_seed s (get_previous_epoch s) (get_current_epoch s) mix bounds below (omega arith) };
+  current = record { preset = refl; active = refl; seed = same_seed domain_beacon_attester s (get_current_epoch s) (get_current_epoch s) mix bounds (omega arith) (omega arith) };
+  previous = record { preset = refl; active = refl; seed = let (below, above) = previous_below s in same_seed domain_beacon_attester s (get_previous_epoch s) (get_current_epoch s) mix bounds below (omega arith) };
   validators = omega arith;
   balances = sound.balances;
   header = sound.header;

@@ -1,4 +1,5 @@
 pub mod Checks
+pub mod Gives
 pub mod IsValidIndexedAttestation
 pub mod IncreaseBalance
 pub mod DecreaseBalance

@@ -11,7 +11,7 @@ use Rattle.spec_state.specs.Accessors.{get_current_epoch}
 use Rattle.spec_blocks.specs.Checks.{item_at, each_of}
 use Rattle.spec_blocks.proofs.Done.{on_the_way, chosen, same_value}
 use Rattle.spec_blocks.proofs.Fixed.{Fixed, exit_fixed}
-use Rattle.spec_blocks.proofs.SoundBlock.{each_keeps}
+use Rattle.spec_blocks.proofs.Each.{each_keeps}
 use Rattle.spec_epochs.specs.Each.{validator_indices}
 use Rattle.spec_epochs.specs.ProcessRegistryUpdates.{process_registry_updates, eligibility_and_ejection, with_eligibility}
 use Rattle.spec_epochs.specs.ProcessEth1DataReset.{process_eth1_data_reset}

@@ -1,4 +1,5 @@
 pub mod Each
+pub mod GivesEach
 pub mod EpochParts
 pub mod Fixed
 pub mod SoundEpoch

@@ -59,7 +59,7 @@ historical_roots_sound s t is sound = within_stays s t (historical_roots_leave s
 -- ---- the next slot
 
 -- of slots of n, the next one begins the next epoch where n divides it
-next_begins : (n slot : ℕ) → 0 < n → (slot + 1) % n ≡ 0 → (slot + 1) / n ≡ slot / n + 1
+pub next_begins : (n slot : ℕ) → 0 < n → (slot + 1) % n ≡ 0 → (slot + 1) / n ≡ slot / n + 1
 next_begins n slot some first =
     let low : slot % n < n = mod-lt slot some in
     elim (cases_lt ((slot + 1) / n) (slot / n + 1)) [
@@ -71,7 +71,7 @@ next_begins n slot some first =
     ]
 
 -- and is of the same epoch where it doesn't
-next_stays : (n slot : ℕ) → 0 < n → (slot + 1) % n ≢ 0 → (slot + 1) / n ≡ slot / n
+pub next_stays : (n slot : ℕ) → 0 < n → (slot + 1) % n ≢ 0 → (slot + 1) / n ≡ slot / n
 next_stays n slot some other =
     let low : slot % n < n = mod-lt slot some in
     let next_low : (slot + 1) % n < n = mod-lt (slot + 1) some in
@@ -130,7 +130,7 @@ rotation_sound s bounds last sound =
 -- ---- process_epoch
 
 -- the parts between justification and the rotation
-parts_leave : (s t : PlainState) (config : ConfigValues) (p : EpochParts s t config) → HasPresetBounds s.preset → get_current_epoch s < far_future_epoch → Leaves p.justified p.rooted
+pub parts_leave : (s t : PlainState) (config : ConfigValues) (p : EpochParts s t config) → HasPresetBounds s.preset → get_current_epoch s < far_future_epoch → Leaves p.justified p.rooted
 parts_leave s t config p bounds before =
     let first = justification_leaves s p.justified p.to_justified in
     let one = rewards_leave p.justified p.rewarded p.to_rewarded in

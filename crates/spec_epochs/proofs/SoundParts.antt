@@ -8,6 +8,7 @@ use Rattle.beacon_types.specs.declared.validator.Validator.{Validator}
 use Rattle.beacon_types.specs.declared.eth1_data.Eth1Data.{Eth1Data}
 use Rattle.spec_state.specs.declared.plain.PlainState.{PlainState}
 use Rattle.spec_state.specs.Predicates.{is_active_validator}
+use Rattle.spec_state.specs.Constants.{domain_beacon_attester}
 use Rattle.spec_state.specs.Accessors.{get_current_epoch, get_active_validator_indices, get_randao_mix, get_total_active_balance, indices_from}
 use Rattle.spec_blocks.specs.Checks.{item_at}
 use Rattle.spec_blocks.proofs.Done.{on_the_way, chosen, same_value, item_is}
@@ -113,7 +114,7 @@ randao_mixes_reset_leaves s bounds = record {
   finalized = refl;
   previous_attestations = refl;
   current_attestations = refl;
-  committees = λ epoch low high. record { preset = refl; active = refl; seed = same_seed s epoch (get_current_epoch s + 1) (get_randao_mix s (get_current_epoch s)) bounds (omega arith) (omega arith) };
+  committees = λ epoch low high. record { preset = refl; active = refl; seed = same_seed domain_beacon_attester s epoch (get_current_epoch s + 1) (get_randao_mix s (get_current_epoch s)) bounds (omega arith) (omega arith) };
 }
 
 -- ---- effective balances

@@ -16,9 +16,9 @@ use Rattle.spec_blocks.specs.Checks.{item_at, each_of}
 use Rattle.spec_blocks.specs.InitiateValidatorExit.{initiate_validator_exit, exit_queue_epoch}
 use Rattle.spec_blocks.proofs.Done.{on_the_way, chosen, same_value, item_is}
 use Rattle.spec_blocks.proofs.Sound.{indices_of_changed}
-use Rattle.spec_blocks.proofs.SoundRegistry.{still_active, not_yet}
-use Rattle.spec_blocks.proofs.SoundExits.{earliest_later, queue_later}
-use Rattle.spec_blocks.proofs.SoundBlock.{each_keeps}
+use Rattle.spec_blocks.proofs.Registry.{still_active, not_yet}
+use Rattle.spec_blocks.proofs.Exits.{earliest_later, queue_later}
+use Rattle.spec_blocks.proofs.Each.{each_keeps}
 use Rattle.spec_epochs.specs.Each.{validator_indices}
 use Rattle.spec_epochs.specs.ProcessRegistryUpdates.{process_registry_updates, eligibility_and_ejection, with_eligibility, with_activations, is_dequeued}
 use Rattle.spec_epochs.proofs.SoundWithin.{Leaves, leaves_all, leaves_both, same_epoch}

@@ -1,2 +1,4 @@
 pub mod SameBlock
+pub mod Blocks
+pub mod Took
 pub mod Grows

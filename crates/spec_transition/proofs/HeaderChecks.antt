@@ -1,5 +1,5 @@
 -- The published checks of a block's slot and of its parent root hold of every block that the state transition takes.
-use Rattle.std.proofs.Common.{◌≡◌, ◌∙◌, ℕ, zero, suc, ◌+◌, ◌-◌, ◌/◌, ◌<◌, ◌≤◌, ◌^◌, Bool, true, false, not, nat_lt, [], if◌then◌else◌, refl, sym, ap, subst, arith, inl, inr}
+use Rattle.std.proofs.Common.{◌≡◌, ◌∙◌, ℕ, zero, suc, ◌+◌, ◌-◌, ◌/◌, ◌<◌, ◌≤◌, ◌^◌, Bool, true, false, not, nat_lt, List, [], if◌then◌else◌, refl, sym, ap, subst, arith, inl, inr}
 use Rattle.std.proofs.Math.Nat.{mul-div-le, mul-le-mul_left, mul_comm}
 use Rattle.std.proofs.lemmas.Bool.{ltb-true, not-false, false≢true}
 use Rattle.bc_words.specs.Outcome.{Outcome, done, refused, limited, each_from}
@@ -42,6 +42,15 @@ header_fills s some = filled (same_root s.latest_block_header.state_root zero_ro
 pub header_stays : (s : PlainState) → Filled s.latest_block_header → block_header_of s ≡ s.latest_block_header
 unfolding block_header_of
 header_stays s fills = ap (λ (b : Bool). if b then record s.latest_block_header { state_root = (state_codec s.preset).hash_tree_root s } else s.latest_block_header) fills
+
+-- a header that was filled is that of the state at the next slot
+pub header_goes_on : (root : List ℕ) (s t : PlainState) → t.latest_block_header ≡ block_header_of s → Filled (block_header_of s) → header_root_of s ≡ root
+    → (header_root_of t ≡ root) × Filled (block_header_of t)
+unfolding header_root_of
+header_goes_on root s t is fills header =
+    let filled_too : Filled t.latest_block_header = subst Filled (sym is) fills in
+    let same : block_header_of t ≡ block_header_of s = header_stays t filled_too ∙ is in
+    (ap block_header_codec.hash_tree_root same ∙ header, subst Filled (sym same) fills)
 
 -- what one slot does to slot, preset and header
 record Passed (s t : PlainState) : Type 0 where

@@ -4,3 +4,4 @@ pub mod SoundSlots
 pub mod BlockStays
 pub mod HeaderRoot
 pub mod Links
+pub mod RecentRoots

@@ -1,5 +1,6 @@
--- What the end of an epoch and a block leave of a state's place, of its latest block roots and of its checkpoints.
-use Rattle.std.proofs.Common.{◌≡◌, ◌∙◌, ℕ, ◌+◌, ◌*◌, ◌%◌, ◌/◌, ◌&&◌, not, nat_lt, leb, ◌==◌, List, [], min, refl, ap, subst, inl, inr}
+-- What the end of an epoch and a block leave of a state's place, of its latest block roots, of its justification bits and of its
+-- checkpoints.
+use Rattle.std.proofs.Common.{◌≡◌, ◌∙◌, ℕ, Bool, ◌+◌, ◌*◌, ◌%◌, ◌/◌, ◌&&◌, not, nat_lt, leb, ◌==◌, List, [], min, refl, ap, subst, inl, inr}
 use Rattle.bc_words.specs.Outcome.{Outcome, done, checked_mul, checked_sum, checked_push}
 use Rattle.bc_words.specs.declared.refusal.Refusal.TheVariants.{WrongProposer, ProposerSlashed}
 use Rattle.bc_preset.specs.declared.presets.Preset.{Preset}
@@ -18,7 +19,7 @@ use Rattle.spec_blocks.specs.ProcessRandao.{process_randao}
 use Rattle.spec_blocks.specs.ProcessEth1Data.{process_eth1_data, votes_for}
 use Rattle.spec_blocks.specs.ProcessBlock.{process_block}
 use Rattle.spec_blocks.proofs.Done.{on_the_way, chosen, same_value}
-use Rattle.spec_blocks.proofs.SoundBlock.{each_keeps}
+use Rattle.spec_blocks.proofs.Each.{each_keeps}
 use Rattle.spec_epochs.specs.Each.{validator_indices, checked_map}
 use Rattle.spec_epochs.specs.GetAttestationDeltas.{get_attestation_deltas}
 use Rattle.spec_epochs.specs.ProcessRewardsAndPenalties.{process_rewards_and_penalties, rewarded_balance}
@@ -33,11 +34,12 @@ use Rattle.spec_epochs.specs.ProcessParticipationRecordUpdates.{process_particip
 use Rattle.spec_epochs.proofs.EpochParts.{EpochParts}
 use Rattle.spec_transition.proofs.BlockStays.{exit_stays, operations_stay}
 
--- the place of a state, its latest block roots and its checkpoints
+-- the place of a state, its latest block roots, its justification bits and its checkpoints
 pub record Links : Type 0 where
   pub preset : Preset
   pub slot : ℕ
   pub roots : List (List ℕ)
+  pub bits : List Bool
   pub previous : Checkpoint
   pub current : Checkpoint
   pub finalized : Checkpoint
@@ -47,6 +49,7 @@ links_of s = record {
   preset = s.preset;
   slot = s.slot;
   roots = s.block_roots;
+  bits = s.justification_bits;
   previous = s.previous_justified_checkpoint;
   current = s.current_justified_checkpoint;
   finalized = s.finalized_checkpoint;
@@ -82,7 +85,7 @@ ejection_stays config s t index is =
     ] in
     elim (chosen (is_active_validator validator.value (get_current_epoch s) && leb validator.value.effective_balance config.ejection_balance) _ _ _
     validator.then_done) [
-      | inl goes ↦ exit_stays epoch_part (λ y v b l. refl) (λ y n. refl) (λ y p c. refl) waiting t index config goes.1 ∙ first
+      | inl goes ↦ exit_stays epoch_part (λ y v b l n. refl) (λ y p c. refl) waiting t index config goes.1 ∙ first
       | inr stays ↦ subst (Stays s) (same_value waiting t stays.1) first
     ]
 
@@ -188,6 +191,6 @@ block_leaves s t block config is =
     let proposer = on_the_way (get_beacon_proposer_index s) _ t is in
     let header = on_the_way (process_block_header s block proposer.value) _ t proposer.then_done in
     let eth1 = on_the_way (process_eth1_data (process_randao header.value block.body) block.body) _ t header.then_done in
-    operations_stay links_of (λ y v b l. refl) (λ y n. refl) (λ y p c. refl) eth1.value t block.body proposer.value config eth1.then_done
+    operations_stay links_of (λ y v b l n. refl) (λ y p c. refl) eth1.value t block.body proposer.value config eth1.then_done
     ∙ (eth1_leaves (process_randao header.value block.body) eth1.value block eth1.first
     ∙ (randao_leaves header.value block ∙ block_header_leaves s header.value block proposer.value header.first))

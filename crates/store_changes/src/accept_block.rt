@@ -30,7 +30,6 @@ use hash_tree::Root;
 use state_keeper::Keeper;
 use std::alloc::Global;
 use store_parts::chain_stepper::ChainStepper;
-use store_parts::copies::copy_signed_block;
 use store_parts::follow::{follow, told_of};
 use store_parts::number_of::number_of;
 use store_parts::ready_balances::ReadyBalances;
@@ -151,7 +150,7 @@ fn add_block(
         unreachable!()
     };
     array.reserve(0)?;
-    let copy = copy_signed_block(alloc, block)?;
+    let copy = block.copy(alloc)?;
     store.keep(keeper, parent, root, copy, state)?;
     let _room = array.push(parent, block.message.slot, root, facts);
     Ok(())

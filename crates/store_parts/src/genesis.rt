@@ -10,12 +10,11 @@ ghost use Rattle.store_parts.specs.inside.Stores.{IsRootOf};
 
 use crate::chain_stepper::ChainStepper;
 use crate::clash_of::clash_with;
-use crate::copies::default_block_body;
 use crate::kept_blocks::KeptBlocks;
 use crate::store_fields::StoreFields;
 use bc_preset::Config;
 use bc_words::{ClashKind, NoMemory};
-use beacon_body::{BeaconBlock, SignedBeaconBlock};
+use beacon_body::{BeaconBlock, SignedBeaconBlock, default_block_body};
 use beacon_state::State;
 use beacon_types::Checkpoint;
 use checkpoint_states::CheckpointStates;

@@ -11,7 +11,6 @@ pub mod block_in;
 pub mod chain_stepper;
 pub mod check_block;
 pub mod clash_of;
-pub mod copies;
 pub mod follow;
 pub mod genesis;
 pub mod get_ancestor;

@@ -124,8 +124,8 @@ impl State {
         self.balances.list()
     }
 
-    /// The state is within the limits of its preset, and so is each value. It does nothing when it runs.
-    pub(crate) fn in_range(&self)
+    /// The law that a state is within the limits of its preset, and so is each value. It does nothing when it runs.
+    pub fn in_range(&self)
         ensures state { IsState self.now }
         ensures range { IsInRange self.now }
     {

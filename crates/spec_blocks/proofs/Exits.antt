@@ -1,18 +1,13 @@
--- An exit keeps a state sound.
-use Rattle.std.proofs.Common.{◌≡◌, ℕ, ◌<◌, ◌≤◌, not, ◌==◌, nat_lt, List, [], ◌∷◌, ◌++◌, subst, arith, inl, inr}
-use Rattle.std.proofs.lemmas.Bool.{eqb-true, not-false}
+-- Who leaves or enters now does so in a later epoch.
+use Rattle.std.proofs.Common.{◌≡◌, ℕ, ◌<◌, ◌≤◌, nat_lt, List, [], ◌∷◌, ◌++◌, arith, inl, inr}
 use Rattle.bc_preset.specs.declared.presets.Preset.{Preset}
-use Rattle.bc_words.specs.Outcome.{done, checked_add}
 use Rattle.bc_preset.specs.declared.configuration.ConfigValues.{ConfigValues}
+use Rattle.bc_words.specs.Outcome.{done, checked_add}
 use Rattle.spec_state.specs.declared.plain.PlainState.{PlainState}
-use Rattle.spec_state.specs.Constants.{far_future_epoch}
 use Rattle.spec_state.specs.Accessors.{get_current_epoch, get_validator_churn_limit}
 use Rattle.spec_state.specs.Misc.{compute_activation_exit_epoch}
-use Rattle.spec_state.specs.Soundness.{IsSound}
-use Rattle.spec_blocks.specs.Checks.{item_at}
-use Rattle.spec_blocks.specs.InitiateValidatorExit.{initiate_validator_exit, exit_queue_epoch, exit_queue_churn, exit_epochs, greatest}
-use Rattle.spec_blocks.proofs.Done.{on_the_way, chosen, same_value, sum_is, item_is}
-use Rattle.spec_blocks.proofs.SoundRegistry.{leaving_sound}
+use Rattle.spec_blocks.specs.InitiateValidatorExit.{exit_queue_epoch, exit_queue_churn, exit_epochs, greatest}
+use Rattle.spec_blocks.proofs.Done.{on_the_way, chosen, same_value, sum_is}
 
 greatest_of_last : (numbers : List ℕ) (n : ℕ) → n ≤ greatest (numbers ++ n ∷ [])
 unfolding greatest
@@ -39,18 +34,4 @@ queue_later s config epoch is =
     elim (chosen (nat_lt (exit_queue_churn s.validators last) (get_validator_churn_limit s config)) _ _ _ earliest.then_done) [
       | inl free ↦ let same = same_value last epoch free.1 in omega arith
       | inr full ↦ let same = sum_is last 1 epoch full.1 in omega arith
-    ]
-
--- the exit of a validator
-pub exit_sound : (s t : PlainState) (index : ℕ) (config : ConfigValues) → initiate_validator_exit s index config ≡ done t → get_current_epoch s < far_future_epoch → IsSound s → IsSound t
-unfolding initiate_validator_exit
-exit_sound s t index config is before sound =
-    let validator = on_the_way (item_at s.validators index) _ t is in
-    elim (chosen (not (validator.value.exit_epoch == far_future_epoch)) _ _ _ validator.then_done) [
-      | inl leaving ↦ subst IsSound (same_value s t leaving.1) sound
-      | inr stays ↦
-          let exit = on_the_way (exit_queue_epoch s config) _ t stays.1 in
-          let withdrawable = on_the_way (checked_add exit.value config.min_validator_withdrawability_delay) _ t exit.then_done in
-          let later = queue_later s config exit.value exit.first in
-          subst IsSound (same_value _ t withdrawable.then_done) (leaving_sound s index validator.value exit.value withdrawable.value (item_is s.validators index validator.value validator.first) (eqb-true validator.value.exit_epoch far_future_epoch (not-false _ stays.0)) later before sound)
     ]
