@@ -109,8 +109,8 @@ impl Model for State {
 }
 
 impl State {
-    /// The state of these fields, which were read. The tree of each list is built once.
-    pub(crate) fn from_plain(plain: PlainState) -> Result<State, NoMemory>
+    /// The state of these fields. The tree of each list is built once.
+    pub fn from_plain(plain: PlainState) -> Result<State, NoMemory>
         requires state { IsState plain }
         requires range { IsInRange plain }
         ensures { IfOk result (λ state. state ≡ plain) }

@@ -9,3 +9,4 @@ pub mod SoundAttestations
 pub mod Fixed
 pub mod SoundBlock
 pub mod Each
+pub mod Pubkeys
