@@ -1,4 +1,3 @@
 pub mod Unread
 pub mod FirstFault
 pub mod Balances
-pub mod Writings

@@ -5,7 +5,7 @@ ghost use Rattle.ssz_codec.specs.Reads.{ReadsAs, Reads};
 ghost use Rattle.bc_preset.specs.Presets.{IsPreset};
 ghost use Rattle.spec_state.specs.States.{state_codec};
 ghost use Rattle.spec_state.specs.Limits.{IsState, IsInRange};
-ghost use Rattle.beacon_state.specs.Writing.{HasWriting};
+ghost use Rattle.spec_state.specs.Writing.{HasWriting};
 
 use crate::state::State;
 use bc_preset::Preset;

@@ -14,7 +14,7 @@ ghost use Rattle.spec_state.specs.Limits.{IsState};
 ghost use Rattle.bc_preset.specs.Presets.{IsPreset};
 ghost use Rattle.bc_preset.specs.declared.presets.Preset.{Preset};
 ghost use Rattle.spec_state.specs.declared.plain.PlainState.{PlainState};
-ghost use Rattle.beacon_state.specs.Writing.{HasWriting};
+ghost use Rattle.spec_state.specs.Writing.{HasWriting};
 
 use crate::state::State;
 use bc_preset::Preset;
@@ -188,7 +188,7 @@ fn write_plain(alloc: Global, s: &State) -> Result<Vec<u8>, NoMemory>
 
 impl State {
     /// The writing of the state, which must have one: each of its offsets fits in four bytes. It is read as this state.
-    #[tactic(auto, using(crate::proofs::Writings::written_again))]
+    #[tactic(auto, using(spec_state::proofs::Writings::written_again))]
     pub fn write(&self, alloc: Global) -> Result<Vec<u8>, NoMemory>
         requires { HasWriting self.now }
         ensures writing { IfOk result (λ bytes. bytes.items ≡ (state_codec self.now.preset).serialize self.now) }

@@ -1,6 +1,6 @@
 //! A genesis state of 64 validators: its roots, and that the check takes it.
 
-ghost use Rattle.beacon_state.specs.Writing.{HasWriting};
+ghost use Rattle.spec_state.specs.Writing.{HasWriting};
 
 use bc_preset::Preset;
 use beacon_body::empty_body_root;

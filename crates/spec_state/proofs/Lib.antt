@@ -2,3 +2,5 @@ pub mod ActiveIndices
 pub mod BeaconCommittees
 pub mod StateLaws
 pub mod Limits
+pub mod Writings
+pub mod Genesis

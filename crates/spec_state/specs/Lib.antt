@@ -4,5 +4,6 @@ pub mod Misc
 pub mod Accessors
 pub mod States
 pub mod Limits
+pub mod Writing
 pub mod Genesis
 pub mod Soundness

@@ -1,6 +1,5 @@
 pub mod Loop
 pub mod Tests
-pub mod Genesis
 pub mod Blocks
 pub mod Epochs
 pub mod Visits

@@ -2,7 +2,7 @@
 
 ghost use Rattle.std.specs.Prelude.{IfOk};
 ghost use Rattle.bc_preset.specs.Presets.{IsPreset};
-ghost use Rattle.beacon_state.specs.Writing.{HasWriting};
+ghost use Rattle.spec_state.specs.Writing.{HasWriting};
 
 use crate::calls::given::Given;
 use anyhow::{Result, bail};

@@ -1,4 +1,4 @@
-use Rattle.transition.proofs.Genesis.{genesis_sound}
+use Rattle.spec_state.proofs.Genesis.{genesis_sound}
 use Rattle.transition.proofs.soundness.genesis_is_sound.Goals as goal
 
 pub returns : goal.returns

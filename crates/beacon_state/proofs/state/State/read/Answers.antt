@@ -3,7 +3,7 @@ use Rattle.std.proofs.lemmas.Result.{err_from_is_err_and}
 use Rattle.spec_state.specs.States.{state_codec}
 use Rattle.spec_state.proofs.StateLaws.{state_lawful}
 use Rattle.spec_state.proofs.Limits.{read_is_state, read_is_in_range}
-use Rattle.beacon_state.proofs.Writings.{read_has_writing}
+use Rattle.spec_state.proofs.Writings.{read_has_writing}
 use Rattle.beacon_state.proofs.Unread.{is_unread}
 use Rattle.beacon_state.proofs.state.State.read.Goals as goal
 

@@ -9,7 +9,7 @@ use Rattle.spec_state.specs.States.{state_fields, state_codec}
 use Rattle.spec_state.specs.Limits.{IsState, IsInRange}
 use Rattle.spec_state.proofs.StateLaws.{state_lawful}
 use Rattle.spec_state.proofs.Limits.{within_preset}
-use Rattle.beacon_state.specs.Writing.{ListFits, HasWriting}
+use Rattle.spec_state.specs.Writing.{ListFits, HasWriting}
 
 previous_fits : (p : Preset) (s : PlainState) → (state_codec p).Within s → ListFits s.previous_epoch_attestations
 unfolding state_fields state_codec ListFits
@@ -23,7 +23,7 @@ offsets_fit : (p : Preset) (s : PlainState) → (state_codec p).Within s → Off
 unfolding state_codec
 offsets_fit p s within = within.1
 
-within_fits : (p : Preset) (s : PlainState) → (state_codec p).Within s → HasWriting s
+pub within_fits : (p : Preset) (s : PlainState) → (state_codec p).Within s → HasWriting s
 within_fits p s within = record {
   previous = previous_fits p s within;
   current = current_fits p s within;
@@ -33,7 +33,8 @@ within_fits p s within = record {
 pub read_has_writing : (p : Preset) (bytes : List ℕ) (s : PlainState) → IsBytes bytes → (state_codec p).deserialize bytes ≡ Some s → HasWriting s
 read_has_writing p bytes s fits e = within_fits p s ((state_lawful p).sound bytes s fits e).0
 
-codec_within : (s : PlainState) → IsState s → IsInRange s → HasWriting s → (state_codec s.preset).Within s
+-- and one that has a writing is one of the codec's
+pub codec_within : (s : PlainState) → IsState s → IsInRange s → HasWriting s → (state_codec s.preset).Within s
 unfolding state_fields state_codec ListFits
 codec_within s is r fits = (
   (

@@ -2,11 +2,11 @@
 use Rattle.std.proofs.Common.{◌≡◌, ℕ, ◌≤◌, Bool, true, false, not, ◌&&◌, ◌==◌, cond, List, [], length, Option, Some, None, refl, sym, subst, arith}
 use Rattle.std.specs.List.{list_all, AllByRecursion}
 use Rattle.std.proofs.lemmas.Bool.{and_parts, eqb-true}
+use Rattle.std.proofs.lemmas.List.{nil_from_length}
 use Rattle.beacon_types.specs.declared.pending_attestation.PendingAttestation.{PendingAttestation}
 use Rattle.spec_state.specs.declared.plain.PlainState.{PlainState}
 use Rattle.spec_state.specs.Genesis.{genesis_fault, is_genesis_header, is_zero_checkpoint}
 use Rattle.spec_state.specs.Soundness.{IsSound}
-use Rattle.transition.proofs.Tests.{empty_is}
 
 -- no fault: the test doesn't hold, and there is none behind it
 passed : {A : Type 0} (b : Bool) (fault : A) (rest : Option A) → cond (not b) (Some fault) rest ≡ None → (b ≡ true) × (rest ≡ None)
@@ -33,8 +33,8 @@ genesis_sound s h =
     let balances = passed (length s.balances == length s.validators) _ _ lists.1 in
     let three = and_parts _ _ checkpoints.0 in
     let two = and_parts _ _ three.1 in
-    let no_previous : s.previous_epoch_attestations ≡ [] = empty_is s.previous_epoch_attestations (eqb-true _ _ (and_parts _ _ lists.0).0) in
-    let no_current : s.current_epoch_attestations ≡ [] = empty_is s.current_epoch_attestations (eqb-true _ _ (and_parts _ _ (and_parts _ _ lists.0).1).0) in
+    let no_previous : s.previous_epoch_attestations ≡ [] = nil_from_length s.previous_epoch_attestations (eqb-true _ _ (and_parts _ _ lists.0).0) in
+    let no_current : s.current_epoch_attestations ≡ [] = nil_from_length s.current_epoch_attestations (eqb-true _ _ (and_parts _ _ (and_parts _ _ lists.0).1).0) in
     let header_slot : s.latest_block_header.slot ≡ 0 = eqb-true _ _ (and_parts _ _ header.0).0 in
     let previous : s.previous_justified_checkpoint.epoch ≡ 0 = eqb-true _ _ (and_parts _ _ three.0).0 in
     let current : s.current_justified_checkpoint.epoch ≡ 0 = eqb-true _ _ (and_parts _ _ two.0).0 in
