@@ -13,5 +13,4 @@ pub mod SoundAttestations
 pub mod SoundOperations
 pub mod SoundBlock
 pub mod ProposerStays
-pub mod Each
 pub mod Pubkeys
