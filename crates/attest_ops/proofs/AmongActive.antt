@@ -1,23 +1,25 @@
 -- Whether somebody attested, by how many validators are active and by the published definitions.
-use Rattle.std.proofs.Common.{◌≡◌, ℕ, zero, suc, ◌+◌, ◌≤◌, Bool, true, false, cond, not, nat_eq, List, [], ◌∷◌, length, drop, Result, refl, sym, ap, ◌∙◌, ltb, arith}
+use Rattle.std.proofs.Common.{◌≡◌, ℕ, zero, suc, ◌+◌, ◌≤◌, Bool, true, false, cond, not, nat_eq, List, [], ◌∷◌, length, drop, Result, Ok, Err, refl, sym, ap, ◌∙◌, ltb, arith}
 use Rattle.std.specs.List.{list_any}
 use Rattle.std.proofs.lemmas.Bool.{eqb-true, ne_eqb}
 use Rattle.std.proofs.lemmas.List.FromFn.{length-map-range_with_len}
-use Rattle.bc_words.specs.Outcome.{done, refused, bind, GivesExactly}
+use Rattle.bc_words.specs.Outcome.{Outcome, done, refused, limited, bind, GivesExactly}
 use Rattle.bc_words.specs.declared.refusal.Refusal.TheVariants.{AtIndex, AtBits}
 use Rattle.bc_words.specs.declared.stop.Stop.{Stop}
+use Rattle.bc_words.specs.declared.stop.Stop.TheVariants as stops
+use Rattle.bc_preset.specs.Presets.{IsPreset}
 use Rattle.beacon_types.specs.declared.attestation_data.AttestationData.{AttestationData}
 use Rattle.beacon_body.specs.declared.attestation.Attestation.{Attestation}
-use Rattle.committees.specs.Committees.{compute_committee, committee_count_per_slot}
+use Rattle.committees.specs.Committees.{Committees, compute_committee, committee_count_per_slot, member_count}
+use Rattle.committees.proofs.Parts.{active_are_members}
 use Rattle.spec_state.specs.declared.plain.PlainState.{PlainState}
 use Rattle.spec_state.specs.Misc.{compute_epoch_at_slot}
-use Rattle.spec_state.specs.Accessors.{get_active_validator_indices, get_committee_count_per_slot, get_beacon_committee, get_attesting_indices, members_with_bits}
+use Rattle.spec_state.specs.Accessors.{get_active_validator_indices, get_committee_count_per_slot, get_beacon_committee, get_attesting_indices, members_with_bits, epoch_committees}
 use Rattle.spec_blocks.specs.Checks.{check}
 use Rattle.spec_blocks.specs.ProcessAttestation.{check_committee}
 use Rattle.attest_ops.specs.inside.Bits.{is_set}
 use Rattle.attest_ops.specs.inside.Attested.{is_attested, Attests}
 use Rattle.attest_ops.specs.inside.Counted.{committee_len, attested_with, attested_among}
-use Rattle.attest_ops.proofs.Attested.{behind, flag}
 
 -- ---- whether one of the bits is set
 
@@ -62,6 +64,22 @@ any_is (member ∷ committee) (false ∷ bits) e = any_is committee bits (omega 
 
 -- ---- the published checks
 
+-- the answer is that of a check with a value behind it
+behind : (result : Result Bool Stop) (checked : Outcome (Unit {0})) (is_so : Bool) → GivesExactly result (bind checked (λ _. done is_so)) → Attests result checked is_so
+behind (Ok attested) (done unit) is_so e = (ap done (let one : unit ≡ tt = refl in one), sym (let same : is_so ≡ attested = cc in same))
+behind (Ok attested) (refused why) is_so e = absurd cc
+behind (Ok attested) (limited bound) is_so e = absurd cc
+behind (Err (stops.Refused why)) (done unit) is_so e = absurd cc
+behind (Err (stops.Refused why)) (refused other) is_so e = let same : other ≡ why = cc in ap refused same
+behind (Err (stops.Refused why)) (limited bound) is_so e = absurd cc
+behind (Err (stops.Limit bound)) (done unit) is_so e = absurd cc
+behind (Err (stops.Limit bound)) (refused why) is_so e = absurd cc
+behind (Err (stops.Limit bound)) (limited other) is_so e = let same : other ≡ bound = cc in ap limited same
+behind (Err stops.NoMemory) checked is_so e = e
+
+abbrev flag : PlainState → AttestationData → List Bool → Bool
+flag state voted bits = not (nat_eq (length (get_attesting_indices state voted bits)) 0)
+
 behind_check : (holds x y : Bool) → (holds ≡ true → x ≡ y) → bind (check holds AtBits) (λ _. done x) ≡ bind (check holds AtBits) (λ _. done y)
 behind_check true x y is = ap done (is refl)
 behind_check false x y is = refl
@@ -101,3 +119,7 @@ attests state attestation active result slot is e =
     ap (λ n. attested_among state.preset n attestation.content.slot attestation.content.index attestation.aggregation_bits) is
     ∙ attested_is state attestation.content attestation.aggregation_bits slot in
     behind result (check_committee state attestation.content attestation.aggregation_bits) (flag state attestation.content attestation.aggregation_bits) (rw same at e)
+
+-- the members of an epoch's committees are those who are active in it
+pub members_are_active : (state : PlainState) (committees : Committees) (epoch : ℕ) → IsPreset state.preset → committees ≡ epoch_committees state epoch → member_count committees ≡ length (get_active_validator_indices state epoch)
+members_are_active state committees epoch preset is = ap member_count is ∙ active_are_members state.preset _ (get_active_validator_indices state epoch) preset

@@ -1,4 +1,2 @@
-pub mod Attested
-pub mod Matching
 pub mod Members
 pub mod AmongActive

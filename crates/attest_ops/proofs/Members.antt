@@ -1,7 +1,6 @@
 -- The members of a committee whose bit is set, one after another.
-use Rattle.std.proofs.Common.{◌≡◌, ℕ, zero, suc, ◌+◌, ◌<◌, ◌≤◌, Bool, true, false, cond, not, nat_eq, List, [], ◌∷◌, ◌++◌, length, get_or, drop, refl, sym, ap, ◌∙◌, append_assoc, arith}
+use Rattle.std.proofs.Common.{◌≡◌, ℕ, zero, suc, ◌+◌, ◌<◌, ◌≤◌, Bool, true, false, cond, List, [], ◌∷◌, ◌++◌, length, get_or, drop, refl, sym, ap, ◌∙◌, append_assoc, arith}
 use Rattle.std.proofs.Math.ListN.{drop_of_length-le}
-use Rattle.std.proofs.lemmas.Bool.{ne_eqb}
 use Rattle.std.proofs.lemmas.List.{append-nil}
 use Rattle.spec_state.specs.Accessors.{members_with_bits}
 use Rattle.attest_ops.specs.inside.Bits.{is_set}
@@ -56,21 +55,5 @@ one_attests committee bits members i h set_bit =
 pub members_end : (committee : List ℕ) (bits : List Bool) (members : List ℕ) (i : ℕ) → length committee ≤ i → members ++ members_with_bits (drop i committee) (drop i bits) ≡ members
 members_end committee bits members i h = ap (λ ms. members ++ ms) (from_end committee bits i h) ∙ append-nil members
 
--- ---- whether there is one
-
-pub all_begin : (committee : List ℕ) (bits : List Bool) → members_with_bits (drop 0 committee) (drop 0 bits) ≡ members_with_bits committee bits
-all_begin committee bits = refl
-
-some : (member : ℕ) (members : List ℕ) → not (nat_eq (length (member ∷ members)) 0) ≡ true
-some member members = ap not (ne_eqb (length (member ∷ members)) 0 (λ (e : length (member ∷ members) ≡ 0). let no : ⊥ = omega arith in no))
-
-pub somebody_attests : (committee : List ℕ) (bits : List Bool) (i : ℕ) → i < length committee → is_set bits i ≡ true → not (nat_eq (length (members_with_bits (drop i committee) (drop i bits))) 0) ≡ true
-somebody_attests committee bits i h set_bit = ap (λ ms. not (nat_eq (length ms) 0)) (here committee bits i h set_bit) ∙ some (get_or committee i 0) (from committee bits (i + 1))
-
-pub nobody_attests : (committee : List ℕ) (bits : List Bool) (i : ℕ) → length committee ≤ i → members_with_bits (drop i committee) (drop i bits) ≡ []
-nobody_attests committee bits i h = from_end committee bits i h
-
--- what the loops over a committee need: that of those who attest, and that of whether anybody does
+-- what the loop over a committee needs
 pub ruleset listing = (members_begin, one_attests, one_does_not, members_end)
-
-pub ruleset looking = (all_begin, somebody_attests, one_does_not, nobody_attests)

@@ -1,6 +1,5 @@
 -- Words of this crate's own contracts.
 pub mod Attested
 pub mod Bits
-pub mod Matching
 pub mod Pending
 pub mod Counted

@@ -1,6 +1,6 @@
 //! Who attested (beacon-chain.md, "get_attesting_indices").
 
-ghost use Rattle.std.specs.Prelude.{◌≡◌, ◌==◌, not, length, IfOk};
+ghost use Rattle.std.specs.Prelude.{◌≡◌, IfOk};
 ghost use Rattle.spec_state.specs.Accessors.{members_with_bits};
 ghost use Rattle.attest_ops.specs.inside.Bits.{is_set};
 
@@ -32,17 +32,4 @@ pub fn attesting_indices(
         members.push(committee[i])?;
     }
     Ok(members)
-}
-
-/// Whether the bit of a member of the committee is set.
-#[tactic(auto, using(crate::proofs::Members::looking))]
-pub(crate) fn is_attested(committee: &[u64], bits: &BitList) -> bool
-    ensures { result ≡ not (length (members_with_bits committee.now bits.now) == 0) }
-{
-    for i in 0..committee.len() {
-        if is_set(bits, i) {
-            return true;
-        }
-    }
-    false
 }

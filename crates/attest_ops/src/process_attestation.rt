@@ -5,16 +5,15 @@ ghost use Rattle.bc_words.specs.Outcome.{Changes, GivesExactly, done};
 ghost use Rattle.spec_state.specs.Misc.{compute_epoch_at_slot};
 ghost use Rattle.spec_state.specs.Accessors.{get_current_epoch, get_previous_epoch, get_active_validator_indices, epoch_committees};
 ghost use Rattle.spec_blocks.specs.ProcessAttestation.{check_times, check_committee, process_attestation};
-ghost use Rattle.attest_ops.specs.inside.Attested.{attested_by, attested_at, is_attested, Attests, IsTimely};
+ghost use Rattle.attest_ops.specs.inside.Attested.{is_attested, Attests, IsTimely};
 
 use crate::counted::counted_in;
-use crate::get_attesting_indices::is_attested;
 use crate::pending::{pending_of, push_attested};
 use balance_totals::{current_epoch, previous_epoch};
 use bc_words::{Refusal, Stop, checked_add, checked_sub};
 use beacon_body::Attestation;
 use beacon_state::State;
-use beacon_types::{AggregationBits, AttestationData};
+use beacon_types::AttestationData;
 use committees::EpochCommittees;
 
 /// The epoch of a slot.
@@ -50,59 +49,6 @@ fn check_times(state: &State, content: &AttestationData) -> Result<(), Stop>
     Ok(())
 }
 
-/// Whether a member of the committee attested. Refused where there are not as many bits as members.
-fn attested_by(committee: &[u64], bits: &AggregationBits) -> Result<bool, Stop>
-    ensures { GivesExactly result (attested_by committee.now bits.now) }
-{
-    if bits.len() != committee.len() as u64 {
-        return Err(Stop::Refused(Refusal::AtBits));
-    }
-    Ok(is_attested(committee, bits.as_bits()))
-}
-
-/// Whether somebody attested in the committee of the slot with an index. Refused where there is no such committee, or not
-/// as many bits as members.
-fn attested_at(
-    committees: &EpochCommittees,
-    slot: u64,
-    index: u64,
-    bits: &AggregationBits,
-) -> Result<bool, Stop>
-    ensures { GivesExactly result (attested_at committees.now slot index bits.now) }
-{
-    if index >= committees.per_slot() {
-        return Err(Stop::Refused(Refusal::AtIndex));
-    }
-    match committees.committee(slot, index) {
-        Some(committee) => attested_by(committee, bits),
-        None => Err(Stop::Refused(Refusal::AtIndex)),
-    }
-}
-
-/// Whether somebody attested, by the committees of the vote's epoch. Refused where there is no such committee, or not as many
-/// bits as members.
-#[tactic(auto, using(crate::proofs::Attested::attests))]
-fn attested_in(
-    state: &State,
-    attestation: &Attestation,
-    previous: &EpochCommittees,
-    current: &EpochCommittees,
-) -> Result<bool, Stop>
-    requires previous { previous.now ≡ epoch_committees state.now (get_previous_epoch state.now) }
-    requires current { current.now ≡ epoch_committees state.now (get_current_epoch state.now) }
-    requires timely { IsTimely state.now attestation.now.content }
-    ensures { Attests result (check_committee state.now attestation.now.content attestation.now.aggregation_bits) (is_attested state.now attestation.now) }
-{
-    let _preset = state.preset();
-    let content = &attestation.content;
-    let bits = &attestation.aggregation_bits;
-    if content.target.epoch == current_epoch(state) {
-        attested_at(current, content.slot, content.index, bits)
-    } else {
-        attested_at(previous, content.slot, content.index, bits)
-    }
-}
-
 /// Puts the vote of a committee into the list of its epoch, where it comes in time and it is known whether somebody attested, or
 /// why that is refused. After a stop the state is as before.
 #[tactic(auto, unfolding(spec_blocks::specs::ProcessAttestation::process_attestation, crate::specs::inside::Pending::with_attested, crate::specs::inside::Attested::is_attested))]
@@ -123,31 +69,13 @@ fn take_vote(
 }
 
 /// Puts the vote of a committee into the list of its epoch, where it waits for the end of the epoch (beacon-chain.md,
-/// `process_attestation`). `proposer` is the block's proposer; `previous` and `current` are the committees of the state's
-/// previous and current epoch. The signature isn't checked.
+/// `process_attestation`). `proposer` is the block's proposer; `previous` and `current` are how many validators are active in the
+/// state's previous and current epoch. The members of a committee aren't needed, since the signature isn't checked: how many
+/// there are decides.
 ///
 /// Refused, in this order: `AtTargetEpoch`, `AtSlotEpoch`, `AtEarly`, `AtLate`, `AtIndex`, `AtBits`, `AtSource`, `ListFull`,
 /// `AtEmpty`, and `Overflow` where a sum on the way doesn't fit. After a stop the state is as before: all checks come before
 /// the one write.
-#[tactic(auto, unfolding(spec_blocks::specs::ProcessAttestation::process_attestation))]
-pub fn process_attestation(
-    state: &mut State,
-    attestation: &Attestation,
-    proposer: u64,
-    previous: &EpochCommittees,
-    current: &EpochCommittees,
-) -> Result<(), Stop>
-    requires previous { previous.now ≡ epoch_committees state.old (get_previous_epoch state.old) }
-    requires current { current.now ≡ epoch_committees state.old (get_current_epoch state.old) }
-    ensures { Changes result state.old state.new (process_attestation state.old attestation.now proposer) }
-{
-    check_times(state, &attestation.content)?;
-    let attested = attested_in(state, attestation, previous, current);
-    take_vote(state, attestation, proposer, attested)
-}
-
-/// The same, where `previous` and `current` are how many validators are active in the state's previous and current epoch. The
-/// members of a committee aren't needed, since the signature isn't checked: how many there are decides.
 #[tactic(auto, unfolding(spec_blocks::specs::ProcessAttestation::process_attestation))]
 pub fn process_counted_attestation(
     state: &mut State,
@@ -163,4 +91,23 @@ pub fn process_counted_attestation(
     check_times(state, &attestation.content)?;
     let attested = counted_in(state, attestation, previous, current);
     take_vote(state, attestation, proposer, attested)
+}
+
+/// The same, where `previous` and `current` are the committees of the state's previous and current epoch: as many validators
+/// are active as are members of committees.
+#[tactic(auto, using(crate::proofs::AmongActive::members_are_active))]
+pub fn process_attestation(
+    state: &mut State,
+    attestation: &Attestation,
+    proposer: u64,
+    previous: &EpochCommittees,
+    current: &EpochCommittees,
+) -> Result<(), Stop>
+    requires previous { previous.now ≡ epoch_committees state.old (get_previous_epoch state.old) }
+    requires current { current.now ≡ epoch_committees state.old (get_current_epoch state.old) }
+    ensures { Changes result state.old state.new (process_attestation state.old attestation.now proposer) }
+{
+    let _preset = state.preset();
+    let (previous, current) = (previous.member_count(), current.member_count());
+    process_counted_attestation(state, attestation, proposer, previous, current)
 }

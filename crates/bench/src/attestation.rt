@@ -1,17 +1,16 @@
-//! One attestation into a state with committees at hand: on 65,536 validators against 4,096.
+//! One attestation into a state whose active validators are counted, as a block's are: on 65,536 validators against 4,096.
 
-ghost use Rattle.std.specs.Prelude.{◌≡◌};
-ghost use Rattle.spec_state.specs.Accessors.{get_current_epoch, get_previous_epoch, epoch_committees};
+ghost use Rattle.std.specs.Prelude.{◌≡◌, length};
+ghost use Rattle.spec_state.specs.Accessors.{get_current_epoch, get_previous_epoch, get_active_validator_indices};
 
 use crate::ratio::{Time, now, tell_ratio, time_since};
 use crate::states::{Shape, put_offset, put_vote, read_mainnet};
 use anyhow::Result;
-use attest_ops::process_attestation::process_attestation;
-use balance_totals::{committees_of_epoch, current_epoch, previous_epoch};
+use attest_ops::process_attestation::process_counted_attestation;
+use balance_totals::{count_active, current_epoch, previous_epoch};
 use bc_words::Stop;
 use beacon_body::Attestation;
 use beacon_state::State;
-use committees::EpochCommittees;
 use ssz_codec::Ssz;
 use std::time::CpuClock;
 
@@ -23,14 +22,14 @@ fn time_one(
     rt: &impl CpuClock,
     state: &mut State,
     attestation: &Attestation,
-    previous: &EpochCommittees,
-    current: &EpochCommittees,
+    previous: u64,
+    current: u64,
 ) -> Result<Time, Stop>
-    requires previous { previous.now ≡ epoch_committees state.old (get_previous_epoch state.old) }
-    requires current { current.now ≡ epoch_committees state.old (get_current_epoch state.old) }
+    requires previous { previous ≡ length (get_active_validator_indices state.old (get_previous_epoch state.old)) }
+    requires current { current ≡ length (get_active_validator_indices state.old (get_current_epoch state.old)) }
 {
     let begin = now(rt);
-    process_attestation(state, attestation, 0, previous, current)?;
+    process_counted_attestation(state, attestation, 0, previous, current)?;
     Ok(time_since(rt, begin))
 }
 
@@ -39,26 +38,26 @@ fn time_shared(
     rt: &impl CpuClock,
     state: &State,
     attestation: &Attestation,
-    previous: &EpochCommittees,
-    current: &EpochCommittees,
+    previous: u64,
+    current: u64,
 ) -> Result<Time, Stop>
-    requires previous { previous.now ≡ epoch_committees state.now (get_previous_epoch state.now) }
-    requires current { current.now ≡ epoch_committees state.now (get_current_epoch state.now) }
+    requires previous { previous ≡ length (get_active_validator_indices state.now (get_previous_epoch state.now)) }
+    requires current { current ≡ length (get_active_validator_indices state.now (get_current_epoch state.now)) }
 {
     let mut shared = state.share()?;
     time_one(rt, &mut shared, attestation, previous, current)
 }
 
-/// The time of so many attestations, each into an equal state, with the committees of the state's two epochs.
+/// The time of so many attestations, each into an equal state, with how many validators are active in its two epochs.
 fn time_times(
     rt: &impl CpuClock,
     state: &State,
     attestation: &Attestation,
-    previous: &EpochCommittees,
-    current: &EpochCommittees,
+    previous: u64,
+    current: u64,
 ) -> Result<Time, Stop>
-    requires previous { previous.now ≡ epoch_committees state.now (get_previous_epoch state.now) }
-    requires current { current.now ≡ epoch_committees state.now (get_current_epoch state.now) }
+    requires previous { previous ≡ length (get_active_validator_indices state.now (get_previous_epoch state.now)) }
+    requires current { current ≡ length (get_active_validator_indices state.now (get_current_epoch state.now)) }
 {
     let mut sum = Time::none();
     for _ in 0..TIMES {
@@ -69,13 +68,13 @@ fn time_times(
 
 /// The time of so many attestations, each into an equal state.
 fn time_all(
-    rt: &(impl AllocGlobal + CpuClock),
+    rt: &impl CpuClock,
     state: &State,
     attestation: &Attestation,
 ) -> Result<Time, Stop> {
-    let previous = committees_of_epoch(rt.alloc(), state, previous_epoch(state))?;
-    let current = committees_of_epoch(rt.alloc(), state, current_epoch(state))?;
-    time_times(rt, state, attestation, &previous, &current)
+    let previous = count_active(state, previous_epoch(state));
+    let current = count_active(state, current_epoch(state));
+    time_times(rt, state, attestation, previous, current)
 }
 
 /// A vote of the first committee of slot 0.

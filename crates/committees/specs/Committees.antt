@@ -1,7 +1,7 @@
 -- The committees of an epoch (beacon-chain.md, "compute_committee", "get_committee_count_per_slot" and
 -- "get_beacon_committee"). An active list holds the indices of the validators active at the epoch, in order.
 use Rattle.std.specs.Prelude.{◌≡◌, ◌<◌, ℕ, ◌+◌, ◌-◌, ◌*◌, ◌/◌, ◌%◌, min, max, List, [], length, map, slice_index, slice_index_or, slice_get, Option}
-use Rattle.std.specs.List.{range_with_len}
+use Rattle.std.specs.List.{range_with_len, sum_by}
 use Rattle.bc_preset.specs.declared.presets.Preset.{Preset}
 use Rattle.shuffling.specs.Shuffling.{compute_shuffled_index}
 
@@ -37,6 +37,10 @@ committees_of preset seed active =
       slots = preset.slots_per_epoch;
       all = map (λ index. compute_committee preset.shuffle_round_count active seed index count) (range_with_len 0 count);
     }
+
+-- how many members all of them have together
+unfoldable pub member_count : Committees → ℕ
+member_count committees = sum_by (λ committee. length committee) committees.all
 
 -- the committee of a slot with an index, if the epoch has it
 unfoldable pub committee_at : Committees → ℕ → ℕ → Option (List ℕ)

@@ -1,5 +1,5 @@
 -- The proposer of a slot (beacon-chain.md, "compute_proposer_index").
-use Rattle.std.specs.Prelude.{ℕ, ◌/◌, ◌%◌, List, ◌∷◌, ◌++◌, length, Bool, Option, Some, None, leb, slice_index, ◌==◌, if◌then◌else◌}
+use Rattle.std.specs.Prelude.{ℕ, ◌/◌, ◌%◌, List, ◌++◌, length, Bool, Option, Some, None, leb, slice_index, ◌==◌, if◌then◌else◌}
 use Rattle.std.specs.Int.{w64, to_le_bytes}
 use Rattle.bc_words.specs.Outcome.{Outcome, done, refused, limited, bind, ◌>>=◌, checked_mul}
 use Rattle.bc_words.specs.Searches.{first_from}

@@ -2,7 +2,7 @@
 
 ghost use Rattle.std.specs.Prelude.{◌≡◌, ◌↔◌, IsNone, ◌*◌, ◌%◌, ◌+◌, ◌<◌, ◌≤◌, ◌^◌, length, slice_range, IfOk, IsOk, MatchOption, Some, None};
 ghost use Rattle.bc_preset.specs.Presets.{IsPreset};
-ghost use Rattle.committees.specs.Committees.{committees_of, committee_count_per_slot, committee_at, committee_start, StandOnce, IsWithoutRepeats};
+ghost use Rattle.committees.specs.Committees.{committees_of, committee_count_per_slot, committee_at, committee_start, member_count, StandOnce, IsWithoutRepeats};
 
 use bc_preset::Preset;
 use bc_words::NoMemory;
@@ -101,6 +101,14 @@ impl EpochCommittees {
         ensures most { result ≤ 64 }
     {
         self.per_slot
+    }
+
+    /// How many members all committees of the epoch have together: as many as there are active validators.
+    pub fn member_count(&self) -> u64
+        ensures exact { result ≡ member_count self.now }
+        ensures most { result ≤ 2 ^ 40 }
+    {
+        self.members.len() as u64
     }
 
     /// The committee of a slot with an index, or None exactly where the epoch has no such committee.

@@ -6,8 +6,7 @@ use Rattle.spec_epochs.specs.Helpers.{get_unslashed_attesting_indices}
 use Rattle.spec_epochs.specs.GetAttestationComponentDeltas.{get_attestation_component_deltas}
 use Rattle.participation.specs.inside.Marks.{flagged, attester_flags}
 use Rattle.participation.proofs.Flags.{flagged_are}
-use Rattle.validator_rewards.specs.inside.Components.{component_reward, component_penalty}
-use Rattle.epoch_rewards.specs.inside.Components.{needed_balance, component_deltas}
+use Rattle.epoch_rewards.specs.inside.Components.{component_reward, component_penalty, needed_balance, component_deltas}
 
 by_attesters : (state : PlainState) (attestations : List PendingAttestation) → component_deltas state (get_unslashed_attesting_indices state attestations) ≡ get_attestation_component_deltas state attestations
 unfolding component_deltas component_reward component_penalty needed_balance get_attestation_component_deltas

@@ -7,7 +7,7 @@ use Rattle.bc_words.specs.declared.refusal.Refusal.{Refusal}
 use Rattle.bc_words.specs.declared.refusal.Refusal.TheVariants.{Overflow}
 use Rattle.spec_epochs.specs.Each.{checked_map}
 use Rattle.spec_epochs.proofs.Each.{bound_done}
-use Rattle.validator_rewards.specs.inside.Paid.{sum_of_four}
+use Rattle.epoch_rewards.specs.inside.Paid.{sum_of_four}
 use Rattle.epoch_rewards.proofs.Overflows.{OnlyOverflows, bound_only, add_only}
 use Rattle.epoch_rewards.proofs.Gained.{bound_refused}
 use Rattle.epoch_rewards.proofs.Joined.{same_map, refused_map}

@@ -1,15 +1,23 @@
--- The gains of proposers by those whose flag is set, from an index on.
-use Rattle.std.proofs.Common.{◌≡◌, ℕ, ◌+◌, ◌≤◌, Bool, false, not, List, ◌∷◌, Option, length, filter, get_or, refl, ap, ◌∙◌}
+-- The gains of proposers: by one attester who is included, and by those whose flag is set, from an index on.
+use Rattle.std.proofs.Common.{◌≡◌, ℕ, List, Option, Some, get_or, set, sym, ap, ◌∙◌, ◌+◌, ◌≤◌, Bool, false, not, ◌∷◌, length, filter, refl}
+use Rattle.bc_words.specs.Outcome.{Outcome, done, bind, checked_add, Stops}
+use Rattle.spec_state.specs.declared.plain.PlainState.{PlainState}
+use Rattle.spec_epochs.specs.RewardHelpers.{get_proposer_reward}
+use Rattle.participation.specs.declared.inclusions.Inclusion.{Inclusion}
+use Rattle.epoch_rewards.specs.inside.Inclusions.{included, entry_at, all_included}
 use Rattle.std.proofs.lemmas.List.{drop_all}
-use Rattle.bc_words.specs.Outcome.{done, bind, Stops}
 use Rattle.bc_words.specs.declared.stop.Stop.{Stop}
 use Rattle.bc_words.proofs.Outcomes.{stops_bound}
-use Rattle.spec_state.specs.declared.plain.PlainState.{PlainState}
 use Rattle.spec_state.specs.Accessors.{indices_from}
-use Rattle.participation.specs.declared.inclusions.Inclusion.{Inclusion}
 use Rattle.participation.specs.inside.Marks.{flagged, flagged_from}
-use Rattle.validator_rewards.specs.inside.Inclusions.{entry_at, included}
-use Rattle.epoch_rewards.specs.inside.Inclusions.{all_included}
+
+-- an attester that is included, by the reward of the proposer
+pub includes : (state : PlainState) (attester : ℕ) (e : Inclusion) (entry : Option Inclusion) (gains : List ℕ) (reward : ℕ) → Some e ≡ entry → get_proposer_reward state attester ≡ done reward
+    → bind (checked_add (get_or gains e.proposer 0) reward) (λ sum. done (set gains e.proposer sum)) ≡ included state attester entry gains
+unfolding included
+includes state attester e entry gains reward is_entry is_reward =
+    sym (ap (λ (o : Outcome ℕ). bind o (λ reward. bind (checked_add (get_or gains e.proposer 0) reward) (λ sum. done (set gains e.proposer sum)))) is_reward)
+    ∙ ap (λ entry. included state attester entry gains) is_entry
 
 module _ (state : PlainState) (flags : List Bool) (entries : List (Option Inclusion)) where
   pub included_begins : (gains : List ℕ) → all_included state entries gains (flagged_from state flags 0) ≡ all_included state entries gains (flagged state flags)

@@ -22,8 +22,7 @@ use Rattle.participation.specs.inside.Marks.{flagged, attester_flags}
 use Rattle.participation.specs.inside.Inclusions.{entry_of, inclusion_entries}
 use Rattle.participation.proofs.Flags.{flagged_are}
 use Rattle.participation.proofs.Sound.{sound_previous}
-use Rattle.validator_rewards.specs.inside.Inclusions.{entry_at, delayed_by, own_reward, joined_reward}
-use Rattle.epoch_rewards.specs.inside.Inclusions.{all_included, all_joined, joined_deltas}
+use Rattle.epoch_rewards.specs.inside.Inclusions.{entry_at, delayed_by, own_reward, joined_reward, all_included, all_joined, joined_deltas}
 use Rattle.epoch_rewards.proofs.Overflows.{OnlyOverflows, bound_only, add_only, proposer_only, own_only}
 use Rattle.epoch_rewards.proofs.Gained.{proposes, gained, all_done, all_refused, all_only}
 use Rattle.epoch_rewards.proofs.Nothing.{nothing_is}

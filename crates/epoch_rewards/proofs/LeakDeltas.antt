@@ -10,8 +10,7 @@ use Rattle.spec_epochs.specs.RewardHelpers.{is_in_inactivity_leak}
 use Rattle.spec_epochs.specs.GetInactivityPenaltyDeltas.{get_inactivity_penalty_deltas}
 use Rattle.participation.specs.inside.Marks.{flagged, attester_flags}
 use Rattle.participation.proofs.Flags.{flagged_are}
-use Rattle.validator_rewards.specs.inside.Leak.{leak_penalty}
-use Rattle.epoch_rewards.specs.inside.Leak.{penalties_of, leak_deltas}
+use Rattle.epoch_rewards.specs.inside.Leak.{leak_penalty, penalties_of, leak_deltas}
 use Rattle.epoch_rewards.proofs.Nothing.{nothing_is}
 
 by_nothing : PlainState → List ℕ → List ℕ → Outcome Deltas

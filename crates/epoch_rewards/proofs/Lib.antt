@@ -1,3 +1,6 @@
+pub mod Among
+pub mod Gathered
+pub mod Divisor
 pub mod Components
 pub mod Included
 pub mod Nothing

@@ -1,7 +1,7 @@
 -- The balances of one pass are those of the five parts.
 use Rattle.std.proofs.Common.{◌≡◌, ℕ, zero, suc, ◌+◌, ◌/◌, ◌<◌, Bool, true, false, not, cond, ◌==◌, List, ◌∷◌, Option, length, replicate, get_or, slice_index, refl, sym, ap, ◌∙◌, arith}
 use Rattle.std.specs.List.{AllByRecursion, range_with_len}
-use Rattle.bc_words.specs.Outcome.{Outcome, done, refused, limited, bind, checked_add, checked_sub, checked_mul}
+use Rattle.bc_words.specs.Outcome.{Outcome, done, refused, limited, bind, ◌>>=◌, checked_add, checked_sub, checked_mul}
 use Rattle.spec_state.specs.declared.plain.PlainState.{PlainState}
 use Rattle.spec_state.specs.Accessors.{get_current_epoch, get_previous_epoch, get_total_active_balance, get_total_balance, indices_from}
 use Rattle.spec_state.specs.Soundness.{IsSoundWithinEpoch}
@@ -22,22 +22,24 @@ use Rattle.spec_epochs.specs.ProcessRewardsAndPenalties.{rewarded_balance, proce
 use Rattle.participation.specs.declared.inclusions.Inclusion.{Inclusion}
 use Rattle.participation.specs.inside.Marks.{flagged, flagged_from, attester_flags}
 use Rattle.participation.specs.inside.Inclusions.{inclusion_entries}
-use Rattle.validator_rewards.specs.declared.paid.Delta.{Delta}
-use Rattle.validator_rewards.specs.inside.Components.{component_reward, component_penalty}
-use Rattle.epoch_rewards.specs.inside.Components.{needed_balance, component_deltas}
-use Rattle.validator_rewards.specs.inside.Inclusions.{own_reward, joined_reward}
-use Rattle.epoch_rewards.specs.inside.Inclusions.{all_included, all_joined, joined_deltas}
-use Rattle.validator_rewards.specs.inside.Leak.{leak_penalty}
-use Rattle.epoch_rewards.specs.inside.Leak.{penalties_of, leak_deltas}
-use Rattle.epoch_rewards.specs.inside.Added.{added}
-use Rattle.validator_rewards.specs.inside.Paid.{sum_of_four, component_delta, leak_part, settled, summed, paid_balance, weights_by}
-use Rattle.epoch_rewards.specs.inside.Paid.{all_rewarded, all_paid}
+use Rattle.epoch_rewards.specs.declared.paid.Delta.{Delta}
+use Rattle.epoch_rewards.specs.inside.Components.{component_reward, component_penalty, needed_balance, component_deltas}
+use Rattle.epoch_rewards.specs.inside.Inclusions.{own_reward, joined_reward, all_included, all_joined, joined_deltas}
+use Rattle.epoch_rewards.specs.inside.Leak.{leak_penalty, penalties_of, leak_deltas}
+use Rattle.epoch_rewards.specs.inside.Paid.{sum_of_four, component_delta, leak_part, settled, summed, paid_balance, weights_by, all_rewarded, all_paid}
 use Rattle.epoch_rewards.proofs.Overflows.{OnlyOverflows, bound_only, add_only, sub_only, mul_only, total_only, item_only, validator_only, base_only, proposer_only, own_only}
 use Rattle.epoch_rewards.proofs.Gained.{all_only}
 use Rattle.epoch_rewards.proofs.Joined.{same_map, indices_below, filtered_below, joined_are}
 use Rattle.epoch_rewards.proofs.Components.{component_deltas_are}
 use Rattle.epoch_rewards.proofs.LeakDeltas.{leak_deltas_are}
 use Rattle.epoch_rewards.proofs.Fused.{bound_same, bound_twice, r0, apart, at_once_is}
+
+-- the five parts, added up
+unfoldable pub added : PlainState → Deltas → Deltas → Deltas → Deltas → Deltas → Outcome Deltas
+added state source target head inclusion_delay inactivity = do
+  rewards ← checked_map (sum_at source.rewards target.rewards head.rewards inclusion_delay.rewards) (validator_indices state)
+  penalties ← checked_map (sum_at source.penalties target.penalties head.penalties inactivity.penalties) (validator_indices state)
+  done (record { rewards = rewards; penalties = penalties })
 
 -- ---- nothing but an overflow stops a part of a validator
 

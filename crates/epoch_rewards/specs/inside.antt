@@ -1,6 +1,7 @@
 -- Words of this crate's own contracts.
+pub mod Stakes
+pub mod Divisor
 pub mod Components
 pub mod Inclusions
 pub mod Leak
-pub mod Added
 pub mod Paid

@@ -5,12 +5,12 @@ ghost use Rattle.bc_words.specs.Outcome.{GivesExactly, checked_sum_by};
 ghost use Rattle.spec_state.specs.Misc.{effective_balance};
 ghost use Rattle.spec_state.specs.Accessors.{get_total_balance};
 ghost use Rattle.participation.specs.inside.Marks.{flagged};
-ghost use Rattle.validator_rewards.specs.inside.Stakes.{stakes_of};
+ghost use Rattle.epoch_rewards.specs.inside.Stakes.{stakes_of};
 
+use crate::get_eligible_validator_indices::counted;
+use crate::stakes::Stake;
 use bc_words::{Stop, checked_add};
 use beacon_state::State;
-use validator_rewards::eligible::counted;
-use validator_rewards::stakes::Stake;
 
 /// The sum of the effective balances of those whose flag is set and who aren't slashed, in Gwei.
 #[tactic(auto, using(participation::proofs::Weighed::weighing))]

@@ -1,30 +1,142 @@
-//! Rewards for the inclusion of attestations (beacon-chain.md, "get_inclusion_delay_deltas").
+//! What the inclusion of an attestation brings its attester and its proposer, and the rewards of all (beacon-chain.md,
+//! "get_inclusion_delay_deltas").
 
-ghost use Rattle.std.specs.Prelude.{◌≡◌};
-ghost use Rattle.bc_words.specs.Outcome.{Gives, GivesBy, GivesExactly};
+ghost use Rattle.std.specs.Prelude.{◌≡◌, ◌/◌, slice_index, slice_set};
+ghost use Rattle.bc_words.specs.Outcome.{GivesExactly, Moves, bind, done, checked_add, Gives, GivesBy};
+ghost use Rattle.participation.specs.inside.Marks.{flagged};
+ghost use Rattle.spec_epochs.specs.GetBaseReward.{get_base_reward};
+ghost use Rattle.epoch_rewards.specs.inside.Stakes.{stakes_of};
+ghost use Rattle.epoch_rewards.specs.inside.Inclusions.{entry_at, included, delayed_by, own_reward, joined_reward, all_gains, all_joined, joined_deltas};
 ghost use Rattle.spec_state.specs.Accessors.{get_previous_epoch, epoch_committees};
 ghost use Rattle.spec_state.specs.Soundness.{IsSoundWithinEpoch};
 ghost use Rattle.spec_epochs.specs.GetInclusionDelayDeltas.{get_inclusion_delay_deltas};
-ghost use Rattle.participation.specs.inside.Marks.{flagged};
-ghost use Rattle.validator_rewards.specs.inside.Divisor.{divisor_of};
-ghost use Rattle.validator_rewards.specs.inside.Stakes.{stakes_of};
-ghost use Rattle.epoch_rewards.specs.inside.Inclusions.{all_gains};
-ghost use Rattle.epoch_rewards.specs.inside.Inclusions.{all_joined, joined_deltas};
+ghost use Rattle.epoch_rewards.specs.inside.Divisor.{divisor_of};
 
-use crate::amounts::all_amounts;
+use crate::amounts::{Amounts, all_amounts};
 use crate::attested::{previous_attesters, previous_inclusions};
-use crate::numbers::zeros;
-use bc_words::Stop;
+use crate::get_base_reward::{base_reward, divisor};
+use crate::get_eligible_validator_indices::{counted, is_attester};
+use crate::get_proposer_reward::proposer_reward;
+use crate::numbers::{number_at, zeros};
+use crate::stakes::{Stake, stakes};
+use bc_words::{Stop, checked_add, checked_sub};
 use beacon_state::State;
 use committees::EpochCommittees;
-use participation::{Inclusion, Vote};
+use participation::{Inclusion, Vote, inclusion_at};
 use spec_epochs::Deltas;
 use ssz_codec::Items;
 use std::alloc::Global;
-use validator_rewards::eligible::counted;
-use validator_rewards::get_base_reward::{base_reward, divisor};
-use validator_rewards::inclusion::{Included, include};
-use validator_rewards::stakes::{Stake, stakes};
+
+/// Adds to the gains of a validator.
+fn add_gain(gains: &mut Vec<u64>, index: u64, reward: u64) -> Result<(), Stop>
+    ensures { Moves result gains.new.items (bind (checked_add (slice_index gains.old.items index) reward) (λ sum. done (slice_set gains.old.items index sum))) }
+{
+    let sum = checked_add(number_at(gains, index), reward)?;
+    if (index as usize) < gains.len() {
+        gains[index as usize] = sum;
+    }
+    Ok(())
+}
+
+/// Adds the gain of the proposer who included an attester, whose base reward is known, or why it has none.
+#[tactic(auto, unfolding(crate::specs::inside::Inclusions::included))]
+pub(crate) fn include(
+    gains: &mut Vec<u64>,
+    state: &State,
+    base: Result<u64, Stop>,
+    entries: &[Option<Inclusion>],
+    attester: u64,
+) -> Result<(), Stop>
+    requires { GivesExactly base (get_base_reward state.now attester) }
+    ensures { Moves result gains.new.items (included state.now attester (entry_at entries.now attester) gains.old.items) }
+{
+    match inclusion_at(entries, attester) {
+        Some(inclusion) => {
+            let reward = proposer_reward(state, base, attester)?;
+            add_gain(gains, inclusion.proposer, reward)
+        }
+        None => Ok(()),
+    }
+}
+
+/// What is left of the most that an attester may get, in Gwei, after a delay.
+fn after_delay(most: u64, delay: u64) -> u64
+    ensures { result ≡ most / delay }
+{
+    most.checked_div(delay).unwrap_or(0)
+}
+
+/// What an attester gets for an inclusion, in Gwei, after its delay, where its base reward is known, or why it has none.
+#[tactic(auto, unfolding(crate::specs::inside::Inclusions::delayed_by))]
+fn delayed_reward(
+    state: &State,
+    base: Result<u64, Stop>,
+    index: u64,
+    inclusion: Option<Inclusion>,
+) -> Result<u64, Stop>
+    requires { GivesExactly base (get_base_reward state.now index) }
+    ensures { GivesExactly result (delayed_by state.now index inclusion) }
+{
+    match inclusion {
+        Some(inclusion) => {
+            let whole = base?;
+            let proposer = proposer_reward(state, base, index)?;
+            let most = checked_sub(whole, proposer)?;
+            Ok(after_delay(most, inclusion.delay))
+        }
+        None => Ok(0),
+    }
+}
+
+/// What a validator gets as an attester, in Gwei, where it is one.
+#[tactic(auto, unfolding(crate::specs::inside::Inclusions::own_reward))]
+fn own_reward(
+    state: &State,
+    stakes: &[Stake],
+    base: Result<u64, Stop>,
+    flags: &[bool],
+    entries: &[Option<Inclusion>],
+    index: u64,
+) -> Result<u64, Stop>
+    requires stakes { stakes.now ≡ stakes_of state.now }
+    requires base { GivesExactly base (get_base_reward state.now index) }
+    ensures { GivesExactly result (own_reward state.now entries.now (flagged state.now flags.now) index) }
+{
+    if !is_attester(state, stakes, flags, index) {
+        return Ok(0);
+    }
+    delayed_reward(state, base, index, inclusion_at(entries, index))
+}
+
+/// Who attested, each one's inclusion, and the gains of proposers. The amounts are what each gets as a proposer and as an
+/// attester.
+#[derive(Clone, Copy)]
+pub struct Included<'a> {
+    /// A flag a validator.
+    pub flags: &'a [bool],
+    /// An inclusion a validator, where it attested.
+    pub entries: &'a [Option<Inclusion>],
+    /// What each validator gains as a proposer, in Gwei.
+    pub gains: &'a [u64],
+}
+
+impl<'a> Amounts for Included<'a> {
+    ghost are_of = { λ _ _. Unit {0} };
+
+    ghost amount_of = { λ i state. joined_reward state i.entries.now (flagged state i.flags.now) i.gains.now };
+
+    #[tactic(auto, unfolding(crate::specs::inside::Inclusions::joined_reward))]
+    fn amount(
+        &self,
+        state: &State,
+        stakes: &[Stake],
+        base: Result<u64, Stop>,
+        index: u64,
+    ) -> Result<u64, Stop> {
+        let own = own_reward(state, stakes, base, self.flags, self.entries, index)?;
+        checked_add(number_at(self.gains, index), own)
+    }
+}
 
 /// What each validator gains as a proposer, in Gwei, in order of index.
 #[tactic(auto, using(crate::proofs::Included::including))]

@@ -1,26 +1,32 @@
 //! Rewards and penalties of an epoch (beacon-chain.md, "Rewards and penalties").
 //!
 //! States come from epoch processing, behind justification, and go on to the registry with their balances changed. Who
-//! attested is found in passes over the pending attestations, and what is read of the registry is gathered in one pass. All
-//! five parts are then paid in one pass over what was gathered; each is a call of its own too. A file has the name of the
-//! published function that it holds.
+//! attested is found in passes over the pending attestations (`participation`), and what is read of the registry is gathered in one
+//! pass (`stakes`). What a validator gains, loses or has left is an amount (`amounts`), reckoned in the file of the published
+//! function that it belongs to. All five parts are then paid in one pass over what was gathered; each is a call of its own too, by
+//! the same amounts. A file has the name of the published function that it holds.
 #![tactic(auto)]
 
 mod amounts;
 mod attested;
 mod attesting_balance;
 mod get_attestation_component_deltas;
-mod get_attestation_deltas;
+mod get_base_reward;
+mod get_eligible_validator_indices;
+mod get_finality_delay;
 mod get_head_deltas;
 mod get_inactivity_penalty_deltas;
 mod get_inclusion_delay_deltas;
+mod get_proposer_reward;
 mod get_source_deltas;
 mod get_target_deltas;
+mod is_in_inactivity_leak;
 mod numbers;
+mod paid;
 mod process_rewards_and_penalties;
+mod stakes;
 mod vote_deltas;
 
-pub use get_attestation_deltas::attestation_deltas;
 pub use get_head_deltas::head_deltas;
 pub use get_inactivity_penalty_deltas::inactivity_deltas;
 pub use get_inclusion_delay_deltas::inclusion_deltas;

@@ -1,11 +1,18 @@
 //! Lists of a number for each validator.
 
-ghost use Rattle.std.specs.Prelude.{◌≡◌, ◌∷◌, ◌++◌, [], length, replicate, IfOk, IfErr, OnOk, IsOkAnd, MatchResult};
+ghost use Rattle.std.specs.Prelude.{◌≡◌, slice_index, ◌∷◌, ◌++◌, [], length, replicate, IfOk, IfErr, OnOk, IsOkAnd, MatchResult};
 ghost use Rattle.bc_words.specs.declared.stop.Stop.TheVariants as stops;
 
 use bc_words::{NoMemory, Stop};
 use beacon_state::State;
 use std::alloc::Global;
+
+/// A number of a list, or 0 past its end.
+pub(crate) fn number_at(numbers: &[u64], index: u64) -> u64
+    ensures { result ≡ slice_index numbers.now index }
+{
+    numbers.get(index as usize).copied().unwrap_or(0)
+}
 
 /// 0 for each validator.
 pub(crate) fn zeros(alloc: Global, state: &State) -> Result<Vec<u64>, NoMemory>

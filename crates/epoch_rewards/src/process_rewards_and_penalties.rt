@@ -7,26 +7,25 @@ ghost use Rattle.spec_state.specs.Soundness.{IsSoundWithinEpoch};
 ghost use Rattle.spec_epochs.specs.ProcessRewardsAndPenalties.{process_rewards_and_penalties};
 ghost use Rattle.spec_epochs.specs.Helpers.{get_matching_source_attestations, get_matching_target_attestations, get_matching_head_attestations};
 ghost use Rattle.participation.specs.inside.Marks.{attester_flags, flagged};
-ghost use Rattle.validator_rewards.specs.inside.Components.{AreWeights};
-ghost use Rattle.validator_rewards.specs.inside.Divisor.{divisor_of};
+ghost use Rattle.epoch_rewards.specs.inside.Components.{AreWeights};
+ghost use Rattle.epoch_rewards.specs.inside.Divisor.{divisor_of};
 ghost use Rattle.epoch_rewards.specs.inside.Inclusions.{all_gains};
-ghost use Rattle.validator_rewards.specs.inside.Stakes.{stakes_of};
+ghost use Rattle.epoch_rewards.specs.inside.Stakes.{stakes_of};
 ghost use Rattle.epoch_rewards.specs.inside.Paid.{all_paid, all_rewarded, paid_balances};
 
 use crate::amounts::all_amounts;
 use crate::attested::{previous_attesters, previous_inclusions};
-use crate::get_attestation_component_deltas::needed_balance;
+use crate::get_attestation_component_deltas::{Voters, needed_balance, weights_of};
 use crate::get_inclusion_delay_deltas::proposer_gains;
+use crate::is_in_inactivity_leak::in_leak;
+use crate::paid::Paid;
+use crate::stakes::{Stake, stakes};
 use balance_totals::{current_epoch, total_active};
 use bc_words::{Stop, isqrt};
 use beacon_state::State;
 use committees::EpochCommittees;
 use participation::{Inclusion, Vote};
 use std::alloc::Global;
-use validator_rewards::components::{Voters, weights_of};
-use validator_rewards::leak::in_leak;
-use validator_rewards::paid::Paid;
-use validator_rewards::stakes::{Stake, stakes};
 
 /// The balances of all validators after their rewards and penalties, in Gwei, by those who had each vote right and by their
 /// inclusions. The stakes are the state's.
@@ -63,7 +62,7 @@ fn paid_by_voters(
 
 /// The balances of all validators after their rewards and penalties, in Gwei, by the flags of those who had each vote right
 /// and by their inclusions. The stakes are the state's.
-#[tactic(auto, unfolding(crate::specs::inside::Paid::all_paid, validator_rewards::specs::inside::Paid::weights_by, validator_rewards::specs::inside::Divisor::divisor_of), using(spec_epochs::proofs::Totals::least_total))]
+#[tactic(auto, unfolding(crate::specs::inside::Paid::all_paid, crate::specs::inside::Paid::weights_by, crate::specs::inside::Divisor::divisor_of), using(spec_epochs::proofs::Totals::least_total))]
 fn all_paid(
     alloc: Global,
     state: &State,

@@ -9,13 +9,13 @@ ghost use Rattle.epoch_rewards.specs.inside.Components.{vote_deltas};
 
 use crate::attested::previous_attesters;
 use crate::get_attestation_component_deltas::component_deltas;
+use crate::stakes::stakes;
 use bc_words::Stop;
 use beacon_state::State;
 use committees::EpochCommittees;
 use participation::Vote;
 use spec_epochs::Deltas;
 use std::alloc::Global;
-use validator_rewards::stakes::stakes;
 
 /// What each validator gains and loses by a vote of the previous epoch's attestations. The committees are those of that
 /// epoch.

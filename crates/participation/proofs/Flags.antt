@@ -74,7 +74,7 @@ filter_both p q (x ∷ xs) = elim (cases_Bool (p x)) as (λ _. filter (λ y. p y
   | inr f ↦ rw (f) (filter_both p q xs)
 ]
 
-chosen_are : (state : PlainState) (vote : Vote) (epoch : ℕ) → chosen state vote epoch (get_matching_source_attestations state epoch) ≡ matching state vote epoch
+pub chosen_are : (state : PlainState) (vote : Vote) (epoch : ℕ) → chosen state vote epoch (get_matching_source_attestations state epoch) ≡ matching state vote epoch
 unfolding chosen counts_for matching get_matching_target_attestations get_matching_head_attestations
 chosen_are state Source epoch = filter_all _
 chosen_are state Target epoch = refl

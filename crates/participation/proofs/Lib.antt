@@ -5,3 +5,4 @@ pub mod Weighed
 pub mod WeighedLeft
 pub mod Sound
 pub mod Entries
+pub mod Listed

@@ -6,11 +6,13 @@
 
 mod attesters;
 mod balance;
+mod get_matching_attestations;
 mod inclusions;
 mod matching;
 mod pending;
 
 pub use attesters::attested;
 pub use balance::{attesting_balance, flag_at, vote_balance};
+pub use get_matching_attestations::{matching_head, matching_target};
 pub use inclusions::{Inclusion, earliest_inclusions, inclusion_at};
 pub use matching::Vote;

@@ -1,15 +1,32 @@
--- Rewards and penalties of a component of attestation deltas, where the attesters are known.
-use Rattle.std.specs.Prelude.{ℕ, Bool, List, if◌then◌else◌}
+-- Rewards and penalties of a vote, where the attesters are known: those of one validator, and of all.
+use Rattle.std.specs.Prelude.{◌≡◌, ℕ, ◌≤◌, ◌/◌, Bool, ◌&&◌, not, List, if◌then◌else◌}
 use Rattle.bc_words.specs.Outcome.{Outcome, done, ◌>>=◌}
 use Rattle.spec_state.specs.declared.plain.PlainState.{PlainState}
+use Rattle.spec_epochs.specs.Each.{is_among, validator_indices, checked_map}
+use Rattle.spec_epochs.specs.GetBaseReward.{get_base_reward}
+use Rattle.spec_epochs.specs.RewardHelpers.{get_eligible_validator_indices, is_in_inactivity_leak}
+use Rattle.spec_epochs.specs.GetAttestationComponentDeltas.{attester_reward, get_attestation_component_deltas}
+use Rattle.epoch_rewards.specs.declared.get_attestation_component_deltas.Weights.{Weights}
 use Rattle.spec_state.specs.Accessors.{get_previous_epoch, get_total_active_balance, get_total_balance}
 use Rattle.spec_epochs.specs.declared.deltas.Deltas.{Deltas}
-use Rattle.spec_epochs.specs.Each.{validator_indices, checked_map}
-use Rattle.spec_epochs.specs.RewardHelpers.{is_in_inactivity_leak}
-use Rattle.spec_epochs.specs.GetAttestationComponentDeltas.{get_attestation_component_deltas}
 use Rattle.participation.specs.declared.matching.Vote.{Vote}
 use Rattle.participation.specs.inside.Votes.{matching}
-use Rattle.validator_rewards.specs.inside.Components.{component_reward, component_penalty}
+
+-- both balances of a component's weights stand there in whole increments too, and the total has one at least
+pub record AreWeights (state : PlainState) (weights : Weights) : Type 0 where
+  pub attesting : weights.attesting_increments ≡ weights.attesting / state.preset.effective_balance_increment
+  pub total : weights.total_increments ≡ weights.total / state.preset.effective_balance_increment
+  pub some : 1 ≤ weights.total_increments
+
+-- what a validator gains
+unfoldable pub component_reward : PlainState → List ℕ → Bool → ℕ → ℕ → ℕ → Outcome ℕ
+component_reward state attesters leak attesting_balance total_balance index =
+    if is_among index (get_eligible_validator_indices state) && is_among index attesters then attester_reward state leak attesting_balance total_balance index else done 0
+
+-- what a validator loses
+unfoldable pub component_penalty : PlainState → List ℕ → ℕ → Outcome ℕ
+component_penalty state attesters index =
+    if is_among index (get_eligible_validator_indices state) && not (is_among index attesters) then get_base_reward state index else done 0
 
 -- what each gains, in order of index
 abbrev pub component_rewards : PlainState → List ℕ → Bool → ℕ → ℕ → Outcome (List ℕ)

@@ -1,17 +1,71 @@
--- The balances of all validators after all five parts of their rewards and penalties.
-use Rattle.std.specs.Prelude.{ℕ, List, Option}
-use Rattle.bc_words.specs.Outcome.{Outcome, ◌>>=◌}
+-- The balance of a validator after all five parts of its rewards and penalties, and those of all.
+use Rattle.std.specs.Prelude.{ℕ, ◌-◌, ◌/◌, Bool, List, Option, if◌then◌else◌}
+use Rattle.bc_words.specs.Outcome.{Outcome, done, ◌>>=◌, checked_add}
 use Rattle.spec_state.specs.declared.plain.PlainState.{PlainState}
+use Rattle.spec_blocks.specs.Checks.{item_at}
+use Rattle.participation.specs.declared.inclusions.Inclusion.{Inclusion}
+use Rattle.epoch_rewards.specs.declared.get_attestation_component_deltas.Weights.{Weights}
+use Rattle.epoch_rewards.specs.declared.paid.Delta.{Delta}
+use Rattle.epoch_rewards.specs.inside.Components.{component_reward, component_penalty, needed_balance}
+use Rattle.epoch_rewards.specs.inside.Inclusions.{joined_reward, all_gains}
+use Rattle.epoch_rewards.specs.inside.Leak.{leak_penalty}
 use Rattle.spec_state.specs.Accessors.{get_total_active_balance}
 use Rattle.spec_epochs.specs.Each.{validator_indices, checked_map}
 use Rattle.spec_epochs.specs.RewardHelpers.{is_in_inactivity_leak}
 use Rattle.spec_epochs.specs.GetAttestationDeltas.{get_attestation_deltas}
 use Rattle.spec_epochs.specs.ProcessRewardsAndPenalties.{rewarded_balance}
-use Rattle.participation.specs.declared.inclusions.Inclusion.{Inclusion}
-use Rattle.validator_rewards.specs.declared.components.Weights.{Weights}
-use Rattle.validator_rewards.specs.inside.Paid.{paid_balance, weights_by}
-use Rattle.epoch_rewards.specs.inside.Components.{needed_balance}
-use Rattle.epoch_rewards.specs.inside.Inclusions.{all_gains}
+
+-- a + b + c + d
+unfoldable pub sum_of_four : ℕ → ℕ → ℕ → ℕ → Outcome ℕ
+sum_of_four a b c d = do
+  two ← checked_add a b
+  three ← checked_add two c
+  checked_add three d
+
+-- what a validator gains and loses by a vote
+unfoldable pub component_delta : PlainState → List ℕ → Weights → ℕ → Outcome Delta
+component_delta state attesters w index = do
+  reward ← component_reward state attesters w.leak w.attesting w.total index
+  penalty ← component_penalty state attesters index
+  done (record { reward = reward; penalty = penalty })
+
+-- what a validator loses in the leak, and nothing outside it
+unfoldable pub leak_part : PlainState → Bool → List ℕ → ℕ → Outcome ℕ
+leak_part state leak target_attesters index = if leak then leak_penalty state target_attesters index else done 0
+
+-- a validator's balance after what it gains was added and what it loses taken
+unfoldable pub settled : PlainState → ℕ → ℕ → ℕ → Outcome ℕ
+settled state index rewards penalties = do
+  balance ← item_at state.balances index
+  increased ← checked_add balance rewards
+  done (increased - penalties)
+
+-- a validator's balance after its five parts
+unfoldable pub summed : PlainState → Delta → Delta → Delta → ℕ → ℕ → ℕ → Outcome ℕ
+summed state source target head inclusion inactivity index = do
+  rewards ← sum_of_four source.reward target.reward head.reward inclusion
+  penalties ← sum_of_four source.penalty target.penalty head.penalty inactivity
+  settled state index rewards penalties
+
+-- a validator's balance after its rewards and penalties, by those who had each vote right
+unfoldable pub paid_balance : PlainState → List ℕ → List ℕ → List ℕ → Weights → Weights → Weights → List (Option Inclusion) → List ℕ → ℕ → Outcome ℕ
+paid_balance state sources targets heads by_source by_target by_head entries gains index = do
+  source ← component_delta state sources by_source index
+  target ← component_delta state targets by_target index
+  head ← component_delta state heads by_head index
+  inclusion ← joined_reward state entries sources gains index
+  inactivity ← leak_part state by_target.leak targets index
+  summed state source target head inclusion inactivity index
+
+-- what a component is reckoned by
+unfoldable pub weights_by : PlainState → Bool → ℕ → ℕ → Weights
+weights_by state leak attesting total = record {
+  leak = leak;
+  attesting = attesting;
+  attesting_increments = attesting / state.preset.effective_balance_increment;
+  total = total;
+  total_increments = total / state.preset.effective_balance_increment;
+}
 
 -- the published balances of all after their rewards and penalties
 unfoldable pub all_rewarded : PlainState → Outcome (List ℕ)

@@ -1,5 +1,5 @@
 -- Which votes of an attestation are right, one attestation at a time.
-use Rattle.std.specs.Prelude.{ℕ, Bool, true, ◌&&◌, List, filter}
+use Rattle.std.specs.Prelude.{ℕ, Bool, true, ◌&&◌, List, filter, drop}
 use Rattle.beacon_types.specs.declared.pending_attestation.PendingAttestation.{PendingAttestation}
 use Rattle.spec_state.specs.declared.plain.PlainState.{PlainState}
 use Rattle.spec_state.specs.Genesis.{same_root}
@@ -23,3 +23,7 @@ matching state Head epoch = get_matching_head_attestations state epoch
 -- the same, chosen one at a time
 unfoldable pub chosen : PlainState → Vote → ℕ → List PendingAttestation → List PendingAttestation
 chosen state vote epoch attestations = filter (counts_for state vote (get_block_root state epoch)) attestations
+
+-- those of an epoch from a place on that have a vote right, where the root is that of the epoch's first block
+abbrev pub right_from : PlainState → Vote → List ℕ → ℕ → ℕ → List PendingAttestation
+right_from state vote root epoch i = filter (counts_for state vote root) (drop i (get_matching_source_attestations state epoch))

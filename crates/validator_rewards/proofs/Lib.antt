@@ -1,4 +1,0 @@
-pub mod Among
-pub mod Gathered
-pub mod Divisor
-pub mod Included

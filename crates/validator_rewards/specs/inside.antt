@@ -1,7 +1,0 @@
--- Words of this crate's own contracts.
-pub mod Stakes
-pub mod Divisor
-pub mod Components
-pub mod Inclusions
-pub mod Leak
-pub mod Paid
