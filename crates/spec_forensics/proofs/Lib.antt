@@ -1,0 +1,4 @@
+pub mod Carried
+pub mod Pairs
+pub mod Registry
+pub mod Within

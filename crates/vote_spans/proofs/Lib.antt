@@ -1,0 +1,13 @@
+pub mod Adding
+pub mod Beside
+pub mod Bisecting
+pub mod Epochs
+pub mod Firsts
+pub mod Items
+pub mod Leasts
+pub mod Named
+pub mod Reserved
+pub mod Rooms
+pub mod Standing
+pub mod Takes
+pub mod Walks

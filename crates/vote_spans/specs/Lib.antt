@@ -1,0 +1,5 @@
+pub mod AllSpans
+pub mod Pairs
+pub mod Room
+pub mod Spans
+pub mod Standing

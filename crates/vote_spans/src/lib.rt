@@ -1,0 +1,21 @@
+//! Whether votes of validators are slashable: structures that take votes in their order, and name for each validator the first two
+//! that nobody may cast both.
+//!
+//! Contents and attesters come from the blocks of histories; the pairs go to the offences of these.
+#![tactic(auto)]
+
+mod all;
+mod all_spans;
+mod bisect;
+mod least;
+mod one;
+mod pairs;
+mod reserve;
+#[cfg(test)]
+mod rows;
+mod spans;
+mod votes;
+
+pub use all_spans::AllSpans;
+pub use pairs::first_slashable;
+pub use spans::Spans;
