@@ -9,7 +9,7 @@ ghost use Rattle.epoch_rewards.specs.inside.Stakes.{stakes_of};
 ghost use Rattle.spec_epochs.specs.Each.{validator_indices, checked_map};
 ghost use Rattle.epoch_rewards.specs.inside.Divisor.{divisor_of};
 
-use crate::get_base_reward::base_reward;
+use crate::get_base_reward::get_base_reward;
 use crate::numbers::push_made;
 use crate::stakes::Stake;
 use bc_words::Stop;
@@ -55,7 +55,7 @@ pub(crate) fn all_amounts<A: Amounts>(
 {
     let mut all = Vec::with_capacity(alloc, state.validators_len() as usize)?;
     for index in 0..state.validators_len() {
-        let base = base_reward(state, stakes, divisor, index);
+        let base = get_base_reward(state, stakes, divisor, index);
         let made = kept.amount(state, stakes, base, index);
         match push_made(&mut all, made) {
             Ok(()) => {}

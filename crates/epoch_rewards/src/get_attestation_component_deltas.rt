@@ -13,7 +13,7 @@ ghost use Rattle.epoch_rewards.specs.inside.Stakes.{stakes_of};
 use crate::amounts::{Amounts, all_amounts};
 use crate::attesting_balance::attesting_balance;
 use crate::get_eligible_validator_indices::{is_attester, is_eligible};
-use crate::is_in_inactivity_leak::in_leak;
+use crate::is_in_inactivity_leak::is_in_inactivity_leak;
 use crate::stakes::Stake;
 use balance_totals::{current_epoch, total_active};
 use bc_words::{Stop, checked_mul, isqrt};
@@ -150,7 +150,7 @@ pub(crate) fn needed_balance(
 /// Rewards and penalties for a vote that those with a flag had right, the slashed aside (beacon-chain.md,
 /// `get_attestation_component_deltas`). The stakes are the state's.
 #[tactic(auto, unfolding(crate::specs::inside::Components::component_deltas, crate::specs::inside::Paid::weights_by, crate::specs::inside::Divisor::divisor_of), using(spec_epochs::proofs::Totals::least_total))]
-pub(crate) fn component_deltas(
+pub(crate) fn get_attestation_component_deltas(
     alloc: Global,
     state: &State,
     stakes: &[Stake],
@@ -160,7 +160,7 @@ pub(crate) fn component_deltas(
     ensures { Gives result (component_deltas state.now (flagged state.now flags.now)) }
 {
     let total = total_active(state, current_epoch(state))?;
-    let leak = in_leak(state)?;
+    let leak = is_in_inactivity_leak(state)?;
     let attesting = needed_balance(state, stakes, flags, leak)?;
     let weights = weights_of(state, leak, attesting, total);
     let divisor = Ok(isqrt(total));

@@ -23,7 +23,7 @@ pub(crate) fn divisor(state: &State) -> Result<u64, Stop>
 
 /// The base reward of a validator, in Gwei (beacon-chain.md, `get_base_reward`). The stakes are the state's.
 #[tactic(auto, using(crate::proofs::Divisor::by_divisor, crate::proofs::Divisor::divisor_is_some))]
-pub(crate) fn base_reward(
+pub(crate) fn get_base_reward(
     state: &State,
     stakes: &[Stake],
     divisor: Result<u64, Stop>,

@@ -9,7 +9,7 @@ use beacon_state::State;
 
 /// How many epochs finality is behind the previous epoch (beacon-chain.md, `get_finality_delay`).
 #[tactic(auto, unfolding(spec_epochs::specs::RewardHelpers::get_finality_delay))]
-pub(crate) fn finality_delay(state: &State) -> Result<u64, Stop>
+pub(crate) fn get_finality_delay(state: &State) -> Result<u64, Stop>
     ensures { GivesExactly result (get_finality_delay state.now) }
 {
     checked_sub(previous_epoch(state), state.finalized_checkpoint().epoch)

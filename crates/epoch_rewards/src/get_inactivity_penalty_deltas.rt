@@ -15,9 +15,9 @@ use crate::amounts::{Amounts, all_amounts};
 use crate::attested::previous_attesters;
 use crate::get_base_reward::divisor;
 use crate::get_eligible_validator_indices::{is_attester, is_eligible};
-use crate::get_finality_delay::finality_delay;
-use crate::get_proposer_reward::proposer_reward;
-use crate::is_in_inactivity_leak::in_leak;
+use crate::get_finality_delay::get_finality_delay;
+use crate::get_proposer_reward::get_proposer_reward;
+use crate::is_in_inactivity_leak::is_in_inactivity_leak;
 use crate::numbers::zeros;
 use crate::stakes::{Stake, stake_at, stakes};
 use bc_words::{Stop, checked_add, checked_mul, checked_sub};
@@ -35,7 +35,7 @@ fn absence_penalty(state: &State, stakes: &[Stake], index: u64) -> Result<u64, S
     ensures { GivesExactly result (absence_penalty state.now index) }
 {
     let stake = stake_at(stakes, index)?;
-    let delay = finality_delay(state)?;
+    let delay = get_finality_delay(state)?;
     let weighed = checked_mul(stake.effective_balance, delay)?;
     Ok(weighed / state.preset().inactivity_penalty_quotient)
 }
@@ -65,7 +65,7 @@ fn inactivity_penalty(
     ensures { GivesExactly result (inactivity_penalty state.now (flagged state.now flags.now) index) }
 {
     let whole = base?;
-    let proposer = proposer_reward(state, base, index)?;
+    let proposer = get_proposer_reward(state, base, index)?;
     let all = checked_mul(4, whole)?;
     let penalty = checked_sub(all, proposer)?;
     let more = absence(state, stakes, flags, index)?;
@@ -129,7 +129,7 @@ fn leak_deltas(
     requires { stakes.now ≡ stakes_of state.now }
     ensures { Gives result (leak_deltas state.now (flagged state.now flags.now)) }
 {
-    let leak = in_leak(state)?;
+    let leak = is_in_inactivity_leak(state)?;
     let penalties = penalties_of(alloc, state, stakes, leak, flags)?;
     let rewards = zeros(alloc, state)?;
     Ok(Deltas {

@@ -14,9 +14,9 @@ ghost use Rattle.epoch_rewards.specs.inside.Divisor.{divisor_of};
 
 use crate::amounts::{Amounts, all_amounts};
 use crate::attested::{previous_attesters, previous_inclusions};
-use crate::get_base_reward::{base_reward, divisor};
+use crate::get_base_reward::{get_base_reward, divisor};
 use crate::get_eligible_validator_indices::{counted, is_attester};
-use crate::get_proposer_reward::proposer_reward;
+use crate::get_proposer_reward::get_proposer_reward;
 use crate::numbers::{number_at, zeros};
 use crate::stakes::{Stake, stakes};
 use bc_words::{Stop, checked_add, checked_sub};
@@ -52,7 +52,7 @@ pub(crate) fn include(
 {
     match inclusion_at(entries, attester) {
         Some(inclusion) => {
-            let reward = proposer_reward(state, base, attester)?;
+            let reward = get_proposer_reward(state, base, attester)?;
             add_gain(gains, inclusion.proposer, reward)
         }
         None => Ok(()),
@@ -80,7 +80,7 @@ fn delayed_reward(
     match inclusion {
         Some(inclusion) => {
             let whole = base?;
-            let proposer = proposer_reward(state, base, index)?;
+            let proposer = get_proposer_reward(state, base, index)?;
             let most = checked_sub(whole, proposer)?;
             Ok(after_delay(most, inclusion.delay))
         }
@@ -156,7 +156,7 @@ pub(crate) fn proposer_gains(
     for index in 0..state.validators_len() {
         match counted(state, stakes, flags, index) {
             Some(_) => {
-                let base = base_reward(state, stakes, divisor, index);
+                let base = get_base_reward(state, stakes, divisor, index);
                 match include(&mut gains, state, base, entries, index) {
                     Ok(()) => {}
                     Err(stop) => return Err(stop),

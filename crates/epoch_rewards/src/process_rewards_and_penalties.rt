@@ -17,7 +17,7 @@ use crate::amounts::all_amounts;
 use crate::attested::{previous_attesters, previous_inclusions};
 use crate::get_attestation_component_deltas::{Voters, needed_balance, weights_of};
 use crate::get_inclusion_delay_deltas::proposer_gains;
-use crate::is_in_inactivity_leak::in_leak;
+use crate::is_in_inactivity_leak::is_in_inactivity_leak;
 use crate::paid::Paid;
 use crate::stakes::{Stake, stakes};
 use balance_totals::{current_epoch, total_active};
@@ -78,7 +78,7 @@ fn all_paid(
     ensures few { IfOk result (λ balances. length balances.items ≤ state.now.preset.validator_registry_limit) }
 {
     let total = total_active(state, current_epoch(state))?;
-    let leak = in_leak(state)?;
+    let leak = is_in_inactivity_leak(state)?;
     let source = needed_balance(state, stakes, sources, leak)?;
     let target = needed_balance(state, stakes, targets, leak)?;
     let head = needed_balance(state, stakes, heads, leak)?;

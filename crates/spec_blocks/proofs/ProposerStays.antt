@@ -32,7 +32,7 @@ use Rattle.spec_state.proofs.ActiveIndices.{active_below}
 use Rattle.spec_blocks.specs.Checks.{check, item_at}
 use Rattle.spec_blocks.specs.ProcessBlockHeader.{process_block_header}
 use Rattle.spec_blocks.specs.ProcessRandao.{process_randao}
-use Rattle.spec_blocks.specs.ProcessEth1Data.{process_eth1_data, votes_for}
+use Rattle.spec_blocks.specs.ProcessEth1Data.{process_eth1_data, count_votes}
 use Rattle.spec_blocks.specs.ProcessProposerSlashing.{process_proposer_slashing}
 use Rattle.spec_blocks.specs.ProcessAttesterSlashing.{process_attester_slashing}
 use Rattle.spec_blocks.specs.ProcessAttestation.{process_attestation}
@@ -140,7 +140,7 @@ pub eth1_data_keeps_proposer : (s t : PlainState) (body : BeaconBlockBody) → p
 unfolding process_eth1_data
 eth1_data_keeps_proposer s t body is =
     let votes = on_the_way (checked_push (votes_limit s.preset) s.eth1_data_votes body.eth1_data) _ t is in
-    elim (chosen (nat_lt (votes_limit s.preset) (votes_for votes.value body.eth1_data * 2)) _ _ _ votes.then_done) [
+    elim (chosen (nat_lt (votes_limit s.preset) (count_votes votes.value body.eth1_data * 2)) _ _ _ votes.then_done) [
       | inl won ↦ subst (λ (x : PlainState). get_beacon_proposer_index x ≡ get_beacon_proposer_index s) (same_value _ t won.1) (with_votes s votes.value body.eth1_data)
       | inr other ↦ subst (λ (x : PlainState). get_beacon_proposer_index x ≡ get_beacon_proposer_index s) (same_value _ t other.1) (with_votes s votes.value s.eth1_data)
     ]

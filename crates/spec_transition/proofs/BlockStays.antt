@@ -17,7 +17,7 @@ use Rattle.spec_blocks.specs.Checks.{check, item_at}
 use Rattle.spec_blocks.specs.InitiateValidatorExit.{initiate_validator_exit}
 use Rattle.spec_blocks.specs.ProcessBlockHeader.{process_block_header, header_of}
 use Rattle.spec_blocks.specs.ProcessRandao.{process_randao}
-use Rattle.spec_blocks.specs.ProcessEth1Data.{process_eth1_data, votes_for}
+use Rattle.spec_blocks.specs.ProcessEth1Data.{process_eth1_data, count_votes}
 use Rattle.spec_blocks.specs.ProcessAttestation.{process_attestation}
 use Rattle.spec_blocks.specs.ProcessOperations.{process_operations}
 use Rattle.spec_blocks.specs.ProcessBlock.{process_block}
@@ -69,7 +69,7 @@ unfolding process_eth1_data
 with_eth1 s t u block is stays =
     let votes = on_the_way (checked_push (votes_limit t.preset) t.eth1_data_votes block.body.eth1_data) _ u is in
     let given : (data_voted : Eth1Data) → BlockStays s (record t { eth1_data_votes = votes.value; eth1_data = data_voted }) block = λ data_voted. record { preset = stays.preset; slot = stays.slot; header = stays.header } in
-    elim (chosen (nat_lt (votes_limit t.preset) (votes_for votes.value block.body.eth1_data * 2)) _ _ _ votes.then_done) [
+    elim (chosen (nat_lt (votes_limit t.preset) (count_votes votes.value block.body.eth1_data * 2)) _ _ _ votes.then_done) [
       | inl won ↦ subst (λ (x : PlainState). BlockStays s x block) (same_value _ u won.1) (given block.body.eth1_data)
       | inr other ↦ subst (λ (x : PlainState). BlockStays s x block) (same_value _ u other.1) (given t.eth1_data)
     ]
