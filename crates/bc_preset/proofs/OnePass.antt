@@ -9,7 +9,7 @@ use Rattle.bc_preset.specs.declared.faults.ConfigFault.{ConfigFault}
 use Rattle.bc_preset.specs.declared.faults.ConfigFault.TheVariants.{TooLong, Twice, BadNumber, BadPreset}
 use Rattle.bc_preset.specs.declared.settings.Settings.{Settings}
 use Rattle.bc_preset.specs.Keys.{row_of}
-use Rattle.bc_preset.specs.Numbers.{number_of}
+use Rattle.bc_preset.specs.Numbers.{parse_decimal}
 use Rattle.bc_preset.specs.Lines.{Line, skipped, other, setting, faulty, line_of}
 use Rattle.bc_preset.specs.Configs.{◌then_read◌, or_fault, preset_named, sets, is_value, bad_value, line_fault, first_fault, unless, checked, first_some, number_from, preset_from, values_of, all_in_range, config_of}
 use Rattle.bc_preset.specs.inside.OnePass.{is_set, with_number, set_key, after_line, after_lines, all_set, one_pass}
@@ -89,7 +89,7 @@ gives_is key skipped h = refl
 gives_is key other h = refl
 gives_is key faulty h = refl
 gives_is key (setting PresetBase text) h = refl
-gives_is key (setting k text) h = picked (row_of k == row_of key) (number_of text) h
+gives_is key (setting k text) h = picked (row_of k == row_of key) (parse_decimal text) h
 
 -- each line's value is one of its key
 abbrev HaveValues : List Line → Type 0
@@ -102,13 +102,13 @@ any_gives_is key (line ∷ all) h = ap (λ b. b || list_any (gives key) all) (gi
 -- a setting of a key that has no value yet
 with_value : Settings → Key → List ℕ → Settings
 with_value s PresetBase text = record s { preset_base = preset_named text }
-with_value s SecondsPerSlot text = record s { seconds_per_slot = number_of text }
-with_value s MinValidatorWithdrawabilityDelay text = record s { min_validator_withdrawability_delay = number_of text }
-with_value s ShardCommitteePeriod text = record s { shard_committee_period = number_of text }
-with_value s EjectionBalance text = record s { ejection_balance = number_of text }
-with_value s MinPerEpochChurnLimit text = record s { min_per_epoch_churn_limit = number_of text }
-with_value s ChurnLimitQuotient text = record s { churn_limit_quotient = number_of text }
-with_value s ProposerScoreBoost text = record s { proposer_score_boost = number_of text }
+with_value s SecondsPerSlot text = record s { seconds_per_slot = parse_decimal text }
+with_value s MinValidatorWithdrawabilityDelay text = record s { min_validator_withdrawability_delay = parse_decimal text }
+with_value s ShardCommitteePeriod text = record s { shard_committee_period = parse_decimal text }
+with_value s EjectionBalance text = record s { ejection_balance = parse_decimal text }
+with_value s MinPerEpochChurnLimit text = record s { min_per_epoch_churn_limit = parse_decimal text }
+with_value s ChurnLimitQuotient text = record s { churn_limit_quotient = parse_decimal text }
+with_value s ProposerScoreBoost text = record s { proposer_score_boost = parse_decimal text }
 
 value_or : {A : Type 0} (o : Option A) (fault : ConfigFault) (f : Option A → Settings) → (or_fault fault o then_read (λ x. Ok (f (Some x)))) ≡ unless (f o) (cond (is_some o) None (Some fault))
 value_or None fault f = refl
@@ -117,15 +117,15 @@ value_or (Some x) fault f = refl
 set_key_is : (s : Settings) (number : ℕ) (key : Key) (text : List ℕ) → set_key s number key text ≡ unless (with_value s key text) (cond (is_value key text) None (Some (bad_value number key)))
 unfolding set_key with_number with_value
 set_key_is s number PresetBase text = value_or (preset_named text) (BadPreset number) (λ o. record s { preset_base = o })
-set_key_is s number SecondsPerSlot text = value_or (number_of text) (BadNumber number) (λ o. record s { seconds_per_slot = o })
-set_key_is s number MinValidatorWithdrawabilityDelay text = value_or (number_of text) (BadNumber number) (λ o. record s { min_validator_withdrawability_delay = o })
-set_key_is s number ShardCommitteePeriod text = value_or (number_of text) (BadNumber number) (λ o. record s { shard_committee_period = o })
-set_key_is s number EjectionBalance text = value_or (number_of text) (BadNumber number) (λ o. record s { ejection_balance = o })
-set_key_is s number MinPerEpochChurnLimit text = value_or (number_of text) (BadNumber number) (λ o. record s { min_per_epoch_churn_limit = o })
-set_key_is s number ChurnLimitQuotient text = value_or (number_of text) (BadNumber number) (λ o. record s { churn_limit_quotient = o })
-set_key_is s number ProposerScoreBoost text = value_or (number_of text) (BadNumber number) (λ o. record s { proposer_score_boost = o })
+set_key_is s number SecondsPerSlot text = value_or (parse_decimal text) (BadNumber number) (λ o. record s { seconds_per_slot = o })
+set_key_is s number MinValidatorWithdrawabilityDelay text = value_or (parse_decimal text) (BadNumber number) (λ o. record s { min_validator_withdrawability_delay = o })
+set_key_is s number ShardCommitteePeriod text = value_or (parse_decimal text) (BadNumber number) (λ o. record s { shard_committee_period = o })
+set_key_is s number EjectionBalance text = value_or (parse_decimal text) (BadNumber number) (λ o. record s { ejection_balance = o })
+set_key_is s number MinPerEpochChurnLimit text = value_or (parse_decimal text) (BadNumber number) (λ o. record s { min_per_epoch_churn_limit = o })
+set_key_is s number ChurnLimitQuotient text = value_or (parse_decimal text) (BadNumber number) (λ o. record s { churn_limit_quotient = o })
+set_key_is s number ProposerScoreBoost text = value_or (parse_decimal text) (BadNumber number) (λ o. record s { proposer_score_boost = o })
 
-pub set_number : (s : Settings) (line : ℕ) (key : Key) (text : List ℕ) → (key ≡ PresetBase → ⊥) → set_key s line key text ≡ (or_fault (BadNumber line) (number_of text) then_read (λ value. Ok (with_number s key value)))
+pub set_number : (s : Settings) (line : ℕ) (key : Key) (text : List ℕ) → (key ≡ PresetBase → ⊥) → set_key s line key text ≡ (or_fault (BadNumber line) (parse_decimal text) then_read (λ value. Ok (with_number s key value)))
 unfolding set_key
 set_number s line PresetBase text h = absurd (h refl)
 set_number s line key text h = refl
@@ -133,13 +133,13 @@ set_number s line key text h = refl
 settings_push : (all : List Line) (key : Key) (text : List ℕ) → is_set (settings_of all) key ≡ false → settings_of (all ++ setting key text ∷ []) ≡ with_value (settings_of all) key text
 unfolding is_set with_value
 settings_push all PresetBase text h = simp (first_some-push, option_or-none, option_or_unset (first_some preset_from all) (preset_named text) h)
-settings_push all SecondsPerSlot text h = simp (first_some-push, option_or-none, option_or_unset (first_some (number_from SecondsPerSlot) all) (number_of text) h)
-settings_push all MinValidatorWithdrawabilityDelay text h = simp (first_some-push, option_or-none, option_or_unset (first_some (number_from MinValidatorWithdrawabilityDelay) all) (number_of text) h)
-settings_push all ShardCommitteePeriod text h = simp (first_some-push, option_or-none, option_or_unset (first_some (number_from ShardCommitteePeriod) all) (number_of text) h)
-settings_push all EjectionBalance text h = simp (first_some-push, option_or-none, option_or_unset (first_some (number_from EjectionBalance) all) (number_of text) h)
-settings_push all MinPerEpochChurnLimit text h = simp (first_some-push, option_or-none, option_or_unset (first_some (number_from MinPerEpochChurnLimit) all) (number_of text) h)
-settings_push all ChurnLimitQuotient text h = simp (first_some-push, option_or-none, option_or_unset (first_some (number_from ChurnLimitQuotient) all) (number_of text) h)
-settings_push all ProposerScoreBoost text h = simp (first_some-push, option_or-none, option_or_unset (first_some (number_from ProposerScoreBoost) all) (number_of text) h)
+settings_push all SecondsPerSlot text h = simp (first_some-push, option_or-none, option_or_unset (first_some (number_from SecondsPerSlot) all) (parse_decimal text) h)
+settings_push all MinValidatorWithdrawabilityDelay text h = simp (first_some-push, option_or-none, option_or_unset (first_some (number_from MinValidatorWithdrawabilityDelay) all) (parse_decimal text) h)
+settings_push all ShardCommitteePeriod text h = simp (first_some-push, option_or-none, option_or_unset (first_some (number_from ShardCommitteePeriod) all) (parse_decimal text) h)
+settings_push all EjectionBalance text h = simp (first_some-push, option_or-none, option_or_unset (first_some (number_from EjectionBalance) all) (parse_decimal text) h)
+settings_push all MinPerEpochChurnLimit text h = simp (first_some-push, option_or-none, option_or_unset (first_some (number_from MinPerEpochChurnLimit) all) (parse_decimal text) h)
+settings_push all ChurnLimitQuotient text h = simp (first_some-push, option_or-none, option_or_unset (first_some (number_from ChurnLimitQuotient) all) (parse_decimal text) h)
+settings_push all ProposerScoreBoost text h = simp (first_some-push, option_or-none, option_or_unset (first_some (number_from ProposerScoreBoost) all) (parse_decimal text) h)
 
 settings_same : (all : List Line) (line : Line) → preset_from line ≡ None → ((key : Key) → number_from key line ≡ None) → settings_of (all ++ line ∷ []) ≡ settings_of all
 settings_same all line p h = simp (first_some-push, p, h, option_or-none)

@@ -15,7 +15,7 @@ use Rattle.bc_preset.specs.declared.settings.PresetName.TheVariants.{Mainnet, Mi
 use Rattle.bc_preset.specs.declared.configuration.ConfigValues.{ConfigValues}
 use Rattle.bc_preset.specs.Presets.{mainnet, minimal, IsPreset}
 use Rattle.bc_preset.specs.Keys.{row_of, allows}
-use Rattle.bc_preset.specs.Numbers.{number_of}
+use Rattle.bc_preset.specs.Numbers.{parse_decimal}
 use Rattle.bc_preset.specs.Lines.{Line, skipped, other, setting, faulty, line_of}
 
 -- the first fault ends the reading
@@ -47,7 +47,7 @@ sets key (setting k text) = row_of k == row_of key
 -- the text is a value of the key: the name of a preset, or a number
 abbrev pub is_value : Key → List ℕ → Bool
 is_value PresetBase text = is_some (preset_named text)
-is_value key text = is_some (number_of text)
+is_value key text = is_some (parse_decimal text)
 
 abbrev pub bad_value : ℕ → Key → ConfigFault
 bad_value number PresetBase = BadPreset number
@@ -85,7 +85,7 @@ abbrev pub number_from : Key → Line → Option ℕ
 number_from key skipped = None
 number_from key other = None
 number_from key faulty = None
-number_from key (setting k text) = if row_of k == row_of key then number_of text else None
+number_from key (setting k text) = if row_of k == row_of key then parse_decimal text else None
 
 -- the preset that a line names
 abbrev pub preset_from : Line → Option PresetName

@@ -22,5 +22,5 @@ unfoldable pub within_u64 : ℕ → Option ℕ
 within_u64 value = if nat_lt value (2 ^ 64) then Some value else None
 
 -- the number that the text writes
-unfoldable pub number_of : List ℕ → Option ℕ
-number_of text = if is_decimal text then within_u64 (decimal_value text) else None
+unfoldable pub parse_decimal : List ℕ → Option ℕ
+parse_decimal text = if is_decimal text then within_u64 (decimal_value text) else None

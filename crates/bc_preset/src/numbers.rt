@@ -3,7 +3,7 @@
 ghost use Rattle.std.specs.Prelude.{◌≡◌, ◌≤◌, ◌+◌, ◌-◌, ◌*◌, true};
 ghost use Rattle.std.specs.List.{list_all};
 ghost use Rattle.std.specs.Char.{is_ascii_digit};
-ghost use Rattle.bc_preset.specs.Numbers.{number_of, is_decimal, has_first_digit, within_u64, decimal_value};
+ghost use Rattle.bc_preset.specs.Numbers.{parse_decimal, is_decimal, has_first_digit, within_u64, decimal_value};
 
 fn has_first_digit(text: &[u8]) -> bool
     ensures { result ≡ has_first_digit text.now }
@@ -47,9 +47,9 @@ fn value(digits: &[u8]) -> Option<u64>
 }
 
 /// The number that the text writes in decimal digits, without sign or leading zero, if it is below 2^64.
-#[tactic(auto, unfolding(crate::specs::Numbers::number_of, crate::specs::Numbers::is_decimal))]
+#[tactic(auto, unfolding(crate::specs::Numbers::parse_decimal, crate::specs::Numbers::is_decimal))]
 pub fn number(text: &[u8]) -> Option<u64>
-    ensures { result ≡ number_of text.now }
+    ensures { result ≡ parse_decimal text.now }
 {
     if all_digits(text) && has_first_digit(text) {
         value(text)

@@ -4,7 +4,7 @@
 ghost use Rattle.std.specs.Prelude.{◌≡◌, ◌<◌, ◌≤◌, ◌+◌, ◌==◌, ◌∷◌, length, position, IfSome};
 ghost use Rattle.std.specs.Str.Lines.{lines, strip_carriage_return};
 ghost use Rattle.bc_preset.specs.Presets.{IsPreset};
-ghost use Rattle.bc_preset.specs.Numbers.{number_of};
+ghost use Rattle.bc_preset.specs.Numbers.{parse_decimal};
 ghost use Rattle.bc_preset.specs.Lines.{line_of};
 ghost use Rattle.bc_preset.specs.Configs.{or_fault, preset_named, preset_of};
 ghost use Rattle.bc_preset.specs.inside.OnePass.{nothing_set, is_set, with_number, set_key, after_line, after_lines};
@@ -64,7 +64,7 @@ pub struct Settings {
 }
 
 fn number_in(line: u64, text: &[u8]) -> Result<u64, ConfigFault>
-    ensures { result ≡ or_fault (ConfigFault.BadNumber line) (number_of text.now) }
+    ensures { result ≡ or_fault (ConfigFault.BadNumber line) (parse_decimal text.now) }
 {
     number(text).ok_or(ConfigFault::BadNumber(line))
 }

@@ -1,4 +1,4 @@
-pub mod Fronts
+pub mod Prefixes
 pub mod Reaching
 pub mod Steps
 pub mod OneByOne

@@ -20,10 +20,10 @@ use Rattle.bc_words.specs.declared.store_stop.ClashKind.{ClashKind}
 use Rattle.spec_replay.specs.Run.{Run, End, done, no_command, limited, clash, over, after_lines, event_then, replay_events, record_end, with_events}
 use Rattle.beacon_node.specs.declared.status.Status.{Status}
 use Rattle.beacon_node.specs.declared.status.Status.TheVariants as statuses
-use Rattle.beacon_node.specs.Answers.{breaks_off, lags, end_of}
+use Rattle.beacon_node.specs.Answers.{breaks_off, may_lack_lines, end_of}
 use Rattle.beacon_node.specs.inside.Statuses.{no_frame, unwritten}
 use Rattle.beacon_node.specs.inside.Progress.{rest_of, Progress, EventsOver, HasLine, EndsAt, outcome_of}
-use Rattle.beacon_node.proofs.Reaching.{reaches_none, reaches_front, no_lines, lines_behind, lines_front}
+use Rattle.beacon_node.proofs.Reaching.{reaches_none, is_prefix, no_lines, lines_behind, lines_prefix}
 
 -- at the beginning nothing was done
 pub no_progress : (store : Store) (place : Source) (told : ShelfTold) (written : List ℕ) → Progress store place told written store place told written
@@ -76,15 +76,15 @@ over_stop stops.ReadFault store place place_then told told_then written h =
       bytes = h.bytes;
       met = false;
       taken = rw h.supplies.0 at h.taken;
-      ended = λ behind can. record { ends = λ never. cc; lines = no_lines true _ written (reaches_front 0 _ (omega arith)) };
+      ended = λ behind can. record { ends = λ never. cc; lines = no_lines true _ written (is_prefix 0 _ (omega arith)) };
       pace = rw none (no_lines false [] written (reaches_none false));
     }
 over_stop stops.NoMemory store place place_then told told_then written h = record {
   bytes = h.bytes;
   met = false;
   taken = rw h.supplies.0 at h.taken;
-  ended = λ behind can. record { ends = λ never. cc; lines = no_lines true _ written (reaches_front 0 _ (omega arith)) };
-  pace = no_lines true _ written (reaches_front 0 _ (omega arith));
+  ended = λ behind can. record { ends = λ never. cc; lines = no_lines true _ written (is_prefix 0 _ (omega arith)) };
+  pace = no_lines true _ written (is_prefix 0 _ (omega arith));
 }
 
 -- the run of an event and of those behind it
@@ -114,28 +114,28 @@ module _ (event : Event) (place place_then : Source) (old : Store) (told told_th
       comes = comes_behind;
     }
 
-    -- a front of the line was written
-    front_over : (status : Status) (n : ℕ) (written written_then : List ℕ) → breaks_off status ≡ true → lags status ≡ true → n ≤ length line → written_then ≡ written ++ take n line
+    -- a prefix of the line was written
+    prefix_over : (status : Status) (n : ℕ) (written written_then : List ℕ) → breaks_off status ≡ true → may_lack_lines status ≡ true → n ≤ length line → written_then ≡ written ++ take n line
         → EventsOver status old place told told_then written written_then
-    front_over status n written written_then off late within wrote = record {
+    prefix_over status n written written_then off late within wrote = record {
       bytes = next.bytes;
       met = false;
       taken = rw next.supplies.0 at next.taken;
       ended = λ behind can. record {
         ends = λ never. absurd (let no : true ≡ false = sym off ∙ never in cc);
-        lines = rw (off, comes_behind behind) (lines_front line _ n within wrote);
+        lines = rw (off, comes_behind behind) (lines_prefix line _ n within wrote);
       };
-      pace = rw (late, sym (append-nil next.bytes), comes_behind []) (lines_front line _ n within wrote);
+      pace = rw (late, sym (append-nil next.bytes), comes_behind []) (lines_prefix line _ n within wrote);
     }
 
     -- the line could not be written
     pub line_over : (trouble : Trouble) (written written_then : List ℕ) → WritesAll {V = Unit {0}} line (Err trouble) (record { taken = written; faults = 0; reliable = true }) (record { taken = written_then; faults = 0; reliable = true })
         → EventsOver (unwritten trouble) old place told told_then written written_then
-    line_over troubles.Failed written written_then wrote = front_over statuses.WriteFault wrote.0 written written_then refl refl wrote.1 wrote.2
-    line_over troubles.NoMemory written written_then wrote = front_over statuses.NoMemory wrote.0 written written_then refl refl wrote.1 wrote.2
+    line_over troubles.Failed written written_then wrote = prefix_over statuses.WriteFault wrote.0 written written_then refl refl wrote.1 wrote.2
+    line_over troubles.NoMemory written written_then wrote = prefix_over statuses.NoMemory wrote.0 written written_then refl refl wrote.1 wrote.2
 
   -- the run is over at the event, before its line
-  at_event : (status : Status) (end : End) (written : List ℕ) → ((rest : Store → Run) → event_then place_then.events event.kind old (outcome_of old event) rest ≡ over end) → Some end ≡ end_of status → breaks_off status ≡ false → lags status ≡ false
+  at_event : (status : Status) (end : End) (written : List ℕ) → ((rest : Store → Run) → event_then place_then.events event.kind old (outcome_of old event) rest ≡ over end) → Some end ≡ end_of status → breaks_off status ≡ false → may_lack_lines status ≡ false
       → EventsOver status old place told told_then written written
   at_event status end written is ends whole late = record {
     bytes = next.bytes;
@@ -162,8 +162,8 @@ module _ (event : Event) (place place_then : Source) (old : Store) (told told_th
     bytes = next.bytes;
     met = false;
     taken = rw next.supplies.0 at next.taken;
-    ended = λ behind can. record { ends = λ never. cc; lines = no_lines true _ written (reaches_front 0 _ (omega arith)) };
-    pace = no_lines true _ written (reaches_front 0 _ (omega arith));
+    ended = λ behind can. record { ends = λ never. cc; lines = no_lines true _ written (is_prefix 0 _ (omega arith)) };
+    pace = no_lines true _ written (is_prefix 0 _ (omega arith));
   }
   over_at statuses.Done written h = absurd h
   over_at statuses.Words written h = absurd h
@@ -195,7 +195,7 @@ over_then {status} {store} {mid} {place} {place_mid} {s} {t} {u} {w} {x} {y} h k
       let is = ap (rest_of store place) (append_assoc h.bytes k.bytes behind) ∙ h.comes (k.bytes ++ behind) in
       let e = k.ended behind can in
       rw is (record { ends = e.ends; lines = lines_behind (breaks_off status) h.lines (rest_of mid place_mid (k.bytes ++ behind)).lines h.wrote e.lines });
-  pace = rw (h.comes k.bytes) (lines_behind (lags status) h.lines (rest_of mid place_mid k.bytes).lines h.wrote k.pace);
+  pace = rw (h.comes k.bytes) (lines_behind (may_lack_lines status) h.lines (rest_of mid place_mid k.bytes).lines h.wrote k.pace);
 }
 
 -- events ask for no file

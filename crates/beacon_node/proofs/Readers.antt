@@ -31,10 +31,10 @@ use Rattle.beacon_node.specs.inside.Statuses.{unread}
 use Rattle.beacon_node.specs.inside.GenesisAnswers.{GivesGenesis, no_genesis, no_store, run_from}
 use Rattle.beacon_node.specs.inside.Reading.{ReadOf, Unread}
 use Rattle.beacon_node.specs.inside.Progress.{EventsOver}
-use Rattle.beacon_node.proofs.Reaching.{reaches_none, reaches_front, reaches_all, no_lines}
+use Rattle.beacon_node.proofs.Reaching.{reaches_none, is_prefix, reaches_all, no_lines}
 use Rattle.beacon_node.proofs.OneByOne.{with_events-files}
-use Rattle.beacon_node.proofs.Steps.{asks_none, last_taken, held_as, held_front, taken_none, over_after, unread_after, goes_on, opened_more}
-use Rattle.beacon_node.proofs.Fronts.{config_of-front, genesis_of-front, files-with_record, files-with_genesis, files-with_files, no_record_lines, no_genesis_lines, no_files_lines}
+use Rattle.beacon_node.proofs.Steps.{asks_none, last_taken, held_as, held_prefix, taken_none, over_after, unread_after, goes_on, opened_more}
+use Rattle.beacon_node.proofs.Prefixes.{config_of-prefix, genesis_of-prefix, files-with_record, files-with_genesis, files-with_files, no_record_lines, no_genesis_lines, no_files_lines}
 
 -- The record was opened, and the rest are its events.
 pub record_over : (name : List ℕ) (file : ℕ) (store : Store) (status : Status) (s t u : ShelfTold) (w x : List ℕ) → Opened name file s t → EventsOver status store (record_source (unread_file file)) t u w x
@@ -83,7 +83,7 @@ unread_files files trouble s t w h = record {
 module _ (config : ConfigValues) (name record_name : List ℕ) (bytes : List ℕ) (s t : ShelfTold) (read : ReadOf name 1073741825 bytes s t) where
   -- what the bytes that were read are as a genesis state is what the whole file is
   same_genesis : (whole : List ℕ) → bytes ≡ take 1073741825 whole → genesis_of config.preset bytes ≡ genesis_of config.preset whole
-  same_genesis whole e = ap (genesis_of config.preset) e ∙ genesis_of-front config.preset whole
+  same_genesis whole e = ap (genesis_of config.preset) e ∙ genesis_of-prefix config.preset whole
 
   pub genesis_stops : (w : List ℕ) (stop : GenesisStop) → GivesGenesis (Err stop) (genesis_of config.preset bytes)
       → Replayed (λ contents. with_genesis config (contents name) (contents record_name)) (λ contents opened. with_genesis config (contents name) (taken_of 1 opened)) (name ∷ record_name ∷ []) (no_genesis stop) s t w w
@@ -92,7 +92,7 @@ module _ (config : ConfigValues) (name record_name : List ℕ) (bytes : List ℕ
     opened = read.handed ∷ [];
     files = read.files;
     answers = λ c a.
-        let whole = held_front read c a in
+        let whole = held_prefix read c a in
         let is : genesis_of config.preset whole.0 ≡ Err part = sym (same_genesis whole.0 whole.2) ∙ gives in
         rw (whole.1, is) (over_after _ _ name (record_name ∷ []) (statuses.Genesis part) s.asked t.asked w read.asked (λ _. refl) (reaches_none false) (reaches_none false) (reaches_all false 1));
   }
@@ -100,8 +100,8 @@ module _ (config : ConfigValues) (name record_name : List ℕ) (bytes : List ℕ
     opened = read.handed ∷ [];
     files = read.files;
     answers = λ c a.
-        let whole = held_front read c a in
-        rw whole.1 (over_after _ _ name (record_name ∷ []) statuses.NoMemory s.asked t.asked w read.asked (λ never. cc) (reaches_front 0 _ (omega arith)) (reaches_front 0 _ (omega arith)) (reaches_front 1 _ (omega arith)));
+        let whole = held_prefix read c a in
+        rw whole.1 (over_after _ _ name (record_name ∷ []) statuses.NoMemory s.asked t.asked w read.asked (λ never. cc) (is_prefix 0 _ (omega arith)) (is_prefix 0 _ (omega arith)) (is_prefix 1 _ (omega arith)));
   }
 
   pub genesis_goes_on : (u : ShelfTold) (w x : List ℕ) (genesis : PlainState) (status : Status) → GivesGenesis (Ok genesis) (genesis_of config.preset bytes)
@@ -112,7 +112,7 @@ module _ (config : ConfigValues) (name record_name : List ℕ) (bytes : List ℕ
     opened = read.handed ∷ rest.opened;
     files = opened_more s.files read.handed rest.opened read.files rest.files;
     answers = λ c a.
-        let whole = held_front read c (agreed_front c t.files rest.opened (rw rest.files at a)) in
+        let whole = held_prefix read c (agreed_front c t.files rest.opened (rw rest.files at a)) in
         let good : genesis_of config.preset whole.0 ≡ Ok genesis = sym (same_genesis whole.0 whole.2) ∙ is_state in
         rw (whole.1, good) (goes_on (run_from config genesis (c record_name)) (run_from config genesis (taken_of 0 rest.opened)) name (record_name ∷ []) status s.asked t.asked u.asked w x read.asked (rest.answers c a));
   }
@@ -152,9 +152,9 @@ no_store_over config genesis name s w = record {
   files = sym (append-nil s.files);
   answers = λ c a. record {
     ends = λ never. cc;
-    lines = no_lines true _ w (reaches_front 0 _ (omega arith));
-    pace = no_lines true _ w (reaches_front 0 _ (omega arith));
-    asks = asks_none true _ (name ∷ []) s.asked s.asked (reaches_front 0 _ (omega arith)) refl;
+    lines = no_lines true _ w (is_prefix 0 _ (omega arith));
+    pace = no_lines true _ w (is_prefix 0 _ (omega arith));
+    asks = asks_none true _ (name ∷ []) s.asked s.asked (is_prefix 0 _ (omega arith)) refl;
   };
 }
 
@@ -185,8 +185,8 @@ module _ (files : ReplayFiles) (bytes : List ℕ) (s t : ShelfTold) (read : Read
     opened = read.handed ∷ [];
     files = read.files;
     answers = λ c a.
-        let whole = held_front read c a in
-        let bad : config_of whole.0 ≡ Err reason = sym (ap config_of whole.2 ∙ config_of-front whole.0) ∙ sym is in
+        let whole = held_prefix read c a in
+        let bad : config_of whole.0 ≡ Err reason = sym (ap config_of whole.2 ∙ config_of-prefix whole.0) ∙ sym is in
         rw (whole.1, bad) (over_after _ _ files.config (files.genesis ∷ files.events ∷ []) (statuses.Config reason) s.asked t.asked w read.asked (λ _. refl) (reaches_none false) (reaches_none false) (reaches_all false 1));
   }
 
@@ -198,7 +198,7 @@ module _ (files : ReplayFiles) (bytes : List ℕ) (s t : ShelfTold) (read : Read
     opened = read.handed ∷ rest.opened;
     files = opened_more s.files read.handed rest.opened read.files rest.files;
     answers = λ c a.
-        let whole = held_front read c (agreed_front c t.files rest.opened (rw rest.files at a)) in
-        let good : config_of whole.0 ≡ Ok config = sym (ap config_of whole.2 ∙ config_of-front whole.0) ∙ sym is in
+        let whole = held_prefix read c (agreed_front c t.files rest.opened (rw rest.files at a)) in
+        let good : config_of whole.0 ≡ Ok config = sym (ap config_of whole.2 ∙ config_of-prefix whole.0) ∙ sym is in
         rw (whole.1, good) (goes_on (with_genesis config (c files.genesis) (c files.events)) (with_genesis config (c files.genesis) (taken_of 1 rest.opened)) files.config (files.genesis ∷ files.events ∷ []) status s.asked t.asked u.asked w x read.asked (rest.answers c a));
   }

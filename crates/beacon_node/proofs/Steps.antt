@@ -13,10 +13,10 @@ use Rattle.bc_outside.proofs.Taking.{more-last}
 use Rattle.record_file.specs.Frames.{CanFollow}
 use Rattle.spec_replay.specs.Run.{Run, after_file}
 use Rattle.beacon_node.specs.declared.status.Status.{Status}
-use Rattle.beacon_node.specs.Answers.{Answers, AsksFor, Reaches, breaks_off, lags, end_of, taken_of}
+use Rattle.beacon_node.specs.Answers.{Answers, AsksFor, AllUnless, breaks_off, may_lack_lines, end_of, taken_of}
 use Rattle.beacon_node.specs.inside.Statuses.{unread}
 use Rattle.beacon_node.specs.inside.Reading.{ReadOf, Unread, ReadsNamed}
-use Rattle.beacon_node.proofs.Reaching.{reaches_none, reaches_front, reaches_one, no_lines}
+use Rattle.beacon_node.proofs.Reaching.{reaches_none, is_prefix, reaches_one, no_lines}
 
 -- the file that was opened last, and what was taken of it
 pub last_taken : (name : List ℕ) (file : ℕ) (bytes : List ℕ) (met : Bool) (s t u : ShelfTold) → Opened name file s t → Takes file bytes met t u → u.files ≡ s.files ++ record { name = name; bytes = bytes; ended = met; grew = false } ∷ []
@@ -32,8 +32,8 @@ held_whole None f h = absurd h
 held_whole (Some whole) f h = (whole, refl, h)
 
 -- reading a named file
-front_of : (limit : ℕ) (bytes whole : List ℕ) → length bytes ≤ limit → limit ≤ length bytes → whole ≡ bytes ++ drop (length bytes) whole → bytes ≡ take limit whole
-front_of limit bytes whole le ge e = grind (arith, common_steps)
+prefix_of : (limit : ℕ) (bytes whole : List ℕ) → length bytes ≤ limit → limit ≤ length bytes → whole ≡ bytes ++ drop (length bytes) whole → bytes ≡ take limit whole
+prefix_of limit bytes whole le ge e = grind (arith, common_steps)
 
 pub read_of : {V : Type 0} (items : V → List ℕ) (name : List ℕ) (limit file : ℕ) (result : Result V Trouble) (s t u : ShelfTold) → Opened name file s t → ReadsUpTo items limit file result t u → ReadsNamed items name limit result s u
 read_of items name limit file (Ok v) s t u o h = record {
@@ -43,7 +43,7 @@ read_of items name limit file (Ok v) s t u o h = record {
   asked = h.taken.asked ∙ o.asked;
   front = λ whole a. elim (cases_lt (length (items v)) limit) [
     | inl short ↦ let all : whole ≡ items v = a.2 (h.all short) in rw all (sym (take_all limit (items v) h.within))
-    | inr long ↦ front_of limit (items v) whole h.within long a.0
+    | inr long ↦ prefix_of limit (items v) whole h.within long a.0
   ];
 }
 read_of items name limit file (Err trouble) s t u o h = record {
@@ -58,8 +58,8 @@ unopened name Failed s t h = record { opened = []; few = omega arith; files = h.
 unopened name NoMemory s t h = record { opened = []; few = omega arith; files = h.files ∙ sym (append-nil s.files); asked = inl h.asked }
 
 -- the bytes that were read are those that the name holds, up to the limit
-pub held_front : {name : List ℕ} {limit : ℕ} {bytes : List ℕ} {s t : ShelfTold} → ReadOf name limit bytes s t → (c : List ℕ → Option (List ℕ)) → Agrees c t.files → (whole : List ℕ) × (c name ≡ Some whole) × (bytes ≡ take limit whole)
-held_front {name} {limit} {bytes} {s} {t} h c a =
+pub held_prefix : {name : List ℕ} {limit : ℕ} {bytes : List ℕ} {s t : ShelfTold} → ReadOf name limit bytes s t → (c : List ℕ → Option (List ℕ)) → Agrees c t.files → (whole : List ℕ) × (c name ≡ Some whole) × (bytes ≡ take limit whole)
+held_prefix {name} {limit} {bytes} {s} {t} h c a =
     let agrees = (agreed_back c s.files (h.handed ∷ []) (rw h.files at a)).0 in
     let w = held_whole (c h.handed.name) h.handed agrees in
     (w.0, ap c (sym h.named) ∙ w.1, h.front w.0 w.2)
@@ -71,49 +71,49 @@ taken_none n [] h = refl
 taken_none zero (f ∷ opened) h = absurd (omega arith)
 taken_none (suc n) (f ∷ opened) h = taken_none n opened (omega arith)
 
-asks_one : (fewer : Bool) (files : ℕ) (name : List ℕ) (names asked asked_then : List (List ℕ)) → Reaches fewer 1 files → asked_then ≡ asked ++ name ∷ [] → AsksFor fewer files (name ∷ names) asked asked_then
-asks_one fewer files name names asked asked_then reaches e = record { count = 1; reaches = reaches; names_are = e }
+asks_one : (cut_short : Bool) (files : ℕ) (name : List ℕ) (names asked asked_then : List (List ℕ)) → AllUnless cut_short 1 files → asked_then ≡ asked ++ name ∷ [] → AsksFor cut_short files (name ∷ names) asked asked_then
+asks_one cut_short files name names asked asked_then reaches e = record { count = 1; reaches = reaches; names_are = e }
 
-pub asks_none : (fewer : Bool) (files : ℕ) (names asked asked_then : List (List ℕ)) → Reaches fewer 0 files → asked_then ≡ asked → AsksFor fewer files names asked asked_then
-asks_none fewer files names asked asked_then reaches e = record { count = 0; reaches = reaches; names_are = e ∙ sym (append-nil asked) }
+pub asks_none : (cut_short : Bool) (files : ℕ) (names asked asked_then : List (List ℕ)) → AllUnless cut_short 0 files → asked_then ≡ asked → AsksFor cut_short files names asked asked_then
+asks_none cut_short files names asked asked_then reaches e = record { count = 0; reaches = reaches; names_are = e ∙ sym (append-nil asked) }
 
 -- The run is over, or broken off, behind its first file.
-pub over_after : (run paced : Run) (name : List ℕ) (names : List (List ℕ)) (status : Status) (asked asked_then : List (List ℕ)) (written : List ℕ) → asked_then ≡ asked ++ name ∷ []
-    → (breaks_off status ≡ false → run.end ≡ end_of status) → Reaches (breaks_off status) 0 (length run.lines) → Reaches (lags status) 0 (length paced.lines) → Reaches (breaks_off status) 1 run.files
-    → Answers run paced (name ∷ names) status asked asked_then written written
-over_after run paced name names status asked asked_then written e ends lines pace files = record {
+pub over_after : (run taken_run : Run) (name : List ℕ) (names : List (List ℕ)) (status : Status) (asked asked_then : List (List ℕ)) (written : List ℕ) → asked_then ≡ asked ++ name ∷ []
+    → (breaks_off status ≡ false → run.end ≡ end_of status) → AllUnless (breaks_off status) 0 (length run.lines) → AllUnless (may_lack_lines status) 0 (length taken_run.lines) → AllUnless (breaks_off status) 1 run.files
+    → Answers run taken_run (name ∷ names) status asked asked_then written written
+over_after run taken_run name names status asked asked_then written e ends lines pace files = record {
   ends = ends;
   lines = no_lines (breaks_off status) run.lines written lines;
-  pace = no_lines (lags status) paced.lines written pace;
+  pace = no_lines (may_lack_lines status) taken_run.lines written pace;
   asks = asks_one (breaks_off status) run.files name names asked asked_then files e;
 }
 
 -- The first file could not be read.
-pub unread_after : (run paced : Run) (name : List ℕ) (names : List (List ℕ)) (trouble : Trouble) (asked asked_then : List (List ℕ)) (written : List ℕ) → (asked_then ≡ asked) ⊎ (asked_then ≡ asked ++ name ∷ []) → 1 ≤ run.files → paced.lines ≡ []
-    → Answers run paced (name ∷ names) (unread trouble) asked asked_then written written
-unread_after run paced name names Failed asked asked_then written e files none = record {
+pub unread_after : (run taken_run : Run) (name : List ℕ) (names : List (List ℕ)) (trouble : Trouble) (asked asked_then : List (List ℕ)) (written : List ℕ) → (asked_then ≡ asked) ⊎ (asked_then ≡ asked ++ name ∷ []) → 1 ≤ run.files → taken_run.lines ≡ []
+    → Answers run taken_run (name ∷ names) (unread trouble) asked asked_then written written
+unread_after run taken_run name names Failed asked asked_then written e files none = record {
   ends = λ never. cc;
-  lines = no_lines true run.lines written (reaches_front 0 _ (omega arith));
+  lines = no_lines true run.lines written (is_prefix 0 _ (omega arith));
   pace = rw none (no_lines false [] written (reaches_none false));
   asks = elim e [
-    | inl same ↦ asks_none true run.files (name ∷ names) asked asked_then (reaches_front 0 _ (omega arith)) same
-    | inr one ↦ asks_one true run.files name names asked asked_then (reaches_front 1 _ files) one
+    | inl same ↦ asks_none true run.files (name ∷ names) asked asked_then (is_prefix 0 _ (omega arith)) same
+    | inr one ↦ asks_one true run.files name names asked asked_then (is_prefix 1 _ files) one
   ];
 }
-unread_after run paced name names NoMemory asked asked_then written e files none = record {
+unread_after run taken_run name names NoMemory asked asked_then written e files none = record {
   ends = λ never. cc;
-  lines = no_lines true run.lines written (reaches_front 0 _ (omega arith));
-  pace = no_lines true paced.lines written (reaches_front 0 _ (omega arith));
+  lines = no_lines true run.lines written (is_prefix 0 _ (omega arith));
+  pace = no_lines true taken_run.lines written (is_prefix 0 _ (omega arith));
   asks = elim e [
-    | inl same ↦ asks_none true run.files (name ∷ names) asked asked_then (reaches_front 0 _ (omega arith)) same
-    | inr one ↦ asks_one true run.files name names asked asked_then (reaches_front 1 _ files) one
+    | inl same ↦ asks_none true run.files (name ∷ names) asked asked_then (is_prefix 0 _ (omega arith)) same
+    | inr one ↦ asks_one true run.files name names asked asked_then (is_prefix 1 _ files) one
   ];
 }
 
 -- The run goes on behind its first file.
-pub goes_on : (run paced : Run) (name : List ℕ) (names : List (List ℕ)) (status : Status) (asked mid asked_then : List (List ℕ)) (written written_then : List ℕ) → mid ≡ asked ++ name ∷ []
-    → Answers run paced names status mid asked_then written written_then → Answers (after_file run) (after_file paced) (name ∷ names) status asked asked_then written written_then
-goes_on run paced name names status asked mid asked_then written written_then e a = record {
+pub goes_on : (run taken_run : Run) (name : List ℕ) (names : List (List ℕ)) (status : Status) (asked mid asked_then : List (List ℕ)) (written written_then : List ℕ) → mid ≡ asked ++ name ∷ []
+    → Answers run taken_run names status mid asked_then written written_then → Answers (after_file run) (after_file taken_run) (name ∷ names) status asked asked_then written written_then
+goes_on run taken_run name names status asked mid asked_then written written_then e a = record {
   ends = a.ends;
   lines = record { count = a.lines.count; reaches = a.lines.reaches; bytes = a.lines.bytes };
   pace = record { count = a.pace.count; reaches = a.pace.reaches; bytes = a.pace.bytes };

@@ -25,44 +25,44 @@ abbrev pub breaks_off : Status → Bool
 breaks_off status = elim (end_of status) [ Some end ↦ false | None ↦ true ]
 
 -- whether lines of events that were read may not be written
-abbrev pub lags : Status → Bool
-lags statuses.WriteFault = true
-lags statuses.NoMemory = true
-lags _ = false
+abbrev pub may_lack_lines : Status → Bool
+may_lack_lines statuses.WriteFault = true
+may_lack_lines statuses.NoMemory = true
+may_lack_lines _ = false
 
 -- so many of the whole, or all of it unless there may be fewer
-abbrev pub Reaches : Bool → ℕ → ℕ → Type 0
-Reaches fewer n whole = (n ≤ whole) × (fewer ≡ false → n ≡ whole)
+abbrev pub AllUnless : Bool → ℕ → ℕ → Type 0
+AllUnless cut_short n whole = (n ≤ whole) × (cut_short ≡ false → n ≡ whole)
 
--- The sink got these lines behind what it had: all of them, or a front of them where there may be fewer.
-pub record WritesLines (fewer : Bool) (lines : List ℕ) (written written_then : List ℕ) : Type 0 where
+-- The sink got these lines behind what it had: all of them, or a prefix of them where there may be fewer.
+pub record WritesLines (cut_short : Bool) (lines : List ℕ) (written written_then : List ℕ) : Type 0 where
   pub count : ℕ
-  pub reaches : Reaches fewer count (length lines)
+  pub reaches : AllUnless cut_short count (length lines)
   pub bytes : written_then ≡ written ++ take count lines
 
 -- The shelf was asked for the files that the run asks for, in the order of the names, and for no other: for all of
--- them, or a front of them where the run was broken off.
-pub record AsksFor (fewer : Bool) (files : ℕ) (names : List (List ℕ)) (asked asked_then : List (List ℕ)) : Type 0 where
+-- them, or a prefix of them where the run was broken off.
+pub record AsksFor (cut_short : Bool) (files : ℕ) (names : List (List ℕ)) (asked asked_then : List (List ℕ)) : Type 0 where
   pub count : ℕ
-  pub reaches : Reaches fewer count files
+  pub reaches : AllUnless cut_short count files
   pub names_are : asked_then ≡ asked ++ take count names
 
 -- What became of a run. The status is how it ends, unless it was broken off. Its lines were written, and its files asked
 -- for. The lines keep pace with the record: they are those of the run of as much of it as was taken, also where a file
--- could not be read; where a line could not be written or memory ran out, a front of them.
-pub record Answers (run paced : Run) (names : List (List ℕ)) (status : Status) (asked asked_then : List (List ℕ)) (written written_then : List ℕ) : Type 0 where
+-- could not be read; where a line could not be written or memory ran out, a prefix of them.
+pub record Answers (run taken_run : Run) (names : List (List ℕ)) (status : Status) (asked asked_then : List (List ℕ)) (written written_then : List ℕ) : Type 0 where
   pub ends : breaks_off status ≡ false → run.end ≡ end_of status
   pub lines : WritesLines (breaks_off status) run.lines written written_then
-  pub pace : WritesLines (lags status) paced.lines written written_then
+  pub pace : WritesLines (may_lack_lines status) taken_run.lines written written_then
   pub asks : AsksFor (breaks_off status) run.files names asked asked_then
 
 -- Some files were opened, and whatever the names hold that agrees with all that was handed out, the run of it became so.
-pub record Replayed (run : (List ℕ → Option (List ℕ)) → Run) (paced : (List ℕ → Option (List ℕ)) → List FileHanded → Run) (names : List (List ℕ)) (status : Status)
+pub record Replayed (run : (List ℕ → Option (List ℕ)) → Run) (taken_run : (List ℕ → Option (List ℕ)) → List FileHanded → Run) (names : List (List ℕ)) (status : Status)
     (told told_then : ShelfTold) (written written_then : List ℕ) : Type 0 where
   pub opened : List FileHanded
   pub files : told_then.files ≡ told.files ++ opened
   pub answers : (contents : List ℕ → Option (List ℕ)) → Agrees contents told_then.files
-      → Answers (run contents) (paced contents opened) names status told.asked told_then.asked written written_then
+      → Answers (run contents) (taken_run contents opened) names status told.asked told_then.asked written written_then
 
 -- the bytes that were taken of the file with this number
 unfoldable pub taken_of : ℕ → List FileHanded → Option (List ℕ)
@@ -76,8 +76,8 @@ with_taken contents opened None = over no_command
 with_taken contents opened (Some files) = with_files (contents files.config) (contents files.genesis) (taken_of 2 opened)
 
 -- the same of the command words
-unfoldable pub paced_run_of : List (List ℕ) → (List ℕ → Option (List ℕ)) → List FileHanded → Run
-paced_run_of words contents opened = with_taken contents opened (replay_files_of words)
+unfoldable pub taken_run_of : List (List ℕ) → (List ℕ → Option (List ℕ)) → List FileHanded → Run
+taken_run_of words contents opened = with_taken contents opened (replay_files_of words)
 
 -- A fault of the outside is answered only where its count rose.
 pub record HasCauses (status : Status) (shelf shelf_then sink sink_then : ℕ) : Type 0 where

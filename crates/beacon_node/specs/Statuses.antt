@@ -4,17 +4,17 @@ use Rattle.beacon_node.specs.declared.status.Status.{Status}
 use Rattle.beacon_node.specs.declared.status.Status.TheVariants as statuses
 
 -- the number that the program ends with
-unfoldable pub number_of : Status → ℕ
-number_of statuses.Done = 0
-number_of statuses.Words = 1
-number_of (statuses.Config reason) = 2
-number_of (statuses.Genesis part) = 3
-number_of (statuses.Record which event reason) = 4
-number_of (statuses.Limit which event limit) = 5
-number_of statuses.ReadFault = 6
-number_of statuses.WriteFault = 7
-number_of statuses.NoMemory = 8
-number_of (statuses.Clash which event kind kept_which) = 9
+unfoldable pub status_number : Status → ℕ
+status_number statuses.Done = 0
+status_number statuses.Words = 1
+status_number (statuses.Config reason) = 2
+status_number (statuses.Genesis part) = 3
+status_number (statuses.Record which event reason) = 4
+status_number (statuses.Limit which event limit) = 5
+status_number statuses.ReadFault = 6
+status_number statuses.WriteFault = 7
+status_number statuses.NoMemory = 8
+status_number (statuses.Clash which event kind kept_which) = 9
 
 -- the status's name
 unfoldable pub name_of : Status → List ℕ

@@ -1,7 +1,7 @@
 //! How a run ended, as the program answers it.
 
 ghost use Rattle.std.specs.Prelude.{◌≡◌};
-ghost use Rattle.beacon_node.specs.Statuses.{number_of, name_of};
+ghost use Rattle.beacon_node.specs.Statuses.{status_number, name_of};
 
 use bc_preset::ConfigFault;
 use bc_words::{ClashKind, Limit};
@@ -58,9 +58,9 @@ pub enum Status {
 
 impl Status {
     /// The number that the program ends with.
-    #[tactic(auto, unfolding(crate::specs::Statuses::number_of))]
+    #[tactic(auto, unfolding(crate::specs::Statuses::status_number))]
     pub fn number(&self) -> u8
-        ensures { result ≡ number_of self.now }
+        ensures { result ≡ status_number self.now }
     {
         match self {
             Status::Done => 0,

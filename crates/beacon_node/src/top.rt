@@ -3,7 +3,7 @@
 ghost use Rattle.std.specs.Prelude.{◌≡◌, ◌<◌, ◌+◌, ◌^◌, ◌↔◌, length, map, string_bytes, Some, None};
 ghost use Rattle.spec_replay.specs.Run.{run_of};
 ghost use Rattle.spec_replay.specs.Words.{replay_files_of, names_of};
-ghost use Rattle.beacon_node.specs.Answers.{OutsideKeeps, Replayed, paced_run_of};
+ghost use Rattle.beacon_node.specs.Answers.{OutsideKeeps, Replayed, taken_run_of};
 
 use crate::replay::replay;
 use crate::status::Status;
@@ -27,7 +27,7 @@ pub fn beacon_main<F: Shelf, O: Sink>(
     // bytes written are its lines, and the files asked for are those that it needs, unless a fault of the outside or want
     // of memory broke the run off. The lines keep pace with the record, also where a file could not be read.
     ensures answers { Replayed (λ contents. run_of contents (map (λ word. string_bytes word) words.now))
-        (paced_run_of (map (λ word. string_bytes word) words.now))
+        (taken_run_of (map (λ word. string_bytes word) words.now))
         (names_of (replay_files_of (map (λ word. string_bytes word) words.now)))
         result (F.told shelf.old) (F.told shelf.new) (O.told out.old).taken (O.told out.new).taken }
 

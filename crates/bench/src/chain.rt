@@ -19,7 +19,7 @@ use hash_tree::{Leaf, Root};
 use sha2::{Digest, Sha256};
 use ssz_codec::Ssz;
 use std::alloc::{AllocError, Global};
-use transition::get_beacon_proposer_index::proposer_index;
+use transition::get_beacon_proposer_index::get_beacon_proposer_index;
 use transition::is_sound;
 use transition::process_block::process_block;
 use transition::process_slots::process_slots;
@@ -278,7 +278,7 @@ fn tell_block(
     votes: &[Vec<u8>],
     events: &mut Vec<Event>,
 ) -> Result<()> {
-    let proposer = proposer_index(alloc, state)?;
+    let proposer = get_beacon_proposer_index(alloc, state)?;
     let mut bytes = block_bytes(alloc, state, proposer, votes)?;
     tell_written(alloc, state, config, &mut bytes, votes, events)
 }

@@ -4,7 +4,7 @@ use Rattle.std.specs.Option.{option_map_or, unwrap_or}
 use Rattle.std.proofs.lemmas.Bool.{cases_eq, cases_lt, cases_order, eq-eqb, ne_eqb, eqb-true, lt-ltb, le-ltb, le-leb, lt-leb}
 use Rattle.block_array.specs.declared.node.Node.{Node}
 use Rattle.block_array.specs.PlainArray.{slot_at, parent_at}
-use Rattle.block_array.specs.GetAncestor.{parent_of, ancestor_within, get_ancestor}
+use Rattle.block_array.specs.GetAncestor.{parent_or_self, ancestor_within, get_ancestor}
 use Rattle.block_array.specs.GetLatestAttestingBalance.{is_on_chain_of}
 use Rattle.block_array.specs.inside.Tree.{IsTree, reaches}
 
@@ -210,18 +210,18 @@ module _ (nodes : List Node) (tree : IsTree nodes) where
 
     found_here : (k d : ℕ) → slot_at nodes d ≤ slot_at nodes j → found (suc k) d ≡ d
     unfolding ancestor_within
-    found_here k d h = ap (λ b. cond b (found k (parent_of nodes d)) d) (le-ltb (slot_at nodes j) (slot_at nodes d) h)
+    found_here k d h = ap (λ b. cond b (found k (parent_or_self nodes d)) d) (le-ltb (slot_at nodes j) (slot_at nodes d) h)
 
-    found_on : (k d : ℕ) → slot_at nodes j < slot_at nodes d → found (suc k) d ≡ found k (parent_of nodes d)
+    found_on : (k d : ℕ) → slot_at nodes j < slot_at nodes d → found (suc k) d ≡ found k (parent_or_self nodes d)
     unfolding ancestor_within
-    found_on k d h = ap (λ b. cond b (found k (parent_of nodes d)) d) (lt-ltb (slot_at nodes j) (slot_at nodes d) h)
+    found_on k d h = ap (λ b. cond b (found k (parent_or_self nodes d)) d) (lt-ltb (slot_at nodes j) (slot_at nodes d) h)
 
-    parent_none : (d : ℕ) → parent_at nodes d ≡ None → parent_of nodes d ≡ d
-    unfolding parent_of
+    parent_none : (d : ℕ) → parent_at nodes d ≡ None → parent_or_self nodes d ≡ d
+    unfolding parent_or_self
     parent_none d e = ap (λ o. unwrap_or o d) e
 
-    parent_some : (d x : ℕ) → parent_at nodes d ≡ Some x → parent_of nodes d ≡ x
-    unfolding parent_of
+    parent_some : (d x : ℕ) → parent_at nodes d ≡ Some x → parent_or_self nodes d ≡ x
+    unfolding parent_or_self
     parent_some d x e = ap (λ o. unwrap_or o d) e
 
     found_zero : (d : ℕ) → found zero d ≡ d

@@ -6,7 +6,7 @@ pub mod Holding
 pub mod Items
 pub mod Messages
 pub mod Noting
-pub mod Ranks
+pub mod BestDescendants
 pub mod Summing
 pub mod Votes
 pub mod Walks

@@ -14,7 +14,7 @@ use Rattle.block_array.specs.UpdateLatestMessages.{with_message, is_listed, with
 use Rattle.block_array.specs.Work.{deltas_of}
 use Rattle.block_array.specs.inside.Counts.{counted_of, Counts, nothing}
 use Rattle.block_array.specs.inside.Held.{due, boost_due}
-use Rattle.block_array.specs.inside.Ranks.{IsCounted}
+use Rattle.block_array.specs.inside.BestDescendants.{IsCounted}
 use Rattle.block_array.specs.inside.Noted.{count_changed, marked, IsNoted, AreMade, AreDue, has_delta, deltas_below, goes_in_order}
 
 module _ (validators : List Counted) (v k : ℕ) (c : Counted) where
@@ -202,7 +202,7 @@ all_counted array before after noted nodes len dues boost = record {
 
 pub ruleset in_order = (deltas_none, deltas_all, due_first, due_more)
 
-pub ruleset recounting = (not_set, all_counted)
+pub ruleset computing_deltas = (not_set, all_counted)
 
 -- ---- places for more validators
 

@@ -14,7 +14,7 @@ use Rattle.block_array.specs.GetLatestAttestingBalance.{is_on_chain_of, votes_fo
 use Rattle.block_array.specs.inside.Tree.{IsTree, reaches}
 use Rattle.block_array.specs.inside.Counts.{Counts, nothing, all_of, share, counted_at, own_at, weight_from, IsBelow}
 use Rattle.block_array.specs.inside.Held.{due, boost_due}
-use Rattle.block_array.specs.inside.Ranks.{IsCounted}
+use Rattle.block_array.specs.inside.BestDescendants.{IsCounted}
 use Rattle.block_array.proofs.Counting.{counted_cons}
 use Rattle.block_array.proofs.Chains.{stops_below, gives, once, unmoved, whole, on_chain}
 

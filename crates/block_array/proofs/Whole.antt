@@ -8,7 +8,7 @@ use Rattle.beacon_types.specs.declared.checkpoint.Checkpoint.{Checkpoint}
 use Rattle.block_array.specs.declared.facts.Facts.{Facts}
 use Rattle.block_array.specs.declared.node.Node.{Node}
 use Rattle.block_array.specs.declared.node.Message.{Message}
-use Rattle.block_array.specs.declared.rank.Rank.{Rank}
+use Rattle.block_array.specs.declared.best_descendant.BestDescendant.{BestDescendant}
 use Rattle.block_array.specs.declared.tally.Counted.{Counted}
 use Rattle.block_array.specs.PlainArray.{PlainArray, message_of, balance_of}
 use Rattle.block_array.specs.UpdateLatestMessages.{is_listed, voted}
@@ -18,7 +18,7 @@ use Rattle.block_array.specs.FilterBlockTree.{agrees, is_viable, with_viable, fi
 use Rattle.block_array.specs.GetLatestAttestingBalance.{votes_for, validators_of, attestation_score, proposer_score, is_boosted, get_latest_attesting_balance}
 use Rattle.block_array.specs.inside.Counts.{Counts, nothing, counted_of}
 use Rattle.block_array.specs.inside.Held.{due, boost_due}
-use Rattle.block_array.specs.inside.Ranks.{rank_at, IsCounted, IsMade, IsHeadFrom}
+use Rattle.block_array.specs.inside.BestDescendants.{best_descendant_at, IsCounted, IsMade, IsHeadFrom}
 use Rattle.block_array.proofs.Noting.{due_none}
 use Rattle.block_array.specs.inside.Noted.{count_changed, IsNoted, IsUnchanged, IsArray}
 
@@ -74,9 +74,9 @@ module _ (array : PlainArray) (changed : List ℕ) (set any : Bool) (nodes valid
   unfolding get_filtered_block_tree
   filtered_same = tree_same 0 array.nodes
 
-  pub made_same : (ranks : List Rank) → IsMade array ranks → IsMade other ranks
+  pub made_same : (bests : List BestDescendant) → IsMade array bests → IsMade other bests
   unfolding IsHeadFrom
-  made_same ranks m = record {
+  made_same bests m = record {
     weights = λ j f h. m.weights j f h ∙ sym (weight_same j);
     heads = λ j f h steps enough. head_same steps (get_filtered_block_tree other) j ∙ ap (λ tree. head_within steps array tree j) filtered_same ∙ m.heads j f h steps enough;
   }
@@ -87,51 +87,51 @@ module _ (array : PlainArray) (changed : List ℕ) (set any : Bool) (nodes valid
 
 -- ---- each call
 
-module _ (array : PlainArray) (counts : Counts) (ranks : List Rank) (rank_room : ℕ) (a : IsArray array counts ranks rank_room) (told : PlainArray) where
-  pub kept_boost : (boosted : Option ℕ) → told ≡ with_boost array boosted → IsArray told counts ranks rank_room
+module _ (array : PlainArray) (counts : Counts) (bests : List BestDescendant) (best_room : ℕ) (a : IsArray array counts bests best_room) (told : PlainArray) where
+  pub kept_boost : (boosted : Option ℕ) → told ≡ with_boost array boosted → IsArray told counts bests best_room
   unfolding message_of balance_of due
-  kept_boost boosted is = subst (λ (t : PlainArray). IsArray t counts ranks rank_room) (sym is) (record {
+  kept_boost boosted is = subst (λ (t : PlainArray). IsArray t counts bests best_room) (sym is) (record {
     noted = record { nodes = a.noted.nodes; length_is = a.noted.length_is; listed = a.noted.listed; many = a.noted.many; idle = a.noted.idle; current = a.noted.current };
     length_is = a.length_is;
     unchanged = λ e. absurd cc;
     tally_nodes = a.tally_nodes;
-    rank_nodes = a.rank_nodes;
+    best_nodes = a.best_nodes;
     tally_validators = a.tally_validators;
   })
 
-  pub kept_checkpoints : (node : ℕ) (justified finalized : Checkpoint) → told ≡ with_checkpoints array node justified finalized → IsArray told counts ranks rank_room
+  pub kept_checkpoints : (node : ℕ) (justified finalized : Checkpoint) → told ≡ with_checkpoints array node justified finalized → IsArray told counts bests best_room
   unfolding message_of balance_of due
-  kept_checkpoints node justified finalized is = subst (λ (t : PlainArray). IsArray t counts ranks rank_room) (sym is) (record {
+  kept_checkpoints node justified finalized is = subst (λ (t : PlainArray). IsArray t counts bests best_room) (sym is) (record {
     noted = record { nodes = a.noted.nodes; length_is = a.noted.length_is; listed = a.noted.listed; many = a.noted.many; idle = a.noted.idle; current = a.noted.current };
     length_is = a.length_is;
     unchanged = λ e. absurd cc;
     tally_nodes = a.tally_nodes;
-    rank_nodes = a.rank_nodes;
+    best_nodes = a.best_nodes;
     tally_validators = a.tally_validators;
   })
 
-  pub kept_balances : (balances : List ℕ) (count total : ℕ) → told ≡ with_balances array balances count total → IsArray told counts ranks rank_room
+  pub kept_balances : (balances : List ℕ) (count total : ℕ) → told ≡ with_balances array balances count total → IsArray told counts bests best_room
   unfolding message_of
-  kept_balances balances count total is = subst (λ (t : PlainArray). IsArray t counts ranks rank_room) (sym is) (record {
+  kept_balances balances count total is = subst (λ (t : PlainArray). IsArray t counts bests best_room) (sym is) (record {
     noted = record { nodes = a.noted.nodes; length_is = a.noted.length_is; listed = a.noted.listed; many = a.noted.many; idle = a.noted.idle; current = λ e. absurd cc };
     length_is = a.length_is;
     unchanged = λ e. absurd cc;
     tally_nodes = a.tally_nodes;
-    rank_nodes = a.rank_nodes;
+    best_nodes = a.best_nodes;
     tally_validators = a.tally_validators;
   })
 
-  pub kept_vote : (v : ℕ) (message : Message) (after : Counts) → told ≡ voted array v message → IsNoted told after → after.node_room ≡ counts.node_room → counts.validator_room ≤ after.validator_room → IsArray told after ranks rank_room
+  pub kept_vote : (v : ℕ) (message : Message) (after : Counts) → told ≡ voted array v message → IsNoted told after → after.node_room ≡ counts.node_room → counts.validator_room ≤ after.validator_room → IsArray told after bests best_room
   unfolding voted
   kept_vote v message after is noted room more =
       let t = a.tally_nodes in let v = a.tally_validators in
-      subst (λ (t : PlainArray). IsNoted t after → IsArray t after ranks rank_room) (sym is)
+      subst (λ (t : PlainArray). IsNoted t after → IsArray t after bests best_room) (sym is)
       (λ n. record {
         noted = n;
         length_is = a.length_is;
         unchanged = λ e. absurd cc;
         tally_nodes = omega arith;
-        rank_nodes = a.rank_nodes;
+        best_nodes = a.best_nodes;
         tally_validators = omega arith;
       })
       noted
@@ -145,10 +145,10 @@ counted_rooms array counts after c vs ns boost = record {
 }
 
 -- rooms alone change
-pub kept_rooms : (array : PlainArray) (counts after : Counts) (ranks ranks₁ : List Rank) (rank_room rank_room₁ : ℕ) → IsArray array counts ranks rank_room → ranks₁ ≡ ranks → after.validators ≡ counts.validators → after.nodes ≡ counts.nodes → after.boost ≡ counts.boost → counts.node_room ≤ after.node_room → counts.validator_room ≤ after.validator_room → rank_room ≤ rank_room₁ → IsArray array after ranks₁ rank_room₁
-kept_rooms array counts after ranks ranks₁ rank_room rank_room₁ a same vs ns boost nodes validators room =
-    let t = a.tally_nodes in let v = a.tally_validators in let r = a.rank_nodes in
-    subst (λ (rs : List Rank). IsArray array after rs rank_room₁) (sym same)
+pub kept_rooms : (array : PlainArray) (counts after : Counts) (bests bests₁ : List BestDescendant) (best_room best_room₁ : ℕ) → IsArray array counts bests best_room → bests₁ ≡ bests → after.validators ≡ counts.validators → after.nodes ≡ counts.nodes → after.boost ≡ counts.boost → counts.node_room ≤ after.node_room → counts.validator_room ≤ after.validator_room → best_room ≤ best_room₁ → IsArray array after bests₁ best_room₁
+kept_rooms array counts after bests bests₁ best_room best_room₁ a same vs ns boost nodes validators room =
+    let t = a.tally_nodes in let v = a.tally_validators in let r = a.best_nodes in
+    subst (λ (rs : List BestDescendant). IsArray array after rs best_room₁) (sym same)
     (record {
       noted = record {
         nodes = ns ∙ a.noted.nodes;
@@ -161,55 +161,55 @@ kept_rooms array counts after ranks ranks₁ rank_room rank_room₁ a same vs ns
       length_is = a.length_is;
       unchanged = λ e. (let u = a.unchanged e in record { counted = counted_rooms array counts after u.counted vs ns boost; made = u.made; changed = u.changed; balances = u.balances });
       tally_nodes = omega arith;
-      rank_nodes = omega arith;
+      best_nodes = omega arith;
       tally_validators = omega arith;
     })
 
 -- what is spare alone changes, where there is room for it
-pub kept_spare : (array : PlainArray) (counts : Counts) (ranks : List Rank) (rank_room nodes validators : ℕ) → IsArray array counts ranks rank_room → length array.nodes + nodes ≤ counts.node_room → length array.nodes + nodes ≤ rank_room → validators ≤ counts.validator_room → IsArray (record array { spare_nodes = nodes; spare_validators = validators }) counts ranks rank_room
+pub kept_spare : (array : PlainArray) (counts : Counts) (bests : List BestDescendant) (best_room nodes validators : ℕ) → IsArray array counts bests best_room → length array.nodes + nodes ≤ counts.node_room → length array.nodes + nodes ≤ best_room → validators ≤ counts.validator_room → IsArray (record array { spare_nodes = nodes; spare_validators = validators }) counts bests best_room
 unfolding message_of balance_of due
-kept_spare array counts ranks rank_room nodes validators a t r v = record {
+kept_spare array counts bests best_room nodes validators a t r v = record {
   noted = record { nodes = a.noted.nodes; length_is = a.noted.length_is; listed = a.noted.listed; many = a.noted.many; idle = a.noted.idle; current = a.noted.current };
   length_is = a.length_is;
   unchanged = λ e. same (a.unchanged e);
   tally_nodes = t;
-  rank_nodes = r;
+  best_nodes = r;
   tally_validators = v;
 }
   where
-    same : IsUnchanged array counts ranks → IsUnchanged (record array { spare_nodes = nodes; spare_validators = validators }) counts ranks
-    same u = record { counted = due_same array array.changed_validators array.balances_set array.anything_changed nodes validators counts u.counted; made = made_same array array.changed_validators array.balances_set array.anything_changed nodes validators ranks u.made; changed = u.changed; balances = u.balances }
+    same : IsUnchanged array counts bests → IsUnchanged (record array { spare_nodes = nodes; spare_validators = validators }) counts bests
+    same u = record { counted = due_same array array.changed_validators array.balances_set array.anything_changed nodes validators counts u.counted; made = made_same array array.changed_validators array.balances_set array.anything_changed nodes validators bests u.made; changed = u.changed; balances = u.balances }
 
 -- ---- a node more
 
-pub kept_node : (array : PlainArray) (counts after : Counts) (ranks ranks₁ : List Rank) (rank_room rank_room₁ : ℕ) (told : PlainArray) (parent slot : ℕ) (root : List ℕ) (facts : Facts) (rank : Rank) → IsArray array counts ranks rank_room
-    → told ≡ with_node array parent slot root facts → after ≡ record counts { nodes = counts.nodes + 1; node_room = after.node_room } → ranks₁ ≡ ranks ++ rank ∷ []
-    → counts.node_room ≤ after.node_room → length array.nodes + 1 ≤ after.node_room → rank_room ≤ rank_room₁ → length array.nodes + 1 ≤ rank_room₁ → IsArray told after ranks₁ rank_room₁
+pub kept_node : (array : PlainArray) (counts after : Counts) (bests bests₁ : List BestDescendant) (best_room best_room₁ : ℕ) (told : PlainArray) (parent slot : ℕ) (root : List ℕ) (facts : Facts) (best : BestDescendant) → IsArray array counts bests best_room
+    → told ≡ with_node array parent slot root facts → after ≡ record counts { nodes = counts.nodes + 1; node_room = after.node_room } → bests₁ ≡ bests ++ best ∷ []
+    → counts.node_room ≤ after.node_room → length array.nodes + 1 ≤ after.node_room → best_room ≤ best_room₁ → length array.nodes + 1 ≤ best_room₁ → IsArray told after bests₁ best_room₁
 unfolding message_of balance_of due
-kept_node array counts after ranks ranks₁ rank_room rank_room₁ told parent slot root facts rank a is tally more nodes node room rank_in =
+kept_node array counts after bests bests₁ best_room best_room₁ told parent slot root facts best a is tally more nodes node room best_in =
     let vr : after.validator_room ≡ counts.validator_room = ap (λ (c : Counts). c.validator_room) tally in
-    let t = a.tally_nodes in let v = a.tally_validators in let r = a.rank_nodes in
+    let t = a.tally_nodes in let v = a.tally_validators in let r = a.best_nodes in
     let node₁ : Node = record { parent = Some parent; slot = slot; root = root; facts = facts } in
     let l : length (array.nodes ++ node₁ ∷ []) ≡ length array.nodes + 1 = length-append array.nodes (node₁ ∷ []) in
-    let k : length (ranks ++ rank ∷ []) ≡ length ranks + 1 = length-append ranks (rank ∷ []) in
+    let k : length (bests ++ best ∷ []) ≡ length bests + 1 = length-append bests (best ∷ []) in
     let c : counts.nodes ≡ length array.nodes = a.noted.nodes in
-    let d : length ranks ≡ length array.nodes = a.length_is in
-    subst (λ (t : PlainArray). IsArray t after ranks₁ rank_room₁) (sym is)
+    let d : length bests ≡ length array.nodes = a.length_is in
+    subst (λ (t : PlainArray). IsArray t after bests₁ best_room₁) (sym is)
     (record {
       noted = subst (λ (c : Counts). IsNoted (with_node array parent slot root facts) c) (sym tally) (record { nodes = omega arith; length_is = a.noted.length_is; listed = a.noted.listed; many = a.noted.many; idle = a.noted.idle; current = a.noted.current });
-      length_is = ap length more ∙ (let e : length (ranks ++ rank ∷ []) ≡ length (array.nodes ++ node₁ ∷ []) = omega arith in e);
+      length_is = ap length more ∙ (let e : length (bests ++ best ∷ []) ≡ length (array.nodes ++ node₁ ∷ []) = omega arith in e);
       unchanged = λ e. absurd cc;
       tally_nodes = omega arith;
-      rank_nodes = omega arith;
+      best_nodes = omega arith;
       tally_validators = omega arith;
     })
 
 -- ---- a new array
 
-pub new_whole : (slots percent slot : ℕ) (root : List ℕ) (facts : Facts) (array : PlainArray) (counts : Counts) (ranks : List Rank) (rank_room : ℕ) → array ≡ new_array slots percent slot root facts → counts.validators ≡ [] → counts.nodes ≡ 1 → 1 ≤ counts.node_room → length ranks ≡ 1 → 1 ≤ rank_room → IsArray array counts ranks rank_room
+pub new_whole : (slots percent slot : ℕ) (root : List ℕ) (facts : Facts) (array : PlainArray) (counts : Counts) (bests : List BestDescendant) (best_room : ℕ) → array ≡ new_array slots percent slot root facts → counts.validators ≡ [] → counts.nodes ≡ 1 → 1 ≤ counts.node_room → length bests ≡ 1 → 1 ≤ best_room → IsArray array counts bests best_room
 unfolding is_listed count_changed counted_of message_of
-new_whole slots percent slot root facts array counts ranks rank_room is validators nodes room len rank_in =
-    subst (λ (a : PlainArray). IsArray a counts ranks rank_room) (sym is)
+new_whole slots percent slot root facts array counts bests best_room is validators nodes room len best_in =
+    subst (λ (a : PlainArray). IsArray a counts bests best_room) (sym is)
     (record {
       noted = record {
         nodes = nodes;
@@ -222,7 +222,7 @@ new_whole slots percent slot root facts array counts ranks rank_room is validato
       length_is = len;
       unchanged = λ e. absurd cc;
       tally_nodes = omega arith;
-      rank_nodes = omega arith;
+      best_nodes = omega arith;
       tally_validators = omega arith;
     })
   where
@@ -272,22 +272,22 @@ module _ (array : PlainArray) (counts after : Counts) (counted : IsCounted array
     current = λ e v f. all_due v (cases_lt v (length after.validators));
   }
 
-pub kept_made : (array : PlainArray) (counts after : Counts) (ranks ranks₁ : List Rank) (rank_room rank_room₁ : ℕ) (told : PlainArray) → IsArray array counts ranks rank_room → told ≡ made array → IsCounted array after → after ≡ record counts { validators = after.validators; boost = after.boost } → length ranks₁ ≡ length array.nodes → IsMade array ranks₁ → rank_room ≤ rank_room₁ → IsArray told after ranks₁ rank_room₁
-kept_made array counts after ranks ranks₁ rank_room rank_room₁ told a is counted same len m room =
-    let t = a.tally_nodes in let v = a.tally_validators in let r = a.rank_nodes in
+pub kept_made : (array : PlainArray) (counts after : Counts) (bests bests₁ : List BestDescendant) (best_room best_room₁ : ℕ) (told : PlainArray) → IsArray array counts bests best_room → told ≡ made array → IsCounted array after → after ≡ record counts { validators = after.validators; boost = after.boost } → length bests₁ ≡ length array.nodes → IsMade array bests₁ → best_room ≤ best_room₁ → IsArray told after bests₁ best_room₁
+kept_made array counts after bests bests₁ best_room best_room₁ told a is counted same len m room =
+    let t = a.tally_nodes in let v = a.tally_validators in let r = a.best_nodes in
     let nr : after.node_room ≡ counts.node_room = ap (λ (c : Counts). c.node_room) same in
     let vr : after.validator_room ≡ counts.validator_room = ap (λ (c : Counts). c.validator_room) same in
-    subst (λ (t : PlainArray). IsArray t after ranks₁ rank_room₁) (sym is)
+    subst (λ (t : PlainArray). IsArray t after bests₁ best_room₁) (sym is)
     (record {
       noted = made_noted array counts after counted;
       length_is = len;
-      unchanged = λ e. record { counted = due_same array [] false false array.spare_nodes array.spare_validators after counted; made = made_same array [] false false array.spare_nodes array.spare_validators ranks₁ m; changed = refl; balances = refl };
+      unchanged = λ e. record { counted = due_same array [] false false array.spare_nodes array.spare_validators after counted; made = made_same array [] false false array.spare_nodes array.spare_validators bests₁ m; changed = refl; balances = refl };
       tally_nodes = omega arith;
-      rank_nodes = omega arith;
+      best_nodes = omega arith;
       tally_validators = omega arith;
     })
 
-module _ (array : PlainArray) (ranks : List Rank) (m : IsMade array ranks) where
-  pub head_made : array.justified_node < length array.nodes → (rank_at ranks array.justified_node).descendant ≡ get_head array
+module _ (array : PlainArray) (bests : List BestDescendant) (m : IsMade array bests) where
+  pub head_made : array.justified_node < length array.nodes → (best_descendant_at bests array.justified_node).descendant ≡ get_head array
   unfolding get_head IsHeadFrom
   head_made inside = sym (m.heads array.justified_node (omega arith) inside (length array.nodes) (omega arith))

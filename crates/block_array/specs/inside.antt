@@ -2,6 +2,6 @@ pub mod Counts
 pub mod Held
 pub mod Inputs
 pub mod Noted
-pub mod Ranks
+pub mod BestDescendants
 pub mod Tallies
 pub mod Tree

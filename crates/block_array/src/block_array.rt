@@ -19,10 +19,10 @@ use crate::inputs::Inputs;
 use crate::list::push_item;
 use crate::node::Message;
 use crate::note::note;
-use crate::rank::{Rank, UNMADE, rank_at};
-use crate::recount::recount;
+use crate::best_descendant::{BestDescendant, UNMADE, best_descendant_at};
+use crate::compute_deltas::compute_deltas;
 use crate::room::{grow_nodes, grow_validators, room_for_node, room_for_vote};
-use crate::settle::settle;
+use crate::apply_score_changes::apply_score_changes;
 use crate::tally::Tally;
 use crate::weight::weight_of;
 use bc_words::{NoMemory, Steps};
@@ -36,7 +36,7 @@ use std::sync::ledger::Ledger;
 pub struct BlockArray {
     inputs: Inputs,
     tally: Tally,
-    ranks: Vec<Rank>,
+    bests: Vec<BestDescendant>,
 }
 
 // Written by hand, so that a call that lets one go is one call, and not one for each of its lists.
@@ -45,11 +45,11 @@ impl Drop for BlockArray {
         let BlockArray {
             inputs,
             tally,
-            ranks,
+            bests,
         } = self;
         drop(inputs);
         drop(tally);
-        drop(ranks);
+        drop(bests);
     }
 }
 
@@ -62,7 +62,7 @@ impl Model for BlockArray {
 
     ghost view = { λ a. a.inputs.array };
 
-    ghost invariant = { λ a. IsArray a.inputs.array a.tally a.ranks.items (vec_capacity a.ranks) };
+    ghost invariant = { λ a. IsArray a.inputs.array a.tally a.bests.items (vec_capacity a.bests) };
 }
 
 impl BlockArray {
@@ -81,14 +81,14 @@ impl BlockArray {
         requires percent { percent ≤ 10000 }
         ensures { IfOk result (λ array. array ≡ new_array slots_per_epoch percent slot root facts) }
     {
-        let mut ranks = Vec::new(alloc);
-        ranks.push(UNMADE)?;
+        let mut bests = Vec::new(alloc);
+        bests.push(UNMADE)?;
         let tally = Tally::new(alloc)?;
         let inputs = Inputs::new(alloc, slots_per_epoch, percent, slot, root, facts)?;
         Ok(BlockArray {
             inputs,
             tally,
-            ranks,
+            bests,
         })
     }
 
@@ -97,7 +97,7 @@ impl BlockArray {
     pub fn reserve(&mut self, validators: u64) -> Result<(), NoMemory>
         ensures { Becomes result self.old self.new (with_spare self.old validators) }
     {
-        grow_nodes(&mut self.inputs, &mut self.tally, &mut self.ranks)?;
+        grow_nodes(&mut self.inputs, &mut self.tally, &mut self.bests)?;
         grow_validators(&mut self.inputs, &mut self.tally, validators)?;
         let nodes = self.inputs.spare_nodes().max(1);
         let voters = self.inputs.spare_validators().max(validators);
@@ -120,11 +120,11 @@ impl BlockArray {
         ensures number { IfOk result (λ number. number ≡ length self.old.nodes) }
         ensures spare { 0 < self.old.spare_nodes → IsOk result }
     {
-        room_for_node(&mut self.inputs, &mut self.tally, &mut self.ranks)?;
+        room_for_node(&mut self.inputs, &mut self.tally, &mut self.bests)?;
         let number = self.inputs.nodes().len() as u32;
         self.inputs.push(parent, slot, root, facts);
         self.tally.push_node();
-        push_item(&mut self.ranks, UNMADE);
+        push_item(&mut self.bests, UNMADE);
         Ok(number)
     }
 
@@ -186,14 +186,14 @@ impl BlockArray {
     /// most a delta for each changed validator, or for each that voted where balances were set, and two visits of each node.
     /// The nodes before the justified one, from which no head is looked for, aren't visited.
     pub fn apply<L: Ledger>(&mut self, steps: &mut Steps<L>)
-        ensures applied { self.new ≡ made self.old }
+        ensures up_to_date { self.new ≡ made self.old }
         ensures steps { steps.new ≤ steps.old + steps_of self.old }
     {
         if !self.inputs.anything_changed() {
             return;
         }
-        recount(&self.inputs, &mut self.tally, steps);
-        settle(&self.inputs, &self.tally, &mut self.ranks, steps);
+        compute_deltas(&self.inputs, &mut self.tally, steps);
+        apply_score_changes(&self.inputs, &self.tally, &mut self.bests, steps);
         self.inputs.set_made();
     }
 
@@ -201,13 +201,13 @@ impl BlockArray {
     /// node comes before the justified one: then the votes are summed now.
     pub fn weight(&self, node: u32) -> u128
         requires node { node < length self.now.nodes }
-        requires applied { self.now.anything_changed ≡ false }
+        requires up_to_date { self.now.anything_changed ≡ false }
         ensures { result ≡ get_latest_attesting_balance self.now node }
     {
         if node < self.inputs.justified_node() {
             return weight_of(&self.inputs, &self.tally, node);
         }
-        rank_at(&self.ranks, node as usize).weight
+        best_descendant_at(&self.bests, node as usize).weight
     }
 
     /// The head (fork-choice.md, `get_head`), where `apply` made it.
@@ -217,6 +217,6 @@ impl BlockArray {
     {
         let nodes = self.inputs.nodes();
         let node = self.inputs.justified_node();
-        rank_at(&self.ranks, node as usize).descendant
+        best_descendant_at(&self.bests, node as usize).descendant
     }
 }

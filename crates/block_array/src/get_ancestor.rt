@@ -2,7 +2,7 @@
 
 ghost use Rattle.std.specs.Prelude.{◌≡◌, ◌<◌, length, slice_get, Some};
 ghost use Rattle.block_array.specs.PlainArray.{slot_at, parent_at};
-ghost use Rattle.block_array.specs.GetAncestor.{parent_of, get_ancestor};
+ghost use Rattle.block_array.specs.GetAncestor.{parent_or_self, get_ancestor};
 ghost use Rattle.block_array.specs.inside.Tree.{IsTree};
 
 use crate::node::Node;
@@ -17,10 +17,10 @@ pub(crate) fn slot_of(nodes: &[Node], number: usize) -> u64
 }
 
 /// The parent of a node. The first node stands for its own.
-#[tactic(auto, unfolding(crate::specs::PlainArray::parent_at, crate::specs::GetAncestor::parent_of), using(crate::proofs::Items::getting))]
-fn parent_of(nodes: &[Node], number: u32) -> u32
+#[tactic(auto, unfolding(crate::specs::PlainArray::parent_at, crate::specs::GetAncestor::parent_or_self), using(crate::proofs::Items::getting))]
+fn parent_or_self(nodes: &[Node], number: u32) -> u32
     requires { number < length nodes.now }
-    ensures { result ≡ parent_of nodes.now number }
+    ensures { result ≡ parent_or_self nodes.now number }
 {
     match nodes[number as usize].parent {
         Some(parent) => parent,
@@ -40,7 +40,7 @@ pub(crate) fn get_ancestor(nodes: &[Node], number: u32, slot: u64) -> u32
         if slot_of(nodes, number as usize) <= slot {
             return number;
         }
-        number = parent_of(nodes, number);
+        number = parent_or_self(nodes, number);
     }
     number
 }

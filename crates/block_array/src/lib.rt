@@ -12,10 +12,10 @@ mod inputs;
 mod list;
 mod node;
 mod note;
-mod rank;
-mod recount;
+mod best_descendant;
+mod compute_deltas;
 mod room;
-mod settle;
+mod apply_score_changes;
 mod tally;
 mod weight;
 

@@ -4,7 +4,7 @@ ghost use Rattle.std.specs.Prelude.{◌≡◌, ◌+◌, ◌<◌, ◌≤◌, ◌^
 
 use crate::inputs::Inputs;
 use crate::list::make_room;
-use crate::rank::Rank;
+use crate::best_descendant::BestDescendant;
 use crate::tally::Tally;
 use bc_words::NoMemory;
 
@@ -15,22 +15,22 @@ const VALIDATOR_LIMIT: u64 = 1 << 40;
 pub(crate) fn grow_nodes(
     inputs: &mut Inputs,
     tally: &mut Tally,
-    ranks: &mut Vec<Rank>,
+    bests: &mut Vec<BestDescendant>,
 ) -> Result<(), NoMemory>
     ensures inputs { inputs.new ≡ record inputs.old { node_room = inputs.new.node_room } }
     ensures tally { tally.new ≡ record tally.old { node_room = tally.new.node_room } }
-    ensures ranks { ranks.new.items ≡ ranks.old.items }
+    ensures bests { bests.new.items ≡ bests.old.items }
     ensures inputs_more { inputs.old.node_room ≤ inputs.new.node_room }
     ensures tally_more { tally.old.node_room ≤ tally.new.node_room }
-    ensures ranks_more { vec_capacity ranks.old ≤ vec_capacity ranks.new }
+    ensures bests_more { vec_capacity bests.old ≤ vec_capacity bests.new }
     ensures inputs_room { OnOk result (length inputs.old.array.nodes + 1 ≤ inputs.new.node_room) }
     ensures tally_room { OnOk result (length inputs.old.array.nodes + 1 ≤ tally.new.node_room) }
-    ensures ranks_room { OnOk result (length inputs.old.array.nodes + 1 ≤ vec_capacity ranks.new) }
+    ensures bests_room { OnOk result (length inputs.old.array.nodes + 1 ≤ vec_capacity bests.new) }
 {
     let places = inputs.nodes().len() + 1;
     match inputs.reserve_nodes(places) {
         Ok(()) => match tally.reserve_nodes(places) {
-            Ok(()) => make_room(ranks, places),
+            Ok(()) => make_room(bests, places),
             Err(refused) => Err(refused),
         },
         Err(refused) => Err(refused),
@@ -41,22 +41,22 @@ pub(crate) fn grow_nodes(
 pub(crate) fn room_for_node(
     inputs: &mut Inputs,
     tally: &mut Tally,
-    ranks: &mut Vec<Rank>,
+    bests: &mut Vec<BestDescendant>,
 ) -> Result<(), NoMemory>
     requires tally_nodes { length inputs.old.array.nodes + inputs.old.array.spare_nodes ≤ tally.old.node_room }
-    requires ranks_nodes { length inputs.old.array.nodes + inputs.old.array.spare_nodes ≤ vec_capacity ranks.old }
+    requires bests_nodes { length inputs.old.array.nodes + inputs.old.array.spare_nodes ≤ vec_capacity bests.old }
     ensures inputs { inputs.new ≡ record inputs.old { node_room = inputs.new.node_room } }
     ensures tally { tally.new ≡ record tally.old { node_room = tally.new.node_room } }
-    ensures ranks { ranks.new.items ≡ ranks.old.items }
+    ensures bests { bests.new.items ≡ bests.old.items }
     ensures tally_more { tally.old.node_room ≤ tally.new.node_room }
-    ensures ranks_more { vec_capacity ranks.old ≤ vec_capacity ranks.new }
+    ensures bests_more { vec_capacity bests.old ≤ vec_capacity bests.new }
     ensures inputs_room { OnOk result (length inputs.old.array.nodes + 1 ≤ inputs.new.node_room) }
     ensures tally_room { OnOk result (length inputs.old.array.nodes + 1 ≤ tally.new.node_room) }
-    ensures ranks_room { OnOk result (length inputs.old.array.nodes + 1 ≤ vec_capacity ranks.new) }
+    ensures bests_room { OnOk result (length inputs.old.array.nodes + 1 ≤ vec_capacity bests.new) }
     ensures spare { 0 < inputs.old.array.spare_nodes → IsOk result }
 {
     if inputs.spare_nodes() == 0 {
-        grow_nodes(inputs, tally, ranks)
+        grow_nodes(inputs, tally, bests)
     } else {
         Ok(())
     }

@@ -5,7 +5,7 @@
 
 ghost use Rattle.std.specs.Prelude.{◌≡◌, ◌<◌, length, if◌then◌else◌};
 ghost use Rattle.block_array.specs.GetLatestAttestingBalance.{is_on_chain_of, get_latest_attesting_balance};
-ghost use Rattle.block_array.specs.inside.Ranks.{IsCounted};
+ghost use Rattle.block_array.specs.inside.BestDescendants.{IsCounted};
 ghost use Rattle.block_array.specs.inside.Tree.{IsTree};
 
 use crate::get_ancestor::{get_ancestor, slot_of};

@@ -3,7 +3,7 @@
 ghost use Rattle.std.specs.Prelude.{◌≡◌, ◌≤◌, ◌*◌, ◌^◌, length, nat_lt};
 ghost use Rattle.bc_words.specs.Outcome.{Changes};
 ghost use Rattle.spec_state.specs.States.{votes_limit};
-ghost use Rattle.spec_blocks.specs.ProcessEth1Data.{same_eth1_data, votes_for, process_eth1_data};
+ghost use Rattle.spec_blocks.specs.ProcessEth1Data.{same_eth1_data, count_votes, process_eth1_data};
 ghost use Rattle.block_head.specs.inside.Votes.{is_for};
 
 use bc_words::Stop;
@@ -32,8 +32,8 @@ fn is_for(state: &State, i: u64, eth1_data: &Eth1Data) -> bool
 
 /// How many of the votes are for the data.
 #[tactic(auto, using(crate::proofs::Votes::counting))]
-fn votes_for(state: &State, eth1_data: &Eth1Data) -> u64
-    ensures exact { result ≡ votes_for state.now.eth1_data_votes eth1_data.now }
+fn count_votes(state: &State, eth1_data: &Eth1Data) -> u64
+    ensures exact { result ≡ count_votes state.now.eth1_data_votes eth1_data.now }
     ensures few { result ≤ length state.now.eth1_data_votes }
 {
     let mut count = 0;
@@ -59,11 +59,11 @@ fn votes_limit(state: &State) -> u64
 
 /// Whether more than half of a period's votes are for the data.
 fn has_won(state: &State, eth1_data: &Eth1Data) -> bool
-    ensures { result ≡ nat_lt (votes_limit state.now.preset) (votes_for state.now.eth1_data_votes eth1_data.now * 2) }
+    ensures { result ≡ nat_lt (votes_limit state.now.preset) (count_votes state.now.eth1_data_votes eth1_data.now * 2) }
 {
     let limit = votes_limit(state);
     let _votes = state.eth1_data_votes_len();
-    limit < votes_for(state, eth1_data) * 2
+    limit < count_votes(state, eth1_data) * 2
 }
 
 /// Appends the block's vote for the data of the deposit contract, which becomes that of the state where more than half of a

@@ -11,7 +11,7 @@ use Rattle.bc_preset.specs.Presets.{IsPreset}
 use Rattle.bc_preset.proofs.Bounds.{preset_bounds}
 use Rattle.shuffling.specs.Shuffling.{compute_shuffled_index, shuffled_list}
 use Rattle.committees.specs.Committees.{Committees, committees_of, committee_count_per_slot, committee_start, compute_committee}
-use Rattle.committees.specs.inside.Cut.{cut, cut_for}
+use Rattle.committees.specs.inside.Split.{split_evenly, split_committees}
 
 module _ (members count : ℕ) (some : 0 < count) where
   pub first_monotone : (k later : ℕ) → k ≤ later → committee_start members count k ≤ committee_start members count later
@@ -76,15 +76,15 @@ module _ (active seed : List ℕ) (rounds count : ℕ) (some : 0 < count) where
       (first_within (length active) count some (k + 1) (omega arith))
 
   -- the shuffled list, cut, is the committees
-  pub cut_is : cut (shuffled_list seed rounds active) count ≡ map (λ k. compute_committee rounds active seed k count) (range_with_len 0 count)
-  unfolding cut
+  pub cut_is : split_evenly (shuffled_list seed rounds active) count ≡ map (λ k. compute_committee rounds active seed k count) (range_with_len 0 count)
+  unfolding split_evenly
   cut_is =
       rw (shuffled_length active seed rounds) (fill_by_all (λ k. compute_committee rounds active seed k count) _ count []
       (length-map-range_with_len _ 0 count)
       (λ k less. get_or-map-range_with_len _ 0 count k k [] less (omega arith) ∙ part_is k less))
 
 -- what a list of committees is made of, where the code keeps it as one list
-pub whole_is : (preset : Preset) (seed active members : List ℕ) (per_slot : ℕ) → per_slot ≡ committee_count_per_slot preset (length active) → members ≡ shuffled_list seed preset.shuffle_round_count active → 1 ≤ per_slot → 1 ≤ preset.slots_per_epoch → cut_for per_slot preset.slots_per_epoch members ≡ committees_of preset seed active
+pub whole_is : (preset : Preset) (seed active members : List ℕ) (per_slot : ℕ) → per_slot ≡ committee_count_per_slot preset (length active) → members ≡ shuffled_list seed preset.shuffle_round_count active → 1 ≤ per_slot → 1 ≤ preset.slots_per_epoch → split_committees per_slot preset.slots_per_epoch members ≡ committees_of preset seed active
 unfolding committees_of
 whole_is preset seed active members per_slot per_slot_is members_is some slots =
     rw (members_is, ← per_slot_is)
@@ -95,19 +95,19 @@ pub shuffled_fits : (seed active members : List ℕ) (rounds : ℕ) → members 
 shuffled_fits seed active members rounds is = ap length is ∙ shuffled_length active seed rounds
 
 module _ (members : List ℕ) (count : ℕ) where
-  cut_length : length (cut members count) ≡ count
-  unfolding cut
+  cut_length : length (split_evenly members count) ≡ count
+  unfolding split_evenly
   cut_length = length-map-range_with_len _ 0 count
 
-  pub at_past : (k : ℕ) → count ≤ k → slice_get (cut members count) k ≡ None
-  at_past k past = slice_get_past (cut members count) k (omega (arith, cut_length))
+  pub at_past : (k : ℕ) → count ≤ k → slice_get (split_evenly members count) k ≡ None
+  at_past k past = slice_get_past (split_evenly members count) k (omega (arith, cut_length))
 
-  cut_at : (k : ℕ) → k < count → get_or (cut members count) k [] ≡ slice_range members (committee_start (length members) count k) (committee_start (length members) count (k + 1))
-  unfolding cut
+  cut_at : (k : ℕ) → k < count → get_or (split_evenly members count) k [] ≡ slice_range members (committee_start (length members) count k) (committee_start (length members) count (k + 1))
+  unfolding split_evenly
   cut_at k less = get_or-map-range_with_len _ 0 count k k [] less (omega arith)
 
-  pub at_part : (k : ℕ) → k < count → slice_get (cut members count) k ≡ Some (slice_range members (committee_start (length members) count k) (committee_start (length members) count (k + 1)))
-  at_part k less = slice_get-get_or (cut members count) k [] (omega (arith, cut_length)) ∙ ap Some (cut_at k less)
+  pub at_part : (k : ℕ) → k < count → slice_get (split_evenly members count) k ≡ Some (slice_range members (committee_start (length members) count k) (committee_start (length members) count (k + 1)))
+  at_part k less = slice_get-get_or (split_evenly members count) k [] (omega (arith, cut_length)) ∙ ap Some (cut_at k less)
 
 -- an epoch has a committee
 pub some_committees : (preset : Preset) (active : ℕ) → IsPreset preset → 0 < committee_count_per_slot preset active * preset.slots_per_epoch

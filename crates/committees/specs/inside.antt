@@ -1,3 +1,3 @@
 -- Words of this crate's own contracts.
-pub mod Cut
+pub mod Split
 pub mod Passing

@@ -23,11 +23,11 @@ pub struct EpochCommittees {
 impl Model for EpochCommittees {
     ghost use Rattle.std.specs.Prelude.{◌≤◌, ◌^◌, length};
     ghost use Rattle.committees.specs.Committees.{Committees};
-    ghost use Rattle.committees.specs.inside.Cut.{cut_for};
+    ghost use Rattle.committees.specs.inside.Split.{split_committees};
 
     ghost Value = { Committees };
 
-    ghost view = { λ c. cut_for c.per_slot c.slots c.members.items };
+    ghost view = { λ c. split_committees c.per_slot c.slots c.members.items };
 
     ghost invariant = { λ c. (length c.members.items ≤ 2 ^ 40) × (1 ≤ c.per_slot) × (c.per_slot ≤ 64) × (1 ≤ c.slots) × (c.slots ≤ 32) };
 }

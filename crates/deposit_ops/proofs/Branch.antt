@@ -1,10 +1,10 @@
 -- A branch is climbed one level after another.
 use Rattle.std.proofs.Common.{◌≡◌, ℕ, ◌+◌, ◌/◌, ◌^◌, List, [], refl, sym, ap, ◌∙◌, add-one, get_or}
 use Rattle.std.proofs.Math.Nat.{div-div-eq-div-mul, pow-suc}
-use Rattle.spec_blocks.specs.IsValidMerkleBranch.{node_above, parent_of}
+use Rattle.spec_blocks.specs.IsValidMerkleBranch.{node_above, hash_with_sibling}
 
 -- one level more
-pub climbed : (leaf : List ℕ) (branch : List (List ℕ)) (level index : ℕ) → node_above leaf branch (level + 1) index ≡ parent_of (node_above leaf branch level index) (get_or branch level []) (index / 2 ^ level)
+pub climbed : (leaf : List ℕ) (branch : List (List ℕ)) (level index : ℕ) → node_above leaf branch (level + 1) index ≡ hash_with_sibling (node_above leaf branch level index) (get_or branch level []) (index / 2 ^ level)
 unfolding node_above
 climbed leaf branch level index = ap (λ n. node_above leaf branch n index) (add-one level)
 

@@ -20,7 +20,7 @@ fn effective_balance_of(state: &State, amount: u64) -> u64
 /// A validator whose effective balance is the deposit's amount in whole increments, up to the greatest one (beacon-chain.md,
 /// `get_validator_from_deposit`).
 #[tactic(auto, unfolding(spec_blocks::specs::GetValidatorFromDeposit::get_validator_from_deposit))]
-pub(crate) fn validator_of(state: &State, deposit: &Deposit) -> Validator
+pub(crate) fn get_validator_from_deposit(state: &State, deposit: &Deposit) -> Validator
     ensures { result ≡ get_validator_from_deposit state.now deposit.now }
 {
     Validator {

@@ -2,13 +2,13 @@
 
 ghost use Rattle.std.specs.Prelude.{◌≡◌, ◌+◌};
 ghost use Rattle.beacon_types.specs.Containers.{deposit_contract_tree_depth};
-ghost use Rattle.spec_blocks.specs.IsValidMerkleBranch.{is_valid_merkle_branch, node_above as node_of, parent_of as parent};
+ghost use Rattle.spec_blocks.specs.IsValidMerkleBranch.{is_valid_merkle_branch, node_above as node_of, hash_with_sibling as parent};
 
 use hash_tree::{Root, hash_pair};
 
 /// The hash of a node and its sibling, which stands left of it where the node's place in its level is odd.
-#[tactic(auto, unfolding(spec_blocks::specs::IsValidMerkleBranch::parent_of))]
-fn parent_of(value: &Root, sibling: &Root, place: u64) -> Root
+#[tactic(auto, unfolding(spec_blocks::specs::IsValidMerkleBranch::hash_with_sibling))]
+fn hash_with_sibling(value: &Root, sibling: &Root, place: u64) -> Root
     ensures { result ≡ parent value.now sibling.now place }
 {
     if place % 2 == 1 {
@@ -25,7 +25,7 @@ fn node_above(leaf: Root, branch: &[Root; 33], index: u64) -> Root
     let mut value = leaf;
     let mut place = index;
     for sibling in branch {
-        value = parent_of(&value, sibling, place);
+        value = hash_with_sibling(&value, sibling, place);
         place /= 2;
     }
     value

@@ -6,7 +6,7 @@ ghost use Rattle.spec_blocks.specs.ProcessDeposit.{process_deposit, credit_depos
 ghost use Rattle.deposit_ops.specs.Indexes.{Indexes, index_in};
 ghost use Rattle.deposit_ops.specs.inside.Branches.{leads_to_root};
 
-use crate::get_validator_from_deposit::validator_of;
+use crate::get_validator_from_deposit::get_validator_from_deposit;
 use crate::is_valid_merkle_branch::branch_holds;
 use crate::pubkey_index::PubkeyIndex;
 use balance_totals::balance_at;
@@ -50,7 +50,7 @@ fn with_validator(state: &State, deposit: &Deposit, next_index: u64) -> Result<S
 {
     let mut next = state.share()?;
     next.set_eth1_deposit_index(next_index);
-    let validator = validator_of(&next, deposit);
+    let validator = get_validator_from_deposit(&next, deposit);
     next.push_validators(validator)?;
     next.push_balances(deposit.content.amount)?;
     Ok(next)

@@ -11,7 +11,7 @@ use bc_words::Stop;
 use beacon_state::State;
 use std::alloc::Global;
 use validator_rewards::amounts::Amounts;
-use validator_rewards::get_base_reward::base_reward;
+use validator_rewards::get_base_reward::get_base_reward;
 use validator_rewards::stakes::Stake;
 
 /// The amounts of all validators, in order of index. The stakes and the divisor are the state's.
@@ -31,7 +31,7 @@ pub(crate) fn all_amounts<A: Amounts>(
 {
     let mut all = Vec::with_capacity(alloc, state.validators_len() as usize)?;
     for index in 0..state.validators_len() {
-        let base = base_reward(state, stakes, divisor, index);
+        let base = get_base_reward(state, stakes, divisor, index);
         let made = kept.amount(state, stakes, base, index);
         match push_made(&mut all, made) {
             Ok(()) => {}

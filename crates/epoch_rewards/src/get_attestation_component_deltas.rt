@@ -15,7 +15,7 @@ use spec_epochs::Deltas;
 use ssz_codec::Items;
 use std::alloc::Global;
 use validator_rewards::components::{Absence, Voters, weights_of};
-use validator_rewards::leak::in_leak;
+use validator_rewards::leak::is_in_inactivity_leak;
 use validator_rewards::stakes::Stake;
 
 /// The balance of the attesters, which is needed outside the leak alone. The stakes are the state's.
@@ -38,7 +38,7 @@ pub(crate) fn needed_balance(
 /// Rewards and penalties for a vote that those with a flag had right, the slashed aside (beacon-chain.md,
 /// `get_attestation_component_deltas`). The stakes are the state's.
 #[tactic(auto, unfolding(crate::specs::inside::Components::component_deltas, validator_rewards::specs::inside::Paid::weights_by, validator_rewards::specs::inside::Divisor::divisor_of), using(spec_epochs::proofs::Totals::least_total))]
-pub(crate) fn component_deltas(
+pub(crate) fn get_attestation_component_deltas(
     alloc: Global,
     state: &State,
     stakes: &[Stake],
@@ -48,7 +48,7 @@ pub(crate) fn component_deltas(
     ensures { Gives result (component_deltas state.now (flagged state.now flags.now)) }
 {
     let total = total_active(state, current_epoch(state))?;
-    let leak = in_leak(state)?;
+    let leak = is_in_inactivity_leak(state)?;
     let attesting = needed_balance(state, stakes, flags, leak)?;
     let weights = weights_of(state, leak, attesting, total);
     let divisor = Ok(isqrt(total));

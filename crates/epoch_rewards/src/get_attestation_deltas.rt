@@ -140,7 +140,7 @@ fn added_to(
 /// What each validator gains and loses by the previous epoch's attestations (beacon-chain.md, `get_attestation_deltas`). The
 /// committees are those of the previous epoch. Refused as an overflow exactly where a sum or product does not fit.
 #[tactic(auto, unfolding(spec_epochs::specs::GetAttestationDeltas::get_attestation_deltas, crate::specs::inside::Added::added_to, crate::specs::inside::Added::added))]
-pub fn attestation_deltas(
+pub fn get_attestation_deltas(
     alloc: Global,
     state: &State,
     previous: &EpochCommittees,

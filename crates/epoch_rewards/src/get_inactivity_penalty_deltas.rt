@@ -21,7 +21,7 @@ use ssz_codec::Items;
 use std::alloc::Global;
 use validator_rewards::get_base_reward::divisor;
 use validator_rewards::inactivity::Leak;
-use validator_rewards::leak::in_leak;
+use validator_rewards::leak::is_in_inactivity_leak;
 use validator_rewards::stakes::{Stake, stakes};
 
 /// What each validator loses, in Gwei, in order of index: nothing outside the leak.
@@ -54,7 +54,7 @@ fn leak_deltas(
     requires { stakes.now ≡ stakes_of state.now }
     ensures { Gives result (leak_deltas state.now (flagged state.now flags.now)) }
 {
-    let leak = in_leak(state)?;
+    let leak = is_in_inactivity_leak(state)?;
     let penalties = penalties_of(alloc, state, stakes, leak, flags)?;
     let rewards = zeros(alloc, state)?;
     Ok(Deltas {

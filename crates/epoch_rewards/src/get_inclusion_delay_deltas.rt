@@ -22,7 +22,7 @@ use spec_epochs::Deltas;
 use ssz_codec::Items;
 use std::alloc::Global;
 use validator_rewards::eligible::counted;
-use validator_rewards::get_base_reward::{base_reward, divisor};
+use validator_rewards::get_base_reward::{get_base_reward, divisor};
 use validator_rewards::inclusion::{Included, include};
 use validator_rewards::stakes::{Stake, stakes};
 
@@ -44,7 +44,7 @@ pub(crate) fn proposer_gains(
     for index in 0..state.validators_len() {
         match counted(state, stakes, flags, index) {
             Some(_) => {
-                let base = base_reward(state, stakes, divisor, index);
+                let base = get_base_reward(state, stakes, divisor, index);
                 match include(&mut gains, state, base, entries, index) {
                     Ok(()) => {}
                     Err(stop) => return Err(stop),

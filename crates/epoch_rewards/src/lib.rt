@@ -10,7 +10,7 @@ mod amounts;
 mod attested;
 mod attesting_balance;
 mod get_attestation_component_deltas;
-mod get_attestation_deltas;
+pub mod get_attestation_deltas;
 mod get_head_deltas;
 mod get_inactivity_penalty_deltas;
 mod get_inclusion_delay_deltas;
@@ -20,7 +20,6 @@ mod numbers;
 mod process_rewards_and_penalties;
 mod vote_deltas;
 
-pub use get_attestation_deltas::attestation_deltas;
 pub use get_head_deltas::head_deltas;
 pub use get_inactivity_penalty_deltas::inactivity_deltas;
 pub use get_inclusion_delay_deltas::inclusion_deltas;

@@ -24,7 +24,7 @@ use committees::EpochCommittees;
 use participation::{Inclusion, Vote};
 use std::alloc::Global;
 use validator_rewards::components::{Voters, weights_of};
-use validator_rewards::leak::in_leak;
+use validator_rewards::leak::is_in_inactivity_leak;
 use validator_rewards::paid::Paid;
 use validator_rewards::stakes::{Stake, stakes};
 
@@ -79,7 +79,7 @@ fn all_paid(
     ensures few { IfOk result (λ balances. length balances.items ≤ state.now.preset.validator_registry_limit) }
 {
     let total = total_active(state, current_epoch(state))?;
-    let leak = in_leak(state)?;
+    let leak = is_in_inactivity_leak(state)?;
     let source = needed_balance(state, stakes, sources, leak)?;
     let target = needed_balance(state, stakes, targets, leak)?;
     let head = needed_balance(state, stakes, heads, leak)?;

@@ -8,7 +8,7 @@ ghost use Rattle.spec_state.specs.Soundness.{IsSoundWithinEpoch};
 ghost use Rattle.epoch_rewards.specs.inside.Components.{vote_deltas};
 
 use crate::attested::previous_attesters;
-use crate::get_attestation_component_deltas::component_deltas;
+use crate::get_attestation_component_deltas::get_attestation_component_deltas;
 use bc_words::Stop;
 use beacon_state::State;
 use committees::EpochCommittees;
@@ -32,5 +32,5 @@ pub(crate) fn vote_deltas(
 {
     let flags = previous_attesters(alloc, state, previous, vote)?;
     let stakes = stakes(alloc, state)?;
-    component_deltas(alloc, state, &stakes, &flags)
+    get_attestation_component_deltas(alloc, state, &stakes, &flags)
 }

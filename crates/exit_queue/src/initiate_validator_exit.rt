@@ -5,7 +5,7 @@ ghost use Rattle.bc_words.specs.Outcome.{Changes, GivesExactly, checked_add};
 ghost use Rattle.spec_blocks.specs.InitiateValidatorExit.{initiate_validator_exit, exit_queue_epoch, exit_queue_churn};
 ghost use Rattle.exit_queue.specs.inside.Queue.{queue_end, later};
 
-use crate::compute_activation_exit_epoch::activation_exit_epoch;
+use crate::compute_activation_exit_epoch::compute_activation_exit_epoch;
 use crate::get_validator_churn_limit::churn_limit;
 use balance_totals::{current_epoch, validator_at};
 use bc_preset::Config;
@@ -84,7 +84,7 @@ pub fn exit_queue_churn(state: &State, epoch: u64) -> u64
 fn exit_queue_epoch(state: &State, config: &Config) -> Result<u64, Stop>
     ensures { GivesExactly result (exit_queue_epoch state.now config.now) }
 {
-    let earliest = activation_exit_epoch(state.preset(), current_epoch(state))?;
+    let earliest = compute_activation_exit_epoch(state.preset(), current_epoch(state))?;
     let epoch = queue_end(state, earliest);
     if exit_queue_churn(state, epoch) < churn_limit(state, config) {
         return Ok(epoch);

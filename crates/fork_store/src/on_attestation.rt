@@ -25,7 +25,7 @@ impl Store {
         from_block: bool,
     ) -> Result<(), StoreStop>
         ensures exact { StoreChanges result self.old.plain self.new.plain (event_of (on_attestation self.old.plain attestation.now from_block)) }
-        ensures unset { self.new.array.balances_set ≡ self.old.array.balances_set }
+        ensures balances_set_stays { self.new.array.balances_set ≡ self.old.array.balances_set }
     {
         on_attestation(
             alloc,

@@ -25,7 +25,7 @@ impl Store {
     ) -> Result<BlockIn, StoreStop>
         requires few { length self.old.plain.blocks < 2 ^ 32 - 1 }
         ensures exact { Accepts result self.old.plain self.new.plain (on_block self.old.plain block.now) }
-        ensures unset { self.new.plain.justified_checkpoint ≡ self.old.plain.justified_checkpoint → self.new.array.balances_set ≡ self.old.array.balances_set }
+        ensures balances_set_stays { self.new.plain.justified_checkpoint ≡ self.old.plain.justified_checkpoint → self.new.array.balances_set ≡ self.old.array.balances_set }
     {
         on_block(
             alloc,

@@ -15,7 +15,7 @@ impl Store {
     /// array is given no balances.
     pub fn on_tick(&mut self, time: u64) -> Result<(), Refusal>
         ensures exact { ChangesOrRefuses result self.old.plain self.new.plain (on_tick self.old.plain time) }
-        ensures unset { self.new.plain.justified_checkpoint ≡ self.old.plain.justified_checkpoint → self.new.array.balances_set ≡ self.old.array.balances_set }
+        ensures balances_set_stays { self.new.plain.justified_checkpoint ≡ self.old.plain.justified_checkpoint → self.new.array.balances_set ≡ self.old.array.balances_set }
     {
         on_tick(&mut self.fields, &mut self.array, &mut self.ready, time)
     }

@@ -3,7 +3,7 @@ use Rattle.std.proofs.Common.{ℕ, zero, suc, ◌+◌, ◌-◌, ◌*◌, ◌/◌
 use Rattle.std.specs.List.{flat_map}
 use Rattle.std.proofs.lemmas.List.{length-take, length-drop, drop-drop, take-take, drop-take, take_at, drop_at}
 use Rattle.std.proofs.Math.Seq.{take-add}
-use Rattle.hash_tree.specs.Merkle.{padded_chunk, chunks_of, byte_chunks, u64_bytes, u64s_bytes}
+use Rattle.hash_tree.specs.Merkle.{padded_chunk, chunks_of, byte_chunks, uint_to_bytes, uints_to_bytes}
 
 pub chunk_count : (count : ℕ) (bytes : List ℕ) → length (chunks_of count bytes) ≡ count
 unfolding chunks_of
@@ -47,10 +47,10 @@ first-chunks_of (suc count) bytes d h = refl
 pub first-byte_chunks : (bytes start d : List ℕ) → 0 < length bytes → start ≡ take 32 bytes → padded_chunk start ≡ get_or (byte_chunks bytes) 0 d
 first-byte_chunks bytes start d h e = ap padded_chunk e ∙ sym (first-chunks_of ((length bytes + 31) / 32) bytes d (omega arith))
 
-pub length-u64s_bytes : (numbers : List ℕ) → length (u64s_bytes numbers) ≡ 8 * length numbers
-unfolding u64s_bytes u64_bytes
-length-u64s_bytes [] = refl
-length-u64s_bytes (n ∷ numbers) = omega (arith, length-u64s_bytes numbers)
+pub length-uints_to_bytes : (numbers : List ℕ) → length (uints_to_bytes numbers) ≡ 8 * length numbers
+unfolding uints_to_bytes uint_to_bytes
+length-uints_to_bytes [] = refl
+length-uints_to_bytes (n ∷ numbers) = omega (arith, length-uints_to_bytes numbers)
 
 drop_nil : (k : ℕ) → drop {A = ℕ} k [] ≡ []
 drop_nil zero = refl
@@ -60,40 +60,40 @@ take_nil : (k : ℕ) → take {A = ℕ} k [] ≡ []
 take_nil zero = refl
 take_nil (suc k) = refl
 
-length-u64_bytes : (n : ℕ) → length (u64_bytes n) ≡ 8
-unfolding u64_bytes
-length-u64_bytes n = refl
+length-uint_to_bytes : (n : ℕ) → length (uint_to_bytes n) ≡ 8
+unfolding uint_to_bytes
+length-uint_to_bytes n = refl
 
-pub drop-u64s_bytes : (at k : ℕ) (numbers : List ℕ) → k ≡ 8 * at → u64s_bytes (drop at numbers) ≡ drop k (u64s_bytes numbers)
-unfolding u64s_bytes
-drop-u64s_bytes zero k numbers e = ap (λ j. drop j (flat_map u64_bytes numbers)) (let z : 0 ≡ k = omega arith in z)
-drop-u64s_bytes (suc at) k [] e = sym (drop_nil k)
-drop-u64s_bytes (suc at) k (n ∷ numbers) e =
-    let later = flat_map u64_bytes numbers in
-    drop-u64s_bytes at (8 * at) numbers refl
-    ∙ ap (λ t. drop (8 * at) t) (sym (drop_at (u64_bytes n) later 8 (length-u64_bytes n)))
-    ∙ drop-drop (8 * at) 8 (u64_bytes n ++ later)
-    ∙ ap (λ j. drop j (u64_bytes n ++ later)) (omega arith)
+pub drop-uints_to_bytes : (at k : ℕ) (numbers : List ℕ) → k ≡ 8 * at → uints_to_bytes (drop at numbers) ≡ drop k (uints_to_bytes numbers)
+unfolding uints_to_bytes
+drop-uints_to_bytes zero k numbers e = ap (λ j. drop j (flat_map uint_to_bytes numbers)) (let z : 0 ≡ k = omega arith in z)
+drop-uints_to_bytes (suc at) k [] e = sym (drop_nil k)
+drop-uints_to_bytes (suc at) k (n ∷ numbers) e =
+    let later = flat_map uint_to_bytes numbers in
+    drop-uints_to_bytes at (8 * at) numbers refl
+    ∙ ap (λ t. drop (8 * at) t) (sym (drop_at (uint_to_bytes n) later 8 (length-uint_to_bytes n)))
+    ∙ drop-drop (8 * at) 8 (uint_to_bytes n ++ later)
+    ∙ ap (λ j. drop j (uint_to_bytes n ++ later)) (omega arith)
 
-pub take-u64s_bytes : (at k : ℕ) (numbers : List ℕ) → k ≡ 8 * at → u64s_bytes (take at numbers) ≡ take k (u64s_bytes numbers)
-unfolding u64s_bytes
-take-u64s_bytes zero k numbers e = ap (λ j. take j (flat_map u64_bytes numbers)) (let z : 0 ≡ k = omega arith in z)
-take-u64s_bytes (suc at) k [] e = sym (take_nil k)
-take-u64s_bytes (suc at) k (n ∷ numbers) e =
-    let later = flat_map u64_bytes numbers in
-    let more : take (8 + 8 * at) (u64_bytes n ++ later) ≡ take 8 (u64_bytes n ++ later) ++ take (8 * at) (drop 8 (u64_bytes n ++ later)) = take-add 8 (8 * at) (u64_bytes n ++ later) in
-    let front = take_at (u64_bytes n) later 8 (length-u64_bytes n) in
-    let back = drop_at (u64_bytes n) later 8 (length-u64_bytes n) in
-    let all : take k (u64_bytes n ++ later) ≡ u64_bytes n ++ take (8 * at) later =
-    ap (λ j. take j (u64_bytes n ++ later)) (omega arith) ∙ more ∙ ap (λ t. t ++ take (8 * at) (drop 8 (u64_bytes n ++ later))) front ∙ ap (λ t. u64_bytes n ++ take (8 * at) t) back in
-    ap (λ t. u64_bytes n ++ t) (take-u64s_bytes at (8 * at) numbers refl) ∙ sym all
+pub take-uints_to_bytes : (at k : ℕ) (numbers : List ℕ) → k ≡ 8 * at → uints_to_bytes (take at numbers) ≡ take k (uints_to_bytes numbers)
+unfolding uints_to_bytes
+take-uints_to_bytes zero k numbers e = ap (λ j. take j (flat_map uint_to_bytes numbers)) (let z : 0 ≡ k = omega arith in z)
+take-uints_to_bytes (suc at) k [] e = sym (take_nil k)
+take-uints_to_bytes (suc at) k (n ∷ numbers) e =
+    let later = flat_map uint_to_bytes numbers in
+    let more : take (8 + 8 * at) (uint_to_bytes n ++ later) ≡ take 8 (uint_to_bytes n ++ later) ++ take (8 * at) (drop 8 (uint_to_bytes n ++ later)) = take-add 8 (8 * at) (uint_to_bytes n ++ later) in
+    let front = take_at (uint_to_bytes n) later 8 (length-uint_to_bytes n) in
+    let back = drop_at (uint_to_bytes n) later 8 (length-uint_to_bytes n) in
+    let all : take k (uint_to_bytes n ++ later) ≡ uint_to_bytes n ++ take (8 * at) later =
+    ap (λ j. take j (uint_to_bytes n ++ later)) (omega arith) ∙ more ∙ ap (λ t. t ++ take (8 * at) (drop 8 (uint_to_bytes n ++ later))) front ∙ ap (λ t. uint_to_bytes n ++ take (8 * at) t) back in
+    ap (λ t. uint_to_bytes n ++ t) (take-uints_to_bytes at (8 * at) numbers refl) ∙ sym all
 
-pub first_numbers : (numbers : List ℕ) → 0 < length numbers → u64_bytes (get_or numbers 0 0) ++ (u64_bytes (get_or numbers 1 0) ++ (u64_bytes (get_or numbers 2 0) ++ u64_bytes (get_or numbers 3 0))) ≡ padded_chunk (take 32 (u64s_bytes numbers))
-unfolding u64s_bytes u64_bytes padded_chunk
+pub first_numbers : (numbers : List ℕ) → 0 < length numbers → uint_to_bytes (get_or numbers 0 0) ++ (uint_to_bytes (get_or numbers 1 0) ++ (uint_to_bytes (get_or numbers 2 0) ++ uint_to_bytes (get_or numbers 3 0))) ≡ padded_chunk (take 32 (uints_to_bytes numbers))
+unfolding uints_to_bytes uint_to_bytes padded_chunk
 first_numbers [] h = absurd (omega arith)
 first_numbers (a ∷ []) h = refl
 first_numbers (a ∷ b ∷ []) h = refl
 first_numbers (a ∷ b ∷ c ∷ []) h = refl
 first_numbers (a ∷ b ∷ c ∷ d ∷ numbers) h = refl
 
-pub ruleset number_chunk_facts = (chunk_count, length-u64s_bytes)
+pub ruleset number_chunk_facts = (chunk_count, length-uints_to_bytes)

@@ -10,13 +10,13 @@ unfoldable pub hash : List ℕ → List ℕ
 hash bytes = sha256 bytes
 
 -- the chunk of 32 zero bytes
-unfoldable pub zero_chunk : List ℕ
-zero_chunk = replicate 32 0
+unfoldable pub zero_root : List ℕ
+zero_root = replicate 32 0
 
 -- the root of the chunks in a tree of this depth, that is with 2 ^ depth leaves, where a leaf that no chunk fills is
 -- the zero chunk
 unfoldable pub merkle_root : ℕ → List (List ℕ) → List ℕ
-merkle_root zero [] = zero_chunk
+merkle_root zero [] = zero_root
 merkle_root zero (chunk ∷ chunks) = chunk
 merkle_root (suc depth) chunks =
     hash (merkle_root depth (take (2 ^ depth) chunks) ++ merkle_root depth (drop (2 ^ depth) chunks))
@@ -44,12 +44,12 @@ chunks_of zero bytes = []
 chunks_of (suc count) bytes = padded_chunk (take 32 bytes) ∷ chunks_of count (drop 32 bytes)
 
 -- the bytes of a number of 64 bits, low byte first
-unfoldable pub u64_bytes : ℕ → List ℕ
-u64_bytes n = to_le_bytes w64 n
+unfoldable pub uint_to_bytes : ℕ → List ℕ
+uint_to_bytes n = to_le_bytes w64 n
 
 -- the bytes of numbers of 64 bits, one after another
-unfoldable pub u64s_bytes : List ℕ → List ℕ
-u64s_bytes numbers = flat_map u64_bytes numbers
+unfoldable pub uints_to_bytes : List ℕ → List ℕ
+uints_to_bytes numbers = flat_map uint_to_bytes numbers
 
 -- chunk_count: how many chunks so many bytes need
 abbrev pub chunk_count : ℕ → ℕ
@@ -74,11 +74,11 @@ bool_bytes b = cond b 1 0 ∷ []
 
 -- pack of numbers of 64 bits, four to a chunk
 abbrev pub u64_chunks : List ℕ → List (List ℕ)
-u64_chunks numbers = byte_chunks (u64s_bytes numbers)
+u64_chunks numbers = byte_chunks (uints_to_bytes numbers)
 
 -- a length as 32 bytes, low byte first
 unfoldable pub length_chunk : ℕ → List ℕ
-length_chunk n = u64_bytes n ++ replicate 24 0
+length_chunk n = uint_to_bytes n ++ replicate 24 0
 
 -- mix_in_length
 unfoldable pub mix_in_length : List ℕ → ℕ → List ℕ

@@ -3,7 +3,7 @@
 //! Basic values have theirs here; the containers above implement `Leaf` too, and `rows` and shared trees take the roots.
 
 ghost use Rattle.std.specs.Prelude.{◌≡◌, ℕ, List, [], ◌∷◌, length, map};
-ghost use Rattle.hash_tree.specs.Merkle.{padded_chunk, u64_bytes, bool_bytes, bits_number, byte_chunks, chunk_count, bit_chunk_count, merkleize};
+ghost use Rattle.hash_tree.specs.Merkle.{padded_chunk, uint_to_bytes, bool_bytes, bits_number, byte_chunks, chunk_count, bit_chunk_count, merkleize};
 
 use crate::Root;
 use crate::pair::chunk_root;
@@ -31,9 +31,9 @@ pub trait Leaf {
 }
 
 impl Leaf for u64 {
-    ghost root_of = { λ n. padded_chunk (u64_bytes n) };
+    ghost root_of = { λ n. padded_chunk (uint_to_bytes n) };
 
-    #[tactic(auto, unfolding(crate::specs::Merkle::u64_bytes))]
+    #[tactic(auto, unfolding(crate::specs::Merkle::uint_to_bytes))]
     fn root(&self) -> Root {
         chunk_root(&self.to_le_bytes())
     }

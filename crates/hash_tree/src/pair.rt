@@ -33,7 +33,7 @@ pub fn chunk_root(bytes: &[u8]) -> Root
 
 /// The root of a list, from the root of its chunks and the number of its items (simple-serialize.md,
 /// "mix_in_length").
-#[tactic(auto, unfolding(crate::specs::Merkle::mix_in_length, crate::specs::Merkle::length_chunk, crate::specs::Merkle::u64_bytes))]
+#[tactic(auto, unfolding(crate::specs::Merkle::mix_in_length, crate::specs::Merkle::length_chunk, crate::specs::Merkle::uint_to_bytes))]
 pub fn mix_in_length(root: &Root, length: u64) -> Root
     ensures { result ≡ mixed_in root.now length }
 {

@@ -3,7 +3,7 @@
 //! They come from the calls of `roots`, and `tree` cuts them down to single chunks.
 
 ghost use Rattle.std.specs.Prelude.{◌≡◌, ℕ, ◌-◌, ◌^◌, ◌<◌, ◌≤◌, List, ◌++◌, length, get_or, take, drop, map};
-ghost use Rattle.hash_tree.specs.Merkle.{byte_chunks, u64_bytes, u64s_bytes};
+ghost use Rattle.hash_tree.specs.Merkle.{byte_chunks, uint_to_bytes, uints_to_bytes};
 
 use crate::Root;
 use crate::leaf::Leaf;
@@ -27,7 +27,7 @@ impl<'a, T: Leaf> Row for LeafRow<'a, T> {
         self.items[0].root()
     }
 
-    fn cut(&self, at: usize) -> (Self, Self) {
+    fn split(&self, at: usize) -> (Self, Self) {
         let (front, back) = self.items.split_at(at);
         (LeafRow { items: front }, LeafRow { items: back })
     }
@@ -58,7 +58,7 @@ impl<'a> Row for ByteRow<'a> {
         chunk_root(&self.bytes[..32])
     }
 
-    fn cut(&self, at: usize) -> (Self, Self) {
+    fn split(&self, at: usize) -> (Self, Self) {
         let (front, back) = self.bytes.split_at(at * 32);
         (ByteRow { bytes: front }, ByteRow { bytes: back })
     }
@@ -71,7 +71,7 @@ pub struct NumberRow<'a> {
 }
 
 impl<'a> Row for NumberRow<'a> {
-    ghost chunks = { λ row. byte_chunks (u64s_bytes row.numbers.now) };
+    ghost chunks = { λ row. byte_chunks (uints_to_bytes row.numbers.now) };
 
     #[tactic(auto, using(crate::proofs::Chunks::number_chunk_facts))]
     fn count(&self) -> usize {
@@ -87,7 +87,7 @@ impl<'a> Row for NumberRow<'a> {
         )
     }
 
-    fn cut(&self, at: usize) -> (Self, Self) {
+    fn split(&self, at: usize) -> (Self, Self) {
         let (front, back) = self.numbers.split_at(at * 4);
         (NumberRow { numbers: front }, NumberRow { numbers: back })
     }
@@ -101,9 +101,9 @@ fn number_at(numbers: &[u64], place: usize) -> u64
 }
 
 /// The chunk of four numbers.
-#[tactic(auto, unfolding(crate::specs::Merkle::u64_bytes))]
+#[tactic(auto, unfolding(crate::specs::Merkle::uint_to_bytes))]
 fn four_numbers(a: u64, b: u64, c: u64, d: u64) -> Root
-    ensures { result ≡ u64_bytes a ++ (u64_bytes b ++ (u64_bytes c ++ u64_bytes d)) }
+    ensures { result ≡ uint_to_bytes a ++ (uint_to_bytes b ++ (uint_to_bytes c ++ uint_to_bytes d)) }
 {
     let mut chunk = [0; 32];
     chunk[..8].copy_from_slice(&a.to_le_bytes());

@@ -25,7 +25,7 @@ pub trait Row: Copy {
         ensures { result ≡ get_or (chunks self.now) 0 result };
 
     /// The chunks before a place, and those from there on.
-    fn cut(&self, at: usize) -> (Self, Self)
+    fn split(&self, at: usize) -> (Self, Self)
         requires { at < length (chunks self.now) }
         ensures front { chunks result.0 ≡ take at (chunks self.now) }
         ensures back { chunks result.1 ≡ drop at (chunks self.now) };
@@ -36,7 +36,7 @@ pub trait Row: Copy {
         ensures { out.new ≡ chunks self.now }
     {
         'chunks: for i in 0..out.len() {
-            out[i] = self.cut(i).1.first();
+            out[i] = self.split(i).1.first();
         }
     }
 }
@@ -92,6 +92,6 @@ pub fn merkle_of<R: Row>(row: &R, depth: u32) -> Root
     if row.count() <= half {
         return hash_pair(&merkle_of(row, depth - 1), &zero_hash(depth - 1));
     }
-    let (left, right) = row.cut(half);
+    let (left, right) = row.split(half);
     hash_pair(&merkle_of(&left, depth - 1), &merkle_of(&right, depth - 1))
 }

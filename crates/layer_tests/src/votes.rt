@@ -110,7 +110,7 @@ fn steps_of_balances<L: Ledger>(array: &mut BlockArray, list: Vec<u64>, steps: &
 }
 
 /// The head, and the weight of a node, once they are made.
-fn applied<L: Ledger>(array: &mut BlockArray, node: u32, steps: &mut Steps<L>) -> Made
+fn apply_and_look<L: Ledger>(array: &mut BlockArray, node: u32, steps: &mut Steps<L>) -> Made
     requires { node < length array.old.nodes }
     ensures { length array.new.nodes ≡ length array.old.nodes }
 {
@@ -130,7 +130,7 @@ fn voted<L: Ledger>(
     ensures { length array.new.nodes ≡ length array.old.nodes }
 {
     vote(array, vote_of.0, vote_of.1, vote_of.2)?;
-    Ok(applied(array, node, steps))
+    Ok(apply_and_look(array, node, steps))
 }
 
 /// Head and weight where each of 64 validators has this balance.
@@ -149,7 +149,7 @@ fn weighed<L: Ledger>(
         64,
         64 * u128::from(each),
     );
-    Ok(applied(array, node, steps))
+    Ok(apply_and_look(array, node, steps))
 }
 
 /// Three votes in a chain, balances, votes of the same and of a later epoch, other balances, and then a justified checkpoint
@@ -170,7 +170,7 @@ fn chain_rows<L: Ledger>(
     let lighter = weighed(alloc, array, 7, 3, steps)?;
     let facts = at_genesis();
     array.set_checkpoints(12, facts.justified, facts.finalized);
-    let behind = applied(array, 3, steps);
+    let behind = apply_and_look(array, 3, steps);
     Ok([unweighed, balances, equal, later, lighter, behind])
 }
 
@@ -186,9 +186,9 @@ fn fork_rows<L: Ledger>(
     let second = voted(array, (3, 2, 1), 2, steps)?;
     let first = voted(array, (3, 1, 2), 2, steps)?;
     array.boost(Some(2));
-    let boosted = applied(array, 2, steps);
+    let boosted = apply_and_look(array, 2, steps);
     array.boost(None);
-    Ok([tie, second, first, boosted, applied(array, 2, steps)])
+    Ok([tie, second, first, boosted, apply_and_look(array, 2, steps)])
 }
 
 /// The rows of a chain.

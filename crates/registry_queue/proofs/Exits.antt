@@ -18,7 +18,7 @@ use Rattle.spec_blocks.proofs.Sound.{indices_of_changed}
 use Rattle.spec_epochs.specs.ProcessRegistryUpdates.{with_eligibility}
 use Rattle.exit_queue.specs.inside.Queue.{queue_end}
 use Rattle.registry_queue.specs.declared.ejections.ExitQueue.{ExitQueue}
-use Rattle.registry_queue.specs.inside.Exits.{earliest_exit, next_exit, lengthened, joined, IsExitQueue}
+use Rattle.registry_queue.specs.inside.Exits.{earliest_exit, next_exit, lengthened, with_exit, IsExitQueue}
 
 abbrev validator_or : Validator → Option Validator → Validator
 validator_or v None = v
@@ -268,10 +268,10 @@ module _ (state : PlainState) (config : ConfigValues) (queue : ExitQueue) (index
         limit = is.limit ∙ sym (limit_stays state config index v leaving here (stays_active unset (omega (arith, earliest, now, is.epoch, later)) (omega (arith, now, most))));
       }
 
-  pub exited : slice_get state.validators index ≡ Some v → v.exit_epoch ≡ far_future_epoch → next_exit queue ≡ done at → IsExitQueue state config queue → IsExitQueue behind config (joined queue at)
-  unfolding joined lengthened
+  pub exited : slice_get state.validators index ≡ Some v → v.exit_epoch ≡ far_future_epoch → next_exit queue ≡ done at → IsExitQueue state config queue → IsExitQueue behind config (with_exit queue at)
+  unfolding with_exit lengthened
   exited here unset next is =
-      elim (chosen (at == far_future_epoch) queue (lengthened queue at) (joined queue at) refl) [
+      elim (chosen (at == far_future_epoch) queue (lengthened queue at) (with_exit queue at) refl) [
         | inl far ↦ subst (IsExitQueue behind config) far.1 (kept state config queue index v leaving here (eqb-true at far_future_epoch far.0 ∙ sym unset) refl is)
         | inr near ↦
             let set = not_far at near.0 in

@@ -12,7 +12,7 @@ ghost use Rattle.spec_blocks.specs.Checks.{each_of};
 ghost use Rattle.spec_blocks.specs.InitiateValidatorExit.{initiate_validator_exit};
 ghost use Rattle.spec_epochs.specs.Each.{validator_indices};
 ghost use Rattle.spec_epochs.specs.ProcessRegistryUpdates.{with_eligibility, eligibility_and_ejection};
-ghost use Rattle.registry_queue.specs.inside.Exits.{earliest_exit, next_exit, joined, IsExitQueue};
+ghost use Rattle.registry_queue.specs.inside.Exits.{earliest_exit, next_exit, with_exit, IsExitQueue};
 
 use balance_totals::{current_epoch, is_active_validator, validator_at};
 use bc_preset::constants::FAR_FUTURE_EPOCH;
@@ -67,10 +67,10 @@ fn next_exit(queue: ExitQueue) -> Result<u64, Stop>
 }
 
 /// The queue with one more, who leaves at an epoch.
-#[tactic(auto, unfolding(crate::specs::inside::Exits::joined, crate::specs::inside::Exits::lengthened))]
-fn joined(queue: ExitQueue, exit_epoch: u64) -> ExitQueue
+#[tactic(auto, unfolding(crate::specs::inside::Exits::with_exit, crate::specs::inside::Exits::lengthened))]
+fn with_exit(queue: ExitQueue, exit_epoch: u64) -> ExitQueue
     requires { queue.churn < 2 ^ 60 }
-    ensures { result ≡ joined queue exit_epoch }
+    ensures { result ≡ with_exit queue exit_epoch }
 {
     if exit_epoch == FAR_FUTURE_EPOCH {
         return queue;
@@ -114,7 +114,7 @@ fn initiate_exit(
         ..validator
     };
     state.set_validators_at(index, leaving)?;
-    *queue = joined(*queue, exit_epoch);
+    *queue = with_exit(*queue, exit_epoch);
     Ok(())
 }
 

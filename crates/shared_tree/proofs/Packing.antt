@@ -3,8 +3,8 @@ use Rattle.std.proofs.Common.{◌≡◌, ℕ, zero, suc, ◌+◌, ◌*◌, ◌/�
 use Rattle.std.specs.Prelude.{slice_get, slice_set, Option, Some, None}
 use Rattle.std.specs.List.{AllByRecursion}
 use Rattle.std.proofs.lemmas.List.{append-nil, drop-drop, drop_all, append_assoc}
-use Rattle.hash_tree.specs.Merkle.{merkle_root, u64_chunks, u64_bytes, u64s_bytes, chunks_of, padded_chunk}
-use Rattle.hash_tree.proofs.Chunks.{length-u64s_bytes}
+use Rattle.hash_tree.specs.Merkle.{merkle_root, u64_chunks, uint_to_bytes, uints_to_bytes, chunks_of, padded_chunk}
+use Rattle.hash_tree.proofs.Chunks.{length-uints_to_bytes}
 use Rattle.shared_tree.specs.declared.four.Four.{Four}
 use Rattle.shared_tree.specs.inside.Fours.{four, first_four, packed, numbers_in}
 use Rattle.tree_nodes.specs.inside.Puts.{put_at}
@@ -119,15 +119,15 @@ chunks_after m n e = omega arith
 
 -- and those of the chunks are the leaves of the numbers' tree
 pub packed_roots : (xs : List ℕ) → map (λ f. merkle_root 0 (u64_chunks f.numbers)) (packed xs) ≡ u64_chunks xs
-unfolding packed merkle_root u64s_bytes u64_bytes chunks_of padded_chunk
+unfolding packed merkle_root uints_to_bytes uint_to_bytes chunks_of padded_chunk
 packed_roots [] = refl
 packed_roots (a ∷ []) = refl
 packed_roots (a ∷ b ∷ []) = refl
 packed_roots (a ∷ b ∷ c ∷ []) = refl
 packed_roots (a ∷ b ∷ c ∷ d ∷ xs) =
-    let long : length (u64s_bytes (a ∷ b ∷ c ∷ d ∷ xs)) ≡ 32 + length (u64s_bytes xs) = omega (arith, length-u64s_bytes (a ∷ b ∷ c ∷ d ∷ xs), length-u64s_bytes xs) in
+    let long : length (uints_to_bytes (a ∷ b ∷ c ∷ d ∷ xs)) ≡ 32 + length (uints_to_bytes xs) = omega (arith, length-uints_to_bytes (a ∷ b ∷ c ∷ d ∷ xs), length-uints_to_bytes xs) in
     ap (λ (r : List (List ℕ)). merkle_root 0 (u64_chunks (a ∷ b ∷ c ∷ d ∷ [])) ∷ r) (packed_roots xs)
-    ∙ sym (ap (λ (k : ℕ). chunks_of k (u64s_bytes (a ∷ b ∷ c ∷ d ∷ xs))) (chunks_after (length (u64s_bytes (a ∷ b ∷ c ∷ d ∷ xs))) (length (u64s_bytes xs)) long))
+    ∙ sym (ap (λ (k : ℕ). chunks_of k (uints_to_bytes (a ∷ b ∷ c ∷ d ∷ xs))) (chunks_after (length (uints_to_bytes (a ∷ b ∷ c ∷ d ∷ xs))) (length (uints_to_bytes xs)) long))
 
 pub packed_more : (xs : List ℕ) (k : ℕ) (front : List Four) → 4 * k < length xs → front ++ packed (drop (4 * k) xs) ≡ packed xs → (front ++ first_four (drop (4 * k) xs) ∷ []) ++ packed (drop (4 * (k + 1)) xs) ≡ packed xs
 packed_more xs k front more so_far =

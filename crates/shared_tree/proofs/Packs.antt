@@ -1,7 +1,7 @@
 -- What a list of numbers keeps after a change.
 use Rattle.std.proofs.Common.{◌≡◌, ℕ, ◌+◌, ◌<◌, ◌≤◌, ◌^◌, List, length, map, max, sym, ap, subst, ◌∙◌, arith}
 use Rattle.std.specs.List.{AllByRecursion}
-use Rattle.hash_tree.specs.Merkle.{merkle_root, merkleize, mix_in_length, depth_of, u64_chunks, u64s_bytes}
+use Rattle.hash_tree.specs.Merkle.{merkle_root, merkleize, mix_in_length, depth_of, u64_chunks, uints_to_bytes}
 use Rattle.ssz_codec.specs.Basic.{uint64}
 use Rattle.ssz_codec.specs.Lists.{leaf_count, list_codec, vector_codec}
 use Rattle.shared_tree.specs.declared.four.Four.{Four}
@@ -14,7 +14,7 @@ use Rattle.shared_tree.proofs.Packing.{unpacked, packed_roots, put_below}
 
 -- the root of numbers in a tree of their chunks
 pub numbers_top : (tree : ℕ × List Four) (items : List ℕ) (limit depth : ℕ) (top : List ℕ) → tree.1 ≡ packed items → tree.0 ≡ depth_of (leaf_count uint64 limit) → top ≡ merkle_root tree.0 (map (λ f. merkle_root 0 (u64_chunks f.numbers)) tree.1) → top ≡ (vector_codec uint64 limit).hash_tree_root items
-unfolding merkleize u64s_bytes
+unfolding merkleize uints_to_bytes
 numbers_top tree items limit depth top is deep top_is =
     top_is
     ∙ (ap (λ (fs : List Four). merkle_root tree.0 (map (λ f. merkle_root 0 (u64_chunks f.numbers)) fs)) is

@@ -2,7 +2,7 @@
 
 ghost use Rattle.std.specs.Prelude.{◌≡◌, ℕ, ◌+◌, ◌*◌, ◌<◌, ◌≤◌, ◌^◌, List, length, slice_index, drop, IfSome, IsTrue};
 ghost use Rattle.shuffling.specs.inside.Pass.{by_source, Passed};
-ghost use Rattle.shuffling.specs.inside.Planes.{with_above, joined};
+ghost use Rattle.shuffling.specs.inside.Planes.{with_above, from_planes};
 
 use crate::narrow::swap_planes;
 use std::alloc::Global;
@@ -24,7 +24,7 @@ pub struct Planes {
 impl Model for Planes {
     ghost Value = { List ℕ };
 
-    ghost view = { λ s. joined s.low.items (drop 2048 s.middle.items) s.high.items };
+    ghost view = { λ s. from_planes s.low.items (drop 2048 s.middle.items) s.high.items };
 
     ghost invariant = { λ s. (length s.middle.items ≡ 2048 + length s.low.items) × (length s.low.items ≡ length s.high.items) };
 }

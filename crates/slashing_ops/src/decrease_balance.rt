@@ -9,7 +9,7 @@ use beacon_state::State;
 
 /// The balance of a validator falls, to 0 where it is less than the difference. After a stop the state is as before.
 #[tactic(auto, unfolding(spec_blocks::specs::DecreaseBalance::decrease_balance))]
-pub(crate) fn decrease_balance_of(state: &mut State, index: u64, delta: u64) -> Result<(), Stop>
+pub(crate) fn decrease_balance(state: &mut State, index: u64, delta: u64) -> Result<(), Stop>
     ensures { Changes result state.old state.new (decrease_balance state.old index delta) }
 {
     let balance = balance_at(state, index)?;

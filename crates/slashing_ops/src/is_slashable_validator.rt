@@ -7,7 +7,7 @@ use beacon_types::Validator;
 
 /// Whether the validator may be slashed at the epoch: it is not slashed, was activated, and its balance can't be withdrawn.
 #[tactic(auto, unfolding(spec_state::specs::Predicates::is_slashable_validator))]
-pub(crate) fn is_slashable(validator: &Validator, epoch: u64) -> bool
+pub(crate) fn is_slashable_validator(validator: &Validator, epoch: u64) -> bool
     ensures { result ≡ is_slashable_validator validator.now epoch }
 {
     !validator.slashed

@@ -7,8 +7,8 @@ ghost use Rattle.spec_blocks.specs.Checks.{each_of};
 ghost use Rattle.spec_blocks.specs.ProcessAttesterSlashing.{in_both, slash_slashable, process_attester_slashing};
 ghost use Rattle.slashing_ops.specs.inside.Slashed.{slashed, slash_in_both};
 
-use crate::is_slashable_validator::is_slashable;
-use crate::is_valid_indexed_attestation::check_indexed_attestation;
+use crate::is_slashable_validator::is_slashable_validator;
+use crate::is_valid_indexed_attestation::is_valid_indexed_attestation;
 use crate::slash_validator::slash_in_place;
 use balance_totals::{current_epoch, validator_at};
 use bc_preset::Config;
@@ -41,7 +41,7 @@ fn slash_slashable(
     ensures { Moves result (slashed state.new slashed_any.new) (slash_slashable proposer config.now (slashed state.old slashed_any.old) index) }
 {
     let validator = validator_at(state, index)?;
-    if is_slashable(&validator, current_epoch(state)) {
+    if is_slashable_validator(&validator, current_epoch(state)) {
         slash_in_place(state, index, proposer, config)?;
         *slashed_any = true;
     }
@@ -113,8 +113,8 @@ pub fn process_attester_slashing(
     if !is_slashable_data(&attestation_1.content, &attestation_2.content) {
         return Err(Stop::Refused(Refusal::AsData));
     }
-    check_indexed_attestation(state, attestation_1)?;
-    check_indexed_attestation(state, attestation_2)?;
+    is_valid_indexed_attestation(state, attestation_1)?;
+    is_valid_indexed_attestation(state, attestation_2)?;
     slash_in_both(
         state,
         attestation_1.attesting_indices.as_slice(),

@@ -6,7 +6,7 @@ ghost use Rattle.bc_words.specs.declared.refusal.Refusal.TheVariants.{PsSame};
 ghost use Rattle.spec_blocks.specs.Checks.{check};
 ghost use Rattle.spec_blocks.specs.ProcessProposerSlashing.{same_header, process_proposer_slashing};
 
-use crate::is_slashable_validator::is_slashable;
+use crate::is_slashable_validator::is_slashable_validator;
 use crate::slash_validator::slash;
 use balance_totals::{current_epoch, validator_at};
 use bc_preset::Config;
@@ -50,7 +50,7 @@ pub fn process_proposer_slashing(
     check_differ(header_1, header_2)?;
     let index = header_1.proposer_index;
     let validator = validator_at(state, index)?;
-    if !is_slashable(&validator, current_epoch(state)) {
+    if !is_slashable_validator(&validator, current_epoch(state)) {
         return Err(Stop::Refused(Refusal::NotSlashable));
     }
     slash(state, index, proposer, config)

@@ -5,8 +5,8 @@ ghost use Rattle.bc_words.specs.Outcome.{Changes, Moves};
 ghost use Rattle.spec_blocks.specs.SlashValidator.{mark_slashed, slash_validator};
 ghost use Rattle.slashing_ops.specs.inside.Paid.{paid};
 
-use crate::decrease_balance::decrease_balance_of;
-use crate::increase_balance::increase_balance_of;
+use crate::decrease_balance::decrease_balance;
+use crate::increase_balance::increase_balance;
 use crate::read::slashings_at;
 use balance_totals::{current_epoch, validator_at};
 use bc_preset::Config;
@@ -54,10 +54,10 @@ fn pay(state: &mut State, index: u64, proposer: u64, effective_balance: u64) -> 
     let penalty = effective_balance / preset.min_slashing_penalty_quotient;
     let whistleblower_reward = effective_balance / preset.whistleblower_reward_quotient;
     let proposer_reward = whistleblower_reward / preset.proposer_reward_quotient;
-    decrease_balance_of(state, index, penalty)?;
-    increase_balance_of(state, proposer, proposer_reward)?;
+    decrease_balance(state, index, penalty)?;
+    increase_balance(state, proposer, proposer_reward)?;
     let rest = checked_sub(whistleblower_reward, proposer_reward)?;
-    increase_balance_of(state, proposer, rest)
+    increase_balance(state, proposer, rest)
 }
 
 /// Slashes the validator, and leaves anything in the state after a stop.

@@ -33,7 +33,7 @@ use Rattle.spec_blocks.specs.ProcessDeposit.{process_deposit}
 use Rattle.spec_blocks.specs.ProcessVoluntaryExit.{process_voluntary_exit}
 use Rattle.spec_blocks.specs.ProcessBlockHeader.{process_block_header}
 use Rattle.spec_blocks.specs.ProcessRandao.{process_randao}
-use Rattle.spec_blocks.specs.ProcessEth1Data.{process_eth1_data, votes_for}
+use Rattle.spec_blocks.specs.ProcessEth1Data.{process_eth1_data, count_votes}
 use Rattle.spec_blocks.specs.ProcessBlock.{process_block}
 use Rattle.spec_blocks.specs.ProcessOperations.{process_operations, check_deposit_count}
 use Rattle.spec_blocks.proofs.Done.{on_the_way, chosen, same_value, check_holds, item_is}
@@ -164,7 +164,7 @@ unfolding process_eth1_data
 eth1_ready s t body preset slot known is ready =
     let votes = on_the_way (checked_push (votes_limit s.preset) s.eth1_data_votes body.eth1_data) _ t is in
     let given : (data_voted : Eth1Data) → Ready preset slot known (record s { eth1_data_votes = votes.value; eth1_data = data_voted }) = λ data_voted. record { sound = eth1_sound s votes.value data_voted ready.sound; fixed = record { preset_is = ready.fixed.preset_is; slot_is = ready.fixed.slot_is; registry = ready.fixed.registry } } in
-    elim (chosen (nat_lt (votes_limit s.preset) (votes_for votes.value body.eth1_data * 2)) _ _ _ votes.then_done) [
+    elim (chosen (nat_lt (votes_limit s.preset) (count_votes votes.value body.eth1_data * 2)) _ _ _ votes.then_done) [
       | inl won ↦ subst (Ready preset slot known) (same_value _ t won.1) (given body.eth1_data)
       | inr other ↦ subst (Ready preset slot known) (same_value _ t other.1) (given s.eth1_data)
     ]

@@ -12,8 +12,8 @@ abbrev pub same_eth1_data : Eth1Data → Eth1Data → Bool
 same_eth1_data a b = same_root a.deposit_root b.deposit_root && ((a.deposit_count == b.deposit_count) && same_root a.block_hash b.block_hash)
 
 -- how many of the votes are for this data
-unfoldable pub votes_for : List Eth1Data → Eth1Data → ℕ
-votes_for votes data_voted = count_by (λ vote. same_eth1_data vote data_voted) votes
+unfoldable pub count_votes : List Eth1Data → Eth1Data → ℕ
+count_votes votes data_voted = count_by (λ vote. same_eth1_data vote data_voted) votes
 
 -- process_eth1_data(state, body): the vote is appended, and has won where more than half of a period's votes are for its
 -- data
@@ -21,4 +21,4 @@ unfoldable pub process_eth1_data : PlainState → BeaconBlockBody → Outcome Pl
 process_eth1_data state body = do
   votes ← checked_push (votes_limit state.preset) state.eth1_data_votes body.eth1_data
   let voted = record state { eth1_data_votes = votes }
-  if nat_lt (votes_limit state.preset) (votes_for votes body.eth1_data * 2) then done (record voted { eth1_data = body.eth1_data }) else done voted
+  if nat_lt (votes_limit state.preset) (count_votes votes body.eth1_data * 2) then done (record voted { eth1_data = body.eth1_data }) else done voted

@@ -32,7 +32,7 @@ use Rattle.spec_blocks.specs.IsValidMerkleBranch.{is_valid_merkle_branch}
 use Rattle.spec_blocks.specs.GetValidatorFromDeposit.{get_validator_from_deposit}
 use Rattle.spec_blocks.specs.ProcessBlockHeader.{process_block_header, header_of}
 use Rattle.spec_blocks.specs.ProcessRandao.{process_randao}
-use Rattle.spec_blocks.specs.ProcessEth1Data.{process_eth1_data, votes_for}
+use Rattle.spec_blocks.specs.ProcessEth1Data.{process_eth1_data, count_votes}
 use Rattle.spec_blocks.specs.ProcessProposerSlashing.{process_proposer_slashing, same_header}
 use Rattle.spec_blocks.specs.ProcessAttesterSlashing.{process_attester_slashing, Slashed, slash_one, slash_slashable, in_both}
 use Rattle.spec_blocks.specs.ProcessAttestation.{process_attestation, check_times, check_committee, with_pending, with_current_pending, with_previous_pending}
@@ -238,7 +238,7 @@ unfolding process_eth1_data
 with_eth1 s t u block is stays =
     let votes = on_the_way (checked_push (votes_limit t.preset) t.eth1_data_votes block.body.eth1_data) _ u is in
     let given : (data_voted : Eth1Data) → BlockStays s (record t { eth1_data_votes = votes.value; eth1_data = data_voted }) block = λ data_voted. record { preset = stays.preset; slot = stays.slot; header = stays.header } in
-    elim (chosen (nat_lt (votes_limit t.preset) (votes_for votes.value block.body.eth1_data * 2)) _ _ _ votes.then_done) [
+    elim (chosen (nat_lt (votes_limit t.preset) (count_votes votes.value block.body.eth1_data * 2)) _ _ _ votes.then_done) [
       | inl won ↦ subst (λ (x : PlainState). BlockStays s x block) (same_value _ u won.1) (given block.body.eth1_data)
       | inr other ↦ subst (λ (x : PlainState). BlockStays s x block) (same_value _ u other.1) (given t.eth1_data)
     ]

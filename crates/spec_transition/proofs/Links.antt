@@ -15,7 +15,7 @@ use Rattle.spec_state.specs.Accessors.{get_current_epoch, get_total_active_balan
 use Rattle.spec_blocks.specs.Checks.{check, item_at, each_of}
 use Rattle.spec_blocks.specs.ProcessBlockHeader.{process_block_header}
 use Rattle.spec_blocks.specs.ProcessRandao.{process_randao}
-use Rattle.spec_blocks.specs.ProcessEth1Data.{process_eth1_data, votes_for}
+use Rattle.spec_blocks.specs.ProcessEth1Data.{process_eth1_data, count_votes}
 use Rattle.spec_blocks.specs.ProcessBlock.{process_block}
 use Rattle.spec_blocks.proofs.Done.{on_the_way, chosen, same_value}
 use Rattle.spec_blocks.proofs.SoundBlock.{each_keeps}
@@ -176,7 +176,7 @@ eth1_leaves : (s t : PlainState) (block : BeaconBlock) → process_eth1_data s b
 unfolding process_eth1_data
 eth1_leaves s t block is =
     let votes = on_the_way (checked_push (votes_limit s.preset) s.eth1_data_votes block.body.eth1_data) _ t is in
-    elim (chosen (nat_lt (votes_limit s.preset) (votes_for votes.value block.body.eth1_data * 2)) _ _ _ votes.then_done) [
+    elim (chosen (nat_lt (votes_limit s.preset) (count_votes votes.value block.body.eth1_data * 2)) _ _ _ votes.then_done) [
       | inl won ↦ subst (BlockLeaves s) (same_value _ t won.1) refl
       | inr other ↦ subst (BlockLeaves s) (same_value _ t other.1) refl
     ]

@@ -1,13 +1,13 @@
 -- Basic types and vectors of bytes and bits (simple-serialize.md, "Basic types", "uintN", "boolean", "Bitvector[N]").
 use Rattle.std.specs.Prelude.{◌≡◌, ℕ, zero, suc, ◌/◌, ◌%◌, ◌<◌, ◌^◌, Bool, true, false, List, [], ◌∷◌, length, Option, Some, None, nat_lt, ◌==◌, if◌then◌else◌}
 use Rattle.std.specs.Int.{w64, from_le_bytes}
-use Rattle.hash_tree.specs.Merkle.{merkleize, padded_chunk, chunk_count, bit_chunk_count, byte_chunks, u64_bytes, bool_bytes, bits_number}
+use Rattle.hash_tree.specs.Merkle.{merkleize, padded_chunk, chunk_count, bit_chunk_count, byte_chunks, uint_to_bytes, bool_bytes, bits_number}
 use Rattle.ssz_codec.specs.declared.layout.Field.TheVariants.{Fixed}
 use Rattle.ssz_codec.specs.Codec.{Codec}
 
 -- the number that eight bytes write, low byte first
-unfoldable pub number_of : List ℕ → ℕ
-number_of bytes = from_le_bytes w64 bytes
+unfoldable pub bytes_to_uint64 : List ℕ → ℕ
+bytes_to_uint64 bytes = from_le_bytes w64 bytes
 
 -- uint64
 abbrev pub uint64 : Codec ℕ
@@ -15,9 +15,9 @@ uint64 = record {
   field = Fixed 8;
   basic = true;
   Within = λ n. n < 2 ^ 64;
-  serialize = u64_bytes;
-  deserialize = λ bytes. if length bytes == 8 then Some (number_of bytes) else None;
-  hash_tree_root = λ n. padded_chunk (u64_bytes n);
+  serialize = uint_to_bytes;
+  deserialize = λ bytes. if length bytes == 8 then Some (bytes_to_uint64 bytes) else None;
+  hash_tree_root = λ n. padded_chunk (uint_to_bytes n);
 }
 
 abbrev pub parse_bool : List ℕ → Option Bool

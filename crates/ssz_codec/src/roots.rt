@@ -67,7 +67,7 @@ pub fn variable_list_root<T: Ssz>(values: &[T], limit: u64) -> Root
 }
 
 /// The root of a list of at most so many numbers.
-#[tactic(auto, unfolding(hash_tree::specs::Merkle::u64s_bytes))]
+#[tactic(auto, unfolding(hash_tree::specs::Merkle::uints_to_bytes))]
 pub fn number_list_root(numbers: &[u64], limit: u64) -> Root
     requires low { limit ≤ 2 ^ 40 }
     requires fits { length numbers.now ≤ limit }

@@ -2,7 +2,7 @@
 //! and hashes.
 
 ghost use Rattle.std.specs.Prelude.{◌≡◌, ◌<◌, ◌^◌, [], ◌++◌, length, take, OnOk, OnErr};
-ghost use Rattle.hash_tree.specs.Merkle.{u64_bytes, bool_bytes};
+ghost use Rattle.hash_tree.specs.Merkle.{uint_to_bytes, bool_bytes};
 ghost use Rattle.ssz_codec.specs.Layout.{offset_bytes};
 
 use bc_words::NoMemory;
@@ -35,9 +35,9 @@ impl Writer {
     }
 
     /// A number of 64 bits in eight bytes.
-    #[tactic(auto, unfolding(hash_tree::specs::Merkle::u64_bytes))]
+    #[tactic(auto, unfolding(hash_tree::specs::Merkle::uint_to_bytes))]
     pub fn put_u64(&mut self, n: u64) -> Result<(), NoMemory>
-        ensures ok { OnOk result (self.new ≡ self.old ++ u64_bytes n) }
+        ensures ok { OnOk result (self.new ≡ self.old ++ uint_to_bytes n) }
         ensures err { OnErr result (self.new ≡ self.old) }
     {
         self.put_bytes(&n.to_le_bytes())

@@ -32,7 +32,7 @@ use std::alloc::Global;
 use store_parts::chain_stepper::ChainStepper;
 use store_parts::copies::copy_signed_block;
 use store_parts::follow::{follow, told_of};
-use store_parts::number_of::number_of;
+use store_parts::node_number::node_number;
 use store_parts::ready_balances::ReadyBalances;
 use store_parts::settle::{boost, facts_of, justify, may_move};
 use store_parts::store_fields::StoreFields;
@@ -143,11 +143,11 @@ fn add_block(
     ensures array { IsArrayOf store.new array.new }
     ensures keeper { IsKeeperOf store.new keeper.new }
     ensures stays { store.new.justified_checkpoint ≡ store.old.justified_checkpoint }
-    ensures unset { array.new.balances_set ≡ array.old.balances_set }
+    ensures balances_set_stays { array.new.balances_set ≡ array.old.balances_set }
 {
     store.is_sound();
     let facts = facts_of(&state);
-    let Some(parent) = number_of(store.blocks(), block.message.parent_root) else {
+    let Some(parent) = node_number(store.blocks(), block.message.parent_root) else {
         unreachable!()
     };
     array.reserve(0)?;
@@ -180,7 +180,7 @@ fn keep_block(
     ensures array { IsArrayOf store.new array.new }
     ensures keeper { IsKeeperOf store.new keeper.new }
     ensures stays { store.new.justified_checkpoint ≡ store.old.justified_checkpoint }
-    ensures unset { array.new.balances_set ≡ array.old.balances_set }
+    ensures balances_set_stays { array.new.balances_set ≡ array.old.balances_set }
 {
     if store.is_kept(root) {
         return Ok(());
@@ -209,7 +209,7 @@ fn settle_whole(
     ensures exact { store.new ≡ settled store.old slot root facts.justified facts.finalized }
     ensures array { IsArrayOf store.new array.new }
     ensures ready { IsReady store.new ready.new }
-    ensures unset { store.new.justified_checkpoint ≡ store.old.justified_checkpoint → array.new.balances_set ≡ array.old.balances_set }
+    ensures balances_set_stays { store.new.justified_checkpoint ≡ store.old.justified_checkpoint → array.new.balances_set ≡ array.old.balances_set }
 {
     let before = told_of(store);
     settle(store, array, slot, root, facts.justified, facts.finalized);
@@ -241,7 +241,7 @@ pub(crate) fn accept(
     ensures exact { Becomes result store.old store.new (with_accepted store.old (kept_of root block.now.message state)) }
     ensures whole { IsWhole store.new array.new ready.new }
     ensures keeper { IsKeeperOf store.new keeper.new }
-    ensures unset { store.new.justified_checkpoint ≡ store.old.justified_checkpoint → array.new.balances_set ≡ array.old.balances_set }
+    ensures balances_set_stays { store.new.justified_checkpoint ≡ store.old.justified_checkpoint → array.new.balances_set ≡ array.old.balances_set }
 {
     let _slot = state.slot();
     let facts = facts_of(&state);

@@ -15,7 +15,7 @@ use store_parts::store_fields::StoreFields;
 
 /// The root of the head: from the justified block go to the viable child of the greatest weight, of the greatest root among
 /// those of one weight, as long as there is one (fork-choice.md, `get_head`). It takes no memory, and leaves the store's array
-/// applied. A step is the delta of one validator, or one visit of a node.
+/// up to date. A step is the delta of one validator, or one visit of a node.
 #[tactic(auto, using(store_parts::proofs::Heads::heading))]
 pub fn get_head<L: Ledger>(
     store: &StoreFields,
@@ -24,7 +24,7 @@ pub fn get_head<L: Ledger>(
 ) -> Root
     requires { IsArrayOf store.now array.old }
     ensures root { result ≡ get_head store.now }
-    ensures applied { array.new ≡ made array.old }
+    ensures up_to_date { array.new ≡ made array.old }
     ensures steps { steps.new ≤ steps.old + steps_of array.old }
 {
     store.is_sound();

@@ -12,7 +12,7 @@ use hash_tree::Root;
 use state_keeper::Keeper;
 use store_parts::chain_stepper::ChainStepper;
 use store_parts::kept_blocks::KeptBlocks;
-use store_parts::number_of::number_of;
+use store_parts::node_number::node_number;
 use store_parts::state_of::state_of;
 
 /// The state behind the kept block of a root. It stops for want of memory alone, and the keeper is as before either way.
@@ -29,7 +29,7 @@ pub fn kept_state(
     ensures same { keeper.new ≡ keeper.old }
 {
     blocks.are_kept();
-    let Some(number) = number_of(blocks, root) else {
+    let Some(number) = node_number(blocks, root) else {
         unreachable!()
     };
     state_of(keeper, number)

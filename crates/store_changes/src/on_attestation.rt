@@ -106,7 +106,7 @@ pub fn on_attestation(
     ensures exact { StoreChanges result store.old store.new (event_of (on_attestation store.old attestation.now is_from_block)) }
     ensures whole { IsWhole store.new array.new ready.now }
     ensures keeper { IsKeeperOf store.new keeper.new }
-    ensures unset { array.new.balances_set ≡ array.old.balances_set }
+    ensures balances_set_stays { array.new.balances_set ≡ array.old.balances_set }
 {
     let indices = judge(alloc, store, keeper, array, attestation, is_from_block)?;
     update_latest_messages(store, array, ready, &indices, attestation)?;

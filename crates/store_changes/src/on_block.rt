@@ -110,7 +110,7 @@ fn accept_unless(
     ensures exact { Accepts result store.old store.new (accept_block store.old block.now.message root step (clash_of store.old.blocks root block.now.message.state_root block.now.message)) }
     ensures whole { IsWhole store.new array.new ready.new }
     ensures keeper { IsKeeperOf store.new keeper.new }
-    ensures unset { store.new.justified_checkpoint ≡ store.old.justified_checkpoint → array.new.balances_set ≡ array.old.balances_set }
+    ensures balances_set_stays { store.new.justified_checkpoint ≡ store.old.justified_checkpoint → array.new.balances_set ≡ array.old.balances_set }
 {
     let _slot = block.message.slot;
     match clash_of(store.blocks(), keeper, root, &block.message) {
@@ -149,7 +149,7 @@ pub fn on_block(
     ensures exact { Accepts result store.old store.new (on_block store.old block.now) }
     ensures whole { IsWhole store.new array.new ready.new }
     ensures keeper { IsKeeperOf store.new keeper.new }
-    ensures unset { store.new.justified_checkpoint ≡ store.old.justified_checkpoint → array.new.balances_set ≡ array.old.balances_set }
+    ensures balances_set_stays { store.new.justified_checkpoint ≡ store.old.justified_checkpoint → array.new.balances_set ≡ array.old.balances_set }
 {
     let step = block_step(alloc, store, keeper, array, block)?;
     // the header behind the block is the block's, so the body isn't hashed once more

@@ -90,7 +90,7 @@ fn follow_tick(
     requires kept { AreKept store.now }
     ensures array { IsArrayOf store.now array.new }
     ensures ready { IsReady store.now ready.new }
-    ensures unset { store.now.justified_checkpoint ≡ before.now.justified → array.new.balances_set ≡ array.old.balances_set }
+    ensures balances_set_stays { store.now.justified_checkpoint ≡ before.now.justified → array.new.balances_set ≡ array.old.balances_set }
 {
     feed_best(store, array, ready, before);
     follow(store, array, before);
@@ -112,7 +112,7 @@ pub fn on_tick(
     ensures whole { IsWhole store.new array.new ready.new }
     ensures config { store.new.config ≡ store.old.config }
     ensures blocks { store.new.blocks ≡ store.old.blocks }
-    ensures unset { store.new.justified_checkpoint ≡ store.old.justified_checkpoint → array.new.balances_set ≡ array.old.balances_set }
+    ensures balances_set_stays { store.new.justified_checkpoint ≡ store.old.justified_checkpoint → array.new.balances_set ≡ array.old.balances_set }
 {
     let before = told_of(store);
     tick(store, array, time)?;

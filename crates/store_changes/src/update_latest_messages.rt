@@ -9,7 +9,7 @@ ghost use Rattle.store_parts.specs.inside.Wholes.{IsWhole};
 use bc_words::NoMemory;
 use beacon_body::Attestation;
 use block_array::BlockArray;
-use store_parts::number_of::number_of;
+use store_parts::node_number::node_number;
 use store_parts::ready_balances::ReadyBalances;
 use store_parts::store_fields::StoreFields;
 use store_parts::vote_all::{places_for, vote_all};
@@ -27,13 +27,13 @@ pub(crate) fn update_latest_messages(
     requires kept { is_kept store.old.blocks attestation.now.content.beacon_block_root ≡ true }
     ensures exact { Becomes result store.old store.new (update_latest_messages store.old attesting_indices.now attestation.now) }
     ensures whole { IsWhole store.new array.new ready.now }
-    ensures unset { array.new.balances_set ≡ array.old.balances_set }
+    ensures balances_set_stays { array.new.balances_set ≡ array.old.balances_set }
     ensures config { store.new.config ≡ store.old.config }
     ensures blocks { store.new.blocks ≡ store.old.blocks }
 {
     store.is_sound();
     let voted = &attestation.content;
-    let Some(node) = number_of(store.blocks(), voted.beacon_block_root) else {
+    let Some(node) = node_number(store.blocks(), voted.beacon_block_root) else {
         unreachable!()
     };
     let places = places_for(attesting_indices)?;

@@ -6,7 +6,7 @@ ghost use Rattle.spec_fork_choice.specs.Slots.{start_slot_of};
 ghost use Rattle.spec_fork_choice.specs.GetAncestor.{get_ancestor};
 ghost use Rattle.store_parts.specs.inside.Arrays.{AreNodesOf};
 
-use crate::number_of::number_of;
+use crate::node_number::node_number;
 use crate::slots::start_slot;
 use crate::store_fields::StoreFields;
 use beacon_types::Checkpoint;
@@ -32,7 +32,7 @@ fn ancestor_of(store: &StoreFields, array: &BlockArray, root: Root, slot: u64) -
     ensures { result ≡ get_ancestor store.now root slot }
 {
     store.is_sound();
-    match number_of(store.blocks(), root) {
+    match node_number(store.blocks(), root) {
         Some(node) => {
             let ancestor = array.ancestor(node, slot);
             root_at(store.blocks().roots(), ancestor as usize)

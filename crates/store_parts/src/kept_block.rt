@@ -7,7 +7,7 @@ ghost use Rattle.store_parts.specs.inside.Keepers.{kept_blocks};
 
 use crate::chain_stepper::ChainStepper;
 use crate::kept_blocks::KeptBlocks;
-use crate::number_of::number_of;
+use crate::node_number::node_number;
 use beacon_body::BeaconBlock;
 use hash_tree::Root;
 use state_keeper::Keeper;
@@ -23,7 +23,7 @@ pub fn block_of<'a>(
     requires keeper { kept_blocks keeper.now.blocks ≡ blocks.now }
     ensures { option_map (λ block. block.now) result ≡ option_map (λ kept. kept.block) (block_of blocks.now root) }
 {
-    match number_of(blocks, root) {
+    match node_number(blocks, root) {
         Some(number) => Some(&keeper.block(number).message),
         None => None,
     }

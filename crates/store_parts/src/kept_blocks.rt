@@ -8,12 +8,12 @@ ghost use Rattle.bc_words.specs.Outcome.{Becomes};
 ghost use Rattle.indexmap.specs.IndexSet.{spare, IsUnchanged};
 ghost use Rattle.spec_fork_choice.specs.Store.{is_kept};
 ghost use Rattle.store_parts.specs.inside.Accepted.{kept_of};
-ghost use Rattle.store_parts.specs.inside.Arrays.{number_of};
+ghost use Rattle.store_parts.specs.inside.Arrays.{node_number};
 ghost use Rattle.store_parts.specs.inside.Keepers.{kept_blocks, IsStepOn};
 ghost use Rattle.store_parts.specs.inside.Stores.{IsKept};
 
 use crate::chain_stepper::ChainStepper;
-use crate::number_of::number_of;
+use crate::node_number::node_number;
 use bc_words::NoMemory;
 use beacon_body::SignedBeaconBlock;
 use beacon_state::State;
@@ -104,8 +104,8 @@ impl KeptBlocks {
     }
 
     /// The number of the block of a root, that of genesis being 0. None exactly where the root isn't kept.
-    pub fn number_of(&self, root: Root) -> Option<usize>
-        ensures { result ≡ number_of self.now root }
+    pub fn node_number(&self, root: Root) -> Option<usize>
+        ensures { result ≡ node_number self.now root }
     {
         self.roots.get_index_of(&root)
     }
@@ -124,7 +124,7 @@ impl KeptBlocks {
         requires few { length self.old < 2 ^ 32 - 1 }
         requires fresh { is_kept self.old root ≡ false }
         requires kept { IsKept (kept_of root block.message state) }
-        requires parent { Some parent ≡ number_of self.old block.message.parent_root }
+        requires parent { Some parent ≡ node_number self.old block.message.parent_root }
         requires step { IsStepOn keeper.old.stepper self.old block state }
         ensures blocks { Becomes result self.old self.new (self.old ++ kept_of root block.message state ∷ []) }
         ensures keeper { kept_blocks keeper.new.blocks ≡ self.new }

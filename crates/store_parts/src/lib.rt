@@ -17,7 +17,7 @@ pub mod genesis;
 pub mod get_ancestor;
 pub mod kept_block;
 pub mod kept_blocks;
-pub mod number_of;
+pub mod node_number;
 pub mod ready_balances;
 pub mod root_clash;
 pub mod settle;

@@ -33,7 +33,7 @@ fn proposer_seed(state: &State) -> Root
 /// Refused as `NoActive` where nobody is active and as an overflow where a balance is too great to be weighed; limited where
 /// none of the candidates that may be tried passes.
 #[tactic(auto, unfolding(spec_state::specs::Accessors::get_beacon_proposer_index))]
-pub fn proposer_index(alloc: Global, state: &State) -> Result<u64, Stop>
+pub fn get_beacon_proposer_index(alloc: Global, state: &State) -> Result<u64, Stop>
     ensures { Gives result (get_beacon_proposer_index state.now) }
 {
     let epoch = current_epoch(state);

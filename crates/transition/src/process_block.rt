@@ -5,7 +5,7 @@ ghost use Rattle.bc_words.specs.Outcome.{Moves};
 ghost use Rattle.spec_state.specs.Soundness.{IsSound};
 ghost use Rattle.spec_blocks.specs.ProcessBlock.{process_block};
 
-use crate::get_beacon_proposer_index::proposer_index;
+use crate::get_beacon_proposer_index::get_beacon_proposer_index;
 use balance_totals::current_epoch;
 use bc_preset::Config;
 use bc_words::Stop;
@@ -27,7 +27,7 @@ fn take_steps(
 ) -> Result<(), Stop>
     ensures { Moves result state.new (process_block state.old block.now config.now) }
 {
-    let proposer = proposer_index(alloc, state)?;
+    let proposer = get_beacon_proposer_index(alloc, state)?;
     process_header(state, block, proposer)?;
     process_randao(state, &block.body)?;
     process_eth1_data(state, &block.body)?;

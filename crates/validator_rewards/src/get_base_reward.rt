@@ -24,7 +24,7 @@ pub fn divisor(state: &State) -> Result<u64, Stop>
 
 /// The base reward of a validator, in Gwei (beacon-chain.md, `get_base_reward`). The stakes are the state's.
 #[tactic(auto, using(crate::proofs::Divisor::by_divisor, crate::proofs::Divisor::divisor_is_some))]
-pub fn base_reward(
+pub fn get_base_reward(
     state: &State,
     stakes: &[Stake],
     divisor: Result<u64, Stop>,
@@ -43,7 +43,7 @@ pub fn base_reward(
 /// The part of a validator's base reward that goes to the proposer who includes its attestation, in Gwei
 /// (beacon-chain.md, `get_proposer_reward`), where its base reward is known, or why it has none.
 #[tactic(auto, unfolding(spec_epochs::specs::RewardHelpers::get_proposer_reward), using(bc_preset::proofs::Bounds::preset_bounds))]
-pub fn proposer_reward(state: &State, base: Result<u64, Stop>, index: u64) -> Result<u64, Stop>
+pub fn get_proposer_reward(state: &State, base: Result<u64, Stop>, index: u64) -> Result<u64, Stop>
     requires { GivesExactly base (get_base_reward state.now index) }
     ensures { GivesExactly result (get_proposer_reward state.now index) }
 {

@@ -11,8 +11,8 @@ ghost use Rattle.validator_rewards.specs.inside.Leak.{leak_penalty};
 
 use crate::amounts::Amounts;
 use crate::eligible::{is_attester, is_eligible};
-use crate::get_base_reward::proposer_reward;
-use crate::leak::finality_delay;
+use crate::get_base_reward::get_proposer_reward;
+use crate::leak::get_finality_delay;
 use crate::stakes::{Stake, stake_at};
 use bc_words::{Stop, checked_add, checked_mul, checked_sub};
 use beacon_state::State;
@@ -24,7 +24,7 @@ fn absence_penalty(state: &State, stakes: &[Stake], index: u64) -> Result<u64, S
     ensures { GivesExactly result (absence_penalty state.now index) }
 {
     let stake = stake_at(stakes, index)?;
-    let delay = finality_delay(state)?;
+    let delay = get_finality_delay(state)?;
     let weighed = checked_mul(stake.effective_balance, delay)?;
     Ok(weighed / state.preset().inactivity_penalty_quotient)
 }
@@ -54,7 +54,7 @@ fn inactivity_penalty(
     ensures { GivesExactly result (inactivity_penalty state.now (flagged state.now flags.now) index) }
 {
     let whole = base?;
-    let proposer = proposer_reward(state, base, index)?;
+    let proposer = get_proposer_reward(state, base, index)?;
     let all = checked_mul(4, whole)?;
     let penalty = checked_sub(all, proposer)?;
     let more = absence(state, stakes, flags, index)?;

@@ -11,7 +11,7 @@ ghost use Rattle.validator_rewards.specs.inside.Inclusions.{joined_reward};
 
 use crate::amounts::Amounts;
 use crate::eligible::is_attester;
-use crate::get_base_reward::proposer_reward;
+use crate::get_base_reward::get_proposer_reward;
 use crate::numbers::number_at;
 use crate::stakes::Stake;
 use bc_words::{Stop, checked_add, checked_sub};
@@ -43,7 +43,7 @@ pub fn include(
 {
     match inclusion_at(entries, attester) {
         Some(inclusion) => {
-            let reward = proposer_reward(state, base, attester)?;
+            let reward = get_proposer_reward(state, base, attester)?;
             add_gain(gains, inclusion.proposer, reward)
         }
         None => Ok(()),
@@ -71,7 +71,7 @@ fn delayed_reward(
     match inclusion {
         Some(inclusion) => {
             let whole = base?;
-            let proposer = proposer_reward(state, base, index)?;
+            let proposer = get_proposer_reward(state, base, index)?;
             let most = checked_sub(whole, proposer)?;
             Ok(after_delay(most, inclusion.delay))
         }

@@ -9,7 +9,7 @@ use beacon_state::State;
 
 /// How many epochs finality is behind the previous epoch (beacon-chain.md, `get_finality_delay`).
 #[tactic(auto, unfolding(spec_epochs::specs::RewardHelpers::get_finality_delay))]
-pub(crate) fn finality_delay(state: &State) -> Result<u64, Stop>
+pub(crate) fn get_finality_delay(state: &State) -> Result<u64, Stop>
     ensures { GivesExactly result (get_finality_delay state.now) }
 {
     checked_sub(previous_epoch(state), state.finalized_checkpoint().epoch)
@@ -17,9 +17,9 @@ pub(crate) fn finality_delay(state: &State) -> Result<u64, Stop>
 
 /// Whether the leak is on (beacon-chain.md, `is_in_inactivity_leak`).
 #[tactic(auto, unfolding(spec_epochs::specs::RewardHelpers::is_in_inactivity_leak))]
-pub fn in_leak(state: &State) -> Result<bool, Stop>
+pub fn is_in_inactivity_leak(state: &State) -> Result<bool, Stop>
     ensures { GivesExactly result (is_in_inactivity_leak state.now) }
 {
-    let delay = finality_delay(state)?;
+    let delay = get_finality_delay(state)?;
     Ok(state.preset().min_epochs_to_inactivity_penalty < delay)
 }

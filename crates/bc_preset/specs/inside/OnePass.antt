@@ -8,7 +8,7 @@ use Rattle.bc_preset.specs.declared.faults.ConfigFault.TheVariants.{TooLong, Bad
 use Rattle.bc_preset.specs.declared.settings.Settings.{Settings}
 use Rattle.bc_preset.specs.declared.configuration.ConfigValues.{ConfigValues}
 use Rattle.bc_preset.specs.Configs.{◌then_read◌, or_fault, preset_named, preset_of, all_in_range, max_config_len}
-use Rattle.bc_preset.specs.Numbers.{number_of}
+use Rattle.bc_preset.specs.Numbers.{parse_decimal}
 use Rattle.bc_preset.specs.Lines.{Line, skipped, other, setting, faulty, line_of}
 
 -- no key is set
@@ -53,7 +53,7 @@ set_key s line PresetBase text =
     or_fault (BadPreset line) (preset_named text) then_read λ name.
     Ok (record s { preset_base = Some name })
 set_key s line key text =
-    or_fault (BadNumber line) (number_of text) then_read λ value.
+    or_fault (BadNumber line) (parse_decimal text) then_read λ value.
     Ok (with_number s key value)
 
 -- the settings behind a line, whose number counts from 1

@@ -11,7 +11,7 @@ use Rattle.spec_fork_choice.specs.OnEvent.{Accepted, on_event}
 use Rattle.spec_replay.specs.Run.{Run, after_lines, event_then, with_events}
 use Rattle.beacon_node.specs.declared.status.Status.{Status}
 use Rattle.beacon_node.specs.declared.status.Status.TheVariants as statuses
-use Rattle.beacon_node.specs.Answers.{breaks_off, lags, end_of, WritesLines}
+use Rattle.beacon_node.specs.Answers.{breaks_off, may_lack_lines, end_of, WritesLines}
 
 -- the run of the events that are to come, where these bytes are those that can still be taken
 abbrev pub rest_of : Store → Source → List ℕ → Run
@@ -59,4 +59,4 @@ pub record EventsOver (status : Status) (store : Store) (place : Source) (told t
   pub met : Bool
   pub taken : TakesFrom place.file bytes met told told_then
   pub ended : (behind : List ℕ) → CanFollow met behind → Ended status (rest_of store place (bytes ++ behind)) written written_then
-  pub pace : WritesLines (lags status) (rest_of store place bytes).lines written written_then
+  pub pace : WritesLines (may_lack_lines status) (rest_of store place bytes).lines written written_then

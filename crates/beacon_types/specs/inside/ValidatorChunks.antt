@@ -1,6 +1,6 @@
 -- The chunks of a validator, for roots of many validators at once.
 use Rattle.std.specs.Prelude.{ℕ, List, [], ◌∷◌}
-use Rattle.hash_tree.specs.Merkle.{merkle_root, chunks_of, padded_chunk, u64_bytes, bool_bytes}
+use Rattle.hash_tree.specs.Merkle.{merkle_root, chunks_of, padded_chunk, uint_to_bytes, bool_bytes}
 use Rattle.ssz_codec.specs.Basic.{bytes48}
 use Rattle.beacon_types.specs.declared.validator.Validator.{Validator}
 
@@ -20,6 +20,6 @@ key_root v = bytes48.hash_tree_root v.pubkey
 unfoldable pub chunks_below : Validator → List (List ℕ)
 chunks_below v =
     key_root v ∷ v.withdrawal_credentials
-    ∷ padded_chunk (u64_bytes v.effective_balance) ∷ padded_chunk (bool_bytes v.slashed)
-    ∷ padded_chunk (u64_bytes v.activation_eligibility_epoch) ∷ padded_chunk (u64_bytes v.activation_epoch)
-    ∷ padded_chunk (u64_bytes v.exit_epoch) ∷ padded_chunk (u64_bytes v.withdrawable_epoch) ∷ []
+    ∷ padded_chunk (uint_to_bytes v.effective_balance) ∷ padded_chunk (bool_bytes v.slashed)
+    ∷ padded_chunk (uint_to_bytes v.activation_eligibility_epoch) ∷ padded_chunk (uint_to_bytes v.activation_epoch)
+    ∷ padded_chunk (uint_to_bytes v.exit_epoch) ∷ padded_chunk (uint_to_bytes v.withdrawable_epoch) ∷ []

@@ -1,13 +1,13 @@
 -- What is counted, where some messages changed since.
 use Rattle.std.specs.Prelude.{◌≡◌, ℕ, ◌+◌, ◌*◌, ◌<◌, ◌≤◌, nat_lt, Bool, false, ◌||◌, List, [], length, take, true, slice_set, None, is_some, if◌then◌else◌}
 use Rattle.std.specs.List.{count_by}
-use Rattle.block_array.specs.declared.rank.Rank.{Rank}
+use Rattle.block_array.specs.declared.best_descendant.BestDescendant.{BestDescendant}
 use Rattle.block_array.specs.declared.tally.Counted.{Counted}
 use Rattle.block_array.specs.PlainArray.{PlainArray, message_of}
 use Rattle.block_array.specs.UpdateLatestMessages.{is_listed}
 use Rattle.block_array.specs.inside.Counts.{Counts, nothing, counted_of}
 use Rattle.block_array.specs.inside.Held.{due}
-use Rattle.block_array.specs.inside.Ranks.{IsCounted, IsMade}
+use Rattle.block_array.specs.inside.BestDescendants.{IsCounted, IsMade}
 
 -- how many are marked as changed
 unfoldable pub count_changed : List Counted → ℕ
@@ -24,19 +24,19 @@ pub record IsNoted (array : PlainArray) (counts : Counts) : Type 0 where
   pub current : array.balances_set ≡ false → (v : ℕ) → (counted_of counts.validators v).changed ≡ false → counted_of counts.validators v ≡ due array v
 
 -- what is left as it was where nothing changed
-pub record IsUnchanged (array : PlainArray) (counts : Counts) (ranks : List Rank) : Type 0 where
+pub record IsUnchanged (array : PlainArray) (counts : Counts) (bests : List BestDescendant) : Type 0 where
   pub counted : IsCounted array counts
-  pub made : IsMade array ranks
+  pub made : IsMade array bests
   pub changed : array.changed_validators ≡ []
   pub balances : array.balances_set ≡ false
 
 -- the whole array
-pub record IsArray (array : PlainArray) (counts : Counts) (ranks : List Rank) (rank_room : ℕ) : Type 0 where
+pub record IsArray (array : PlainArray) (counts : Counts) (bests : List BestDescendant) (best_room : ℕ) : Type 0 where
   pub noted : IsNoted array counts
-  pub length_is : length ranks ≡ length array.nodes
-  pub unchanged : array.anything_changed ≡ false → IsUnchanged array counts ranks
+  pub length_is : length bests ≡ length array.nodes
+  pub unchanged : array.anything_changed ≡ false → IsUnchanged array counts bests
   pub tally_nodes : length array.nodes + array.spare_nodes ≤ counts.node_room
-  pub rank_nodes : length array.nodes + array.spare_nodes ≤ rank_room
+  pub best_nodes : length array.nodes + array.spare_nodes ≤ best_room
   pub tally_validators : array.spare_validators ≤ counts.validator_room
 
 -- the deltas of some validators are made

@@ -77,7 +77,7 @@ fn extend<L: Ledger>(
 }
 
 /// Behind which block one comes.
-fn parent_of(number: u32) -> u32
+fn parent_number(number: u32) -> u32
     requires { 0 < number }
     ensures { result < number }
 {
@@ -103,7 +103,7 @@ fn add_blocks<L: Ledger>(
     ensures { OnOk result (length keeper.new.blocks ≡ 54) }
 {
     for number in 1..BLOCKS {
-        extend(alloc, keeper, parent_of(number), added_by(number), steps)?;
+        extend(alloc, keeper, parent_number(number), added_by(number), steps)?;
     }
     Ok(())
 }

@@ -23,8 +23,8 @@ unfoldable pub lengthened : ExitQueue → ℕ → ExitQueue
 lengthened queue epoch = if epoch == queue.epoch then record queue { churn = queue.churn + 1 } else record queue { epoch = epoch; churn = 1 }
 
 -- the queue with one more, who leaves at an epoch where that is set
-unfoldable pub joined : ExitQueue → ℕ → ExitQueue
-joined queue epoch = if epoch == far_future_epoch then queue else lengthened queue epoch
+unfoldable pub with_exit : ExitQueue → ℕ → ExitQueue
+with_exit queue epoch = if epoch == far_future_epoch then queue else lengthened queue epoch
 
 -- the queue of a state
 pub record IsExitQueue (state : PlainState) (config : ConfigValues) (queue : ExitQueue) : Type 0 where

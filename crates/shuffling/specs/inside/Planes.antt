@@ -7,5 +7,5 @@ abbrev pub with_above : ℕ → ℕ → ℕ
 with_above byte above = byte + 256 * above
 
 -- the items of three lists of bytes, the low bytes first
-unfoldable pub joined : List ℕ → List ℕ → List ℕ → List ℕ
-joined low middle high = zip2 with_above low (zip2 with_above middle high)
+unfoldable pub from_planes : List ℕ → List ℕ → List ℕ → List ℕ
+from_planes low middle high = zip2 with_above low (zip2 with_above middle high)

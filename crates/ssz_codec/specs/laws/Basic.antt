@@ -4,35 +4,35 @@ use Rattle.std.specs.Prelude.{nat_lt, ◌==◌, replicate}
 use Rattle.std.proofs.lemmas.List.{take_all, append-nil}
 use Rattle.std.proofs.lemmas.Bool.{ltb-true, lt-ltb, eqb-true, eqb-false, eq-eqb, ne_eqb}
 use Rattle.std.proofs.lemmas.Nat.{le_bytes_8, from_le_bytes-to_le_bytes_8}
-use Rattle.hash_tree.specs.Merkle.{u64_bytes, bool_bytes, bits_number, merkle_root, merkleize, depth_of, depth_from, chunk_count, chunks_of, byte_chunks, padded_chunk}
-use Rattle.ssz_codec.specs.Basic.{number_of, uint64, parse_bool, boolean, bytes_codec, bytes32, number_bits, parse_bits, bitvector}
+use Rattle.hash_tree.specs.Merkle.{uint_to_bytes, bool_bytes, bits_number, merkle_root, merkleize, depth_of, depth_from, chunk_count, chunks_of, byte_chunks, padded_chunk}
+use Rattle.ssz_codec.specs.Basic.{bytes_to_uint64, uint64, parse_bool, boolean, bytes_codec, bytes32, number_bits, parse_bits, bitvector}
 use Rattle.ssz_codec.specs.Lawful.{IsBytes, IsLawful, IsFixed}
 use Rattle.ssz_codec.specs.laws.Layout.{when_some, some_is}
 
-number_back : (bytes : List ℕ) → length bytes ≡ 8 → IsBytes bytes → u64_bytes (number_of bytes) ≡ bytes
-unfolding u64_bytes number_of
+number_back : (bytes : List ℕ) → length bytes ≡ 8 → IsBytes bytes → uint_to_bytes (bytes_to_uint64 bytes) ≡ bytes
+unfolding uint_to_bytes bytes_to_uint64
 number_back bytes len fits = le_bytes_8 bytes _ len fits refl
 
-number_below : (bytes : List ℕ) → IsBytes bytes → number_of bytes < 2 ^ 64
-unfolding number_of
+number_below : (bytes : List ℕ) → IsBytes bytes → bytes_to_uint64 bytes < 2 ^ 64
+unfolding bytes_to_uint64
 number_below bytes fits = omega (arith, fits 0, fits 1, fits 2, fits 3, fits 4, fits 5, fits 6, fits 7)
 
-number_again : (n : ℕ) → n < 2 ^ 64 → number_of (u64_bytes n) ≡ n
-unfolding u64_bytes number_of
+number_again : (n : ℕ) → n < 2 ^ 64 → bytes_to_uint64 (uint_to_bytes n) ≡ n
+unfolding uint_to_bytes bytes_to_uint64
 number_again n lt = from_le_bytes-to_le_bytes_8 n lt
 
-pub number_len : (n : ℕ) → length (u64_bytes n) ≡ 8
-unfolding u64_bytes
+pub number_len : (n : ℕ) → length (uint_to_bytes n) ≡ 8
+unfolding uint_to_bytes
 number_len n = refl
 
 pub uint64_lawful : IsLawful uint64
 uint64_lawful = record {
   sound = λ bytes v fits e.
-      let w = when_some (length bytes == 8) (Some (number_of bytes)) v e in
-      let v-is : number_of bytes ≡ v = some_is _ _ w.1 in
-      (subst (λ n. n < 2 ^ 64) v-is (number_below bytes fits), sym (number_back bytes (eqb-true _ _ w.0) fits) ∙ ap u64_bytes v-is);
+      let w = when_some (length bytes == 8) (Some (bytes_to_uint64 bytes)) v e in
+      let v-is : bytes_to_uint64 bytes ≡ v = some_is _ _ w.1 in
+      (subst (λ n. n < 2 ^ 64) v-is (number_below bytes fits), sym (number_back bytes (eqb-true _ _ w.0) fits) ∙ ap uint_to_bytes v-is);
   complete = λ v within.
-      ap (λ b. cond b (Some (number_of (u64_bytes v))) None) (eq-eqb _ _ (number_len v)) ∙ ap (λ n. Some n) (number_again v within);
+      ap (λ b. cond b (Some (bytes_to_uint64 (uint_to_bytes v))) None) (eq-eqb _ _ (number_len v)) ∙ ap (λ n. Some n) (number_again v within);
   size = λ v within. number_len v;
 }
 

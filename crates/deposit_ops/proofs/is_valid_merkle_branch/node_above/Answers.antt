@@ -13,6 +13,6 @@ pub loop-sibling-preserved : goal.loop-sibling-preserved
 loop-sibling-preserved c =
     let more = climbed c.args.leaf c.args.branch.now c.loop-sibling.sibling-index c.args.index in
     record {
-      value = rw (more, ← c.loop-sibling.invariant.value, ← c.loop-sibling.invariant.place) c.parent_of-value.ensures;
+      value = rw (more, ← c.loop-sibling.invariant.value, ← c.loop-sibling.invariant.place) c.hash_with_sibling-value.ensures;
       place = ap (λ n. n / 2) c.loop-sibling.invariant.place ∙ halved c.args.index c.loop-sibling.sibling-index;
     }

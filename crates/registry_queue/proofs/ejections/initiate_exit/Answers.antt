@@ -9,5 +9,5 @@ returns-clause-queue c =
     let here = item_is c.args.state.now.validators c.args.index c.in_ok-validator.validator c.in_ok-validator.ensures.exact in
     let next = exited c.args.state.now c.args.config.now c.args.queue.now c.args.index c.in_ok-validator.validator c.in_ok-exit_epoch.exit_epoch c.in_ok-withdrawable_epoch.withdrawable_epoch
     here c.if-validator.false c.in_ok-exit_epoch.ensures c.requires in
-    subst (λ s. IsExitQueue s c.args.config.now c.joined.result) (sym c.in_ok-set_validators_at.ensures)
-    (subst (λ q. IsExitQueue (behind c.args.state.now c.args.config.now c.args.queue.now c.args.index c.in_ok-validator.validator c.in_ok-exit_epoch.exit_epoch c.in_ok-withdrawable_epoch.withdrawable_epoch) c.args.config.now q) (sym c.joined.ensures) next)
+    subst (λ s. IsExitQueue s c.args.config.now c.with_exit.result) (sym c.in_ok-set_validators_at.ensures)
+    (subst (λ q. IsExitQueue (behind c.args.state.now c.args.config.now c.args.queue.now c.args.index c.in_ok-validator.validator c.in_ok-exit_epoch.exit_epoch c.in_ok-withdrawable_epoch.withdrawable_epoch) c.args.config.now q) (sym c.with_exit.ensures) next)

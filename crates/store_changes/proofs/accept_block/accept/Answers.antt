@@ -23,8 +23,8 @@ returns-clause-whole c =
     (mid_few c.args.store.now c.keep_block.new.store c.args.array.now c.args.ready.now c.args.root c.args.block.now.message c.args.state c.requires.whole c.requires.linked c.in_ok-keep_block.ensures.exact c.requires.few)
     c.settle_whole.ensures.array c.settle_whole.ensures.ready
 
-pub returns-clause-unset : goal.returns-clause-unset
-returns-clause-unset c = λ is. c.settle_whole.ensures.unset (is ∙ sym c.in_ok-keep_block.ensures.stays) ∙ c.in_ok-keep_block.ensures.unset
+pub returns-clause-balances_set_stays : goal.returns-clause-balances_set_stays
+returns-clause-balances_set_stays c = λ is. c.settle_whole.ensures.balances_set_stays (is ∙ sym c.in_ok-keep_block.ensures.stays) ∙ c.in_ok-keep_block.ensures.balances_set_stays
 
 pub returns-clause-keeper : goal.returns-clause-keeper
 returns-clause-keeper c =
@@ -79,5 +79,5 @@ returns-in_err-given-clause-keeper c = keeper_same c.args.store.now c.args.keepe
 pub returns-in_err-keep_block-clause-keeper : goal.returns-in_err-keep_block-clause-keeper
 returns-in_err-keep_block-clause-keeper c = c.in_err-keep_block.ensures.keeper
 
-pub returns-in_err-keep_block-clause-unset : goal.returns-in_err-keep_block-clause-unset
-returns-in_err-keep_block-clause-unset c = λ _. c.in_err-keep_block.ensures.unset
+pub returns-in_err-keep_block-clause-balances_set_stays : goal.returns-in_err-keep_block-clause-balances_set_stays
+returns-in_err-keep_block-clause-balances_set_stays c = λ _. c.in_err-keep_block.ensures.balances_set_stays

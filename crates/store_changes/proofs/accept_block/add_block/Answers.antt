@@ -5,7 +5,7 @@ use Rattle.block_array.specs.Calls.{with_node}
 use Rattle.spec_fork_choice.specs.Store.{KeptBlock, Store}
 use Rattle.beacon_body.specs.declared.signed_block.SignedBeaconBlock.{SignedBeaconBlock}
 use Rattle.store_parts.specs.inside.Accepted.{kept_of}
-use Rattle.store_parts.specs.inside.Arrays.{number_of, IsArrayOf}
+use Rattle.store_parts.specs.inside.Arrays.{node_number, IsArrayOf}
 use Rattle.store_parts.specs.inside.Keepers.{IsStepOn}
 use Rattle.store_parts.specs.inside.Stores.{IsKept}
 use Rattle.store_parts.specs.inside.Trees.{Follows}
@@ -16,7 +16,7 @@ use Rattle.store_changes.proofs.accept_block.add_block.Goals as goal
 
 pub unreachable-requires : goal.unreachable-requires
 unreachable-requires c = parent_numbered c.args.store.now.blocks c.args.block.now.message c.requires.parent
-    (subst (λ (blocks : List KeptBlock). None ≡ number_of blocks c.args.block.now.message.parent_root) c.blocks-2.ensures c.in_default.ensures)
+    (subst (λ (blocks : List KeptBlock). None ≡ node_number blocks c.args.block.now.message.parent_root) c.blocks-2.ensures c.in_default.ensures)
 
 pub returns-in_err-copy-clause-array : goal.returns-in_err-copy-clause-array
 returns-in_err-copy-clause-array c = spare_array c.args.store.now c.args.array.now c.reserve.new.self c.requires.array c.in_ok-reserve.ensures
@@ -29,27 +29,27 @@ returns-in_err-keep-clause-array c =
 pub push-room-requires-clause-parent : goal.push-room-requires-clause-parent
 push-room-requires-clause-parent c =
     parent_fits c.args.store.now c.args.array.now c.reserve.new.self c.args.block.now.message c.in-Some.parent c.requires.array c.in_ok-reserve.ensures
-    (subst (λ (blocks : List KeptBlock). Some c.in-Some.parent ≡ number_of blocks c.args.block.now.message.parent_root) c.blocks-2.ensures c.in-Some.ensures)
+    (subst (λ (blocks : List KeptBlock). Some c.in-Some.parent ≡ node_number blocks c.args.block.now.message.parent_root) c.blocks-2.ensures c.in-Some.ensures)
 
 pub returns-clause-array : goal.returns-clause-array
 returns-clause-array c =
     block_array c.args.store.now c.keep.new.self c.args.array.now c.reserve.new.self c.push-room.new.self c.args.root c.args.block.now.message c.args.state c.in-Some.parent
     c.requires.array c.in_ok-reserve.ensures c.requires.named
-    (subst (λ (blocks : List KeptBlock). Some c.in-Some.parent ≡ number_of blocks c.args.block.now.message.parent_root) c.blocks-2.ensures c.in-Some.ensures)
+    (subst (λ (blocks : List KeptBlock). Some c.in-Some.parent ≡ node_number blocks c.args.block.now.message.parent_root) c.blocks-2.ensures c.in-Some.ensures)
     (subst (λ (b : SignedBeaconBlock). c.keep.new.self ≡ record c.args.store.now { blocks = c.args.store.now.blocks ++ kept_of c.args.root b.message c.args.state ∷ [] }) c.in_ok-copy.ensures c.in_ok-keep.ensures.kept)
     (subst (λ (f : Facts). c.push-room.new.self ≡ with_node c.reserve.new.self c.in-Some.parent c.args.block.now.message.slot c.args.root f) c.facts_of-facts.ensures
     (node_added c.push-room.result c.args.array.now c.reserve.new.self c.push-room.new.self
     (with_node c.reserve.new.self c.in-Some.parent c.args.block.now.message.slot c.args.root c.facts_of-facts.result)
     c.in_ok-reserve.ensures c.push-room.ensures.pushed c.push-room.ensures.spare))
 
-pub returns-in_err-copy-clause-unset : goal.returns-in_err-copy-clause-unset
-returns-in_err-copy-clause-unset c = ap (λ (a : PlainArray). a.balances_set) c.in_ok-reserve.ensures
+pub returns-in_err-copy-clause-balances_set_stays : goal.returns-in_err-copy-clause-balances_set_stays
+returns-in_err-copy-clause-balances_set_stays c = ap (λ (a : PlainArray). a.balances_set) c.in_ok-reserve.ensures
 
-pub returns-in_err-keep-clause-unset : goal.returns-in_err-keep-clause-unset
-returns-in_err-keep-clause-unset c = ap (λ (a : PlainArray). a.balances_set) c.in_ok-reserve.ensures
+pub returns-in_err-keep-clause-balances_set_stays : goal.returns-in_err-keep-clause-balances_set_stays
+returns-in_err-keep-clause-balances_set_stays c = ap (λ (a : PlainArray). a.balances_set) c.in_ok-reserve.ensures
 
-pub returns-clause-unset : goal.returns-clause-unset
-returns-clause-unset c =
+pub returns-clause-balances_set_stays : goal.returns-clause-balances_set_stays
+returns-clause-balances_set_stays c =
     ap (λ (a : PlainArray). a.balances_set)
     (node_added c.push-room.result c.args.array.now c.reserve.new.self c.push-room.new.self _ c.in_ok-reserve.ensures c.push-room.ensures.pushed c.push-room.ensures.spare)
     ∙ ap (λ (a : PlainArray). a.balances_set) c.in_ok-reserve.ensures
@@ -62,16 +62,16 @@ keep-requires-clause-step c = subst (λ (b : SignedBeaconBlock). IsStepOn c.args
 
 pub keep-requires-clause-parent : goal.keep-requires-clause-parent
 keep-requires-clause-parent c =
-    subst (λ (b : SignedBeaconBlock). Some c.in-Some.parent ≡ number_of c.args.store.now.blocks b.message.parent_root) (sym c.in_ok-copy.ensures)
-    (subst (λ (blocks : List KeptBlock). Some c.in-Some.parent ≡ number_of blocks c.args.block.now.message.parent_root) c.blocks-2.ensures c.in-Some.ensures)
+    subst (λ (b : SignedBeaconBlock). Some c.in-Some.parent ≡ node_number c.args.store.now.blocks b.message.parent_root) (sym c.in_ok-copy.ensures)
+    (subst (λ (blocks : List KeptBlock). Some c.in-Some.parent ≡ node_number blocks c.args.block.now.message.parent_root) c.blocks-2.ensures c.in-Some.ensures)
 
 pub keep-requires-clause-follows : goal.keep-requires-clause-follows
 keep-requires-clause-follows c =
     subst (λ (b : SignedBeaconBlock). Follows c.args.store.now.blocks (kept_of c.args.root b.message c.args.state)) (sym c.in_ok-copy.ensures)
     (follows c.args.store.now.blocks c.args.root c.args.block.now.message c.args.state c.requires.fresh c.requires.parent)
 
-pub number_of-requires : goal.number_of-requires
-number_of-requires c = subst (λ (blocks : List KeptBlock). length blocks < 2 ^ 32) (sym c.blocks-2.ensures) (omega (arith, c.requires.few))
+pub node_number-requires : goal.node_number-requires
+node_number-requires c = subst (λ (blocks : List KeptBlock). length blocks < 2 ^ 32) (sym c.blocks-2.ensures) (omega (arith, c.requires.few))
 
 pub push-room-requires-clause-few : goal.push-room-requires-clause-few
 push-room-requires-clause-few c = few_nodes c.args.store.now c.args.array.now c.reserve.new.self c.requires.array c.in_ok-reserve.ensures c.requires.few
@@ -79,14 +79,14 @@ push-room-requires-clause-few c = few_nodes c.args.store.now c.args.array.now c.
 pub push-room-requires-clause-later : goal.push-room-requires-clause-later
 push-room-requires-clause-later c =
     parent_earlier c.args.store.now c.args.array.now c.reserve.new.self c.args.block.now.message c.in-Some.parent c.requires.array c.in_ok-reserve.ensures
-    (subst (λ (blocks : List KeptBlock). Some c.in-Some.parent ≡ number_of blocks c.args.block.now.message.parent_root) c.blocks-2.ensures c.in-Some.ensures)
+    (subst (λ (blocks : List KeptBlock). Some c.in-Some.parent ≡ node_number blocks c.args.block.now.message.parent_root) c.blocks-2.ensures c.in-Some.ensures)
     c.is_sound.ensures.store.tree c.requires.parent
 
 pub returns-in_err-reserve-clause-array : goal.returns-in_err-reserve-clause-array
 returns-in_err-reserve-clause-array c = subst (IsArrayOf c.args.store.now) (sym c.in_err-reserve.ensures) c.requires.array
 
-pub returns-in_err-reserve-clause-unset : goal.returns-in_err-reserve-clause-unset
-returns-in_err-reserve-clause-unset c = ap (λ (a : PlainArray). a.balances_set) c.in_err-reserve.ensures
+pub returns-in_err-reserve-clause-balances_set_stays : goal.returns-in_err-reserve-clause-balances_set_stays
+returns-in_err-reserve-clause-balances_set_stays c = ap (λ (a : PlainArray). a.balances_set) c.in_err-reserve.ensures
 
 pub returns-in_err-keep-clause-stays : goal.returns-in_err-keep-clause-stays
 returns-in_err-keep-clause-stays c = ap (λ (s : Store). s.justified_checkpoint) c.in_err-keep.ensures.kept

@@ -38,8 +38,8 @@ returns-clause-keeper c =
     (keeper_same c.args.store.now c.args.keeper.now c.judge.new.keeper c.requires.keeper c.in_ok-indices.ensures.keeper))
     c.in_ok-update_latest_messages.ensures.config c.in_ok-update_latest_messages.ensures.blocks
 
-pub returns-clause-unset : goal.returns-clause-unset
-returns-clause-unset c = c.in_ok-update_latest_messages.ensures.unset
+pub returns-clause-balances_set_stays : goal.returns-clause-balances_set_stays
+returns-clause-balances_set_stays c = c.in_ok-update_latest_messages.ensures.balances_set_stays
 
 pub returns-in_err-indices-clause-whole : goal.returns-in_err-indices-clause-whole
 returns-in_err-indices-clause-whole c = subst (λ (s : Store). IsWhole s c.args.array.now c.args.ready.now) (sym c.in_err-indices.ensures.same) c.requires.whole
@@ -59,5 +59,5 @@ returns-in_err-update_latest_messages-clause-keeper c =
     (keeper_same c.args.store.now c.args.keeper.now c.judge.new.keeper c.requires.keeper c.in_ok-indices.ensures.keeper))
     c.in_err-update_latest_messages.ensures.config c.in_err-update_latest_messages.ensures.blocks
 
-pub returns-in_err-update_latest_messages-clause-unset : goal.returns-in_err-update_latest_messages-clause-unset
-returns-in_err-update_latest_messages-clause-unset c = c.in_err-update_latest_messages.ensures.unset
+pub returns-in_err-update_latest_messages-clause-balances_set_stays : goal.returns-in_err-update_latest_messages-clause-balances_set_stays
+returns-in_err-update_latest_messages-clause-balances_set_stays c = c.in_err-update_latest_messages.ensures.balances_set_stays

@@ -71,11 +71,11 @@ returns-in_err-keep_justified-in-None-clause-keeper c =
     subst (λ (s : Store). IsKeeperOf s c.keep_justified.new.keeper) (sym c.in_err-keep_justified-in-None.ensures.same)
     (keeper_same c.args.store.now c.args.keeper.now c.keep_justified.new.keeper c.requires.keeper c.in_err-keep_justified-in-None.ensures.keeper)
 
-pub returns-in_err-accept-in-None-clause-unset : goal.returns-in_err-accept-in-None-clause-unset
-returns-in_err-accept-in-None-clause-unset c = λ is. c.in_err-accept-in-None.ensures.unset (is ∙ sym (ap (λ (s : Store). s.justified_checkpoint) c.in_ok-keep_justified-in-None.ensures.same))
+pub returns-in_err-accept-in-None-clause-balances_set_stays : goal.returns-in_err-accept-in-None-clause-balances_set_stays
+returns-in_err-accept-in-None-clause-balances_set_stays c = λ is. c.in_err-accept-in-None.ensures.balances_set_stays (is ∙ sym (ap (λ (s : Store). s.justified_checkpoint) c.in_ok-keep_justified-in-None.ensures.same))
 
-pub returns-in_ok-accept-in-None-clause-unset : goal.returns-in_ok-accept-in-None-clause-unset
-returns-in_ok-accept-in-None-clause-unset c = λ is. c.in_ok-accept-in-None.ensures.unset (is ∙ sym (ap (λ (s : Store). s.justified_checkpoint) c.in_ok-keep_justified-in-None.ensures.same))
+pub returns-in_ok-accept-in-None-clause-balances_set_stays : goal.returns-in_ok-accept-in-None-clause-balances_set_stays
+returns-in_ok-accept-in-None-clause-balances_set_stays c = λ is. c.in_ok-accept-in-None.ensures.balances_set_stays (is ∙ sym (ap (λ (s : Store). s.justified_checkpoint) c.in_ok-keep_justified-in-None.ensures.same))
 
 pub returns-in_ok-accept-in-None-clause-exact : goal.returns-in_ok-accept-in-None-clause-exact
 returns-in_ok-accept-in-None-clause-exact c =

@@ -42,8 +42,8 @@ returns-in_err-step-clause-whole c = c.requires.whole
 pub returns-in_err-step-clause-keeper : goal.returns-in_err-step-clause-keeper
 returns-in_err-step-clause-keeper c = keeper_same c.args.store.now c.args.keeper.now c.block_step.new.keeper c.requires.keeper c.in_err-step.ensures.same
 
-pub returns-in_err-step-clause-unset : goal.returns-in_err-step-clause-unset
-returns-in_err-step-clause-unset c = λ _. refl
+pub returns-in_err-step-clause-balances_set_stays : goal.returns-in_err-step-clause-balances_set_stays
+returns-in_err-step-clause-balances_set_stays c = λ _. refl
 
 pub returns-clause-whole : goal.returns-clause-whole
 returns-clause-whole c = c.accept_unless.ensures.whole
@@ -51,5 +51,5 @@ returns-clause-whole c = c.accept_unless.ensures.whole
 pub returns-clause-keeper : goal.returns-clause-keeper
 returns-clause-keeper c = c.accept_unless.ensures.keeper
 
-pub returns-clause-unset : goal.returns-clause-unset
-returns-clause-unset c = c.accept_unless.ensures.unset
+pub returns-clause-balances_set_stays : goal.returns-clause-balances_set_stays
+returns-clause-balances_set_stays c = c.accept_unless.ensures.balances_set_stays

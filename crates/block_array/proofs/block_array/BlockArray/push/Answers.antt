@@ -1,5 +1,5 @@
 use Rattle.std.proofs.Common.{◌≡◌, ◌+◌, ◌++◌, ◌∷◌, [], None, false, List, length, vec_capacity, ap, ◌∙◌, arith}
-use Rattle.block_array.specs.declared.rank.Rank.{Rank}
+use Rattle.block_array.specs.declared.best_descendant.BestDescendant.{BestDescendant}
 use Rattle.block_array.specs.Calls.{with_node}
 use Rattle.block_array.specs.inside.Held.{Held}
 use Rattle.block_array.specs.inside.Counts.{Counts}
@@ -10,13 +10,13 @@ pub invariant_of-self-2 : goal.invariant_of-self-2
 invariant_of-self-2 c =
     let o = c.in_ok-room_for_node.ensures in
     let n : c.self.inside.tally.nodes ≡ length c.self.inside.inputs.array.nodes = c.self.invariant.noted.nodes in
-    let r : length c.self.inside.ranks.items ≡ length c.self.inside.inputs.array.nodes = c.self.invariant.length_is in
-    let same : c.room_for_node.new.ranks.items ≡ c.self.inside.ranks.items = c.in_ok-room_for_node.ensures.ranks in
-    let sl : length c.room_for_node.new.ranks.items ≡ length c.self.inside.ranks.items = ap length same in
-    let rr = c.in_ok-room_for_node.ensures.ranks_room in let tr = c.in_ok-room_for_node.ensures.tally_room in let rm = c.in_ok-room_for_node.ensures.ranks_more in let tm = c.in_ok-room_for_node.ensures.tally_more in
+    let r : length c.self.inside.bests.items ≡ length c.self.inside.inputs.array.nodes = c.self.invariant.length_is in
+    let same : c.room_for_node.new.bests.items ≡ c.self.inside.bests.items = c.in_ok-room_for_node.ensures.bests in
+    let sl : length c.room_for_node.new.bests.items ≡ length c.self.inside.bests.items = ap length same in
+    let rr = c.in_ok-room_for_node.ensures.bests_room in let tr = c.in_ok-room_for_node.ensures.tally_room in let rm = c.in_ok-room_for_node.ensures.bests_more in let tm = c.in_ok-room_for_node.ensures.tally_more in
     let pm = c.push_node.ensures.more in let cm = c.push_item.ensures.room in
-    kept_node c.self.inside.inputs.array c.self.inside.tally c.push_node.new.self c.self.inside.ranks.items c.push_item.new.items.items (vec_capacity c.self.inside.ranks) _ c.push.new.self.array c.args.parent c.args.slot c.args.root c.args.facts (record { weight = 0; has_child = false; child = None; descendant = 0 }) c.self.invariant
+    kept_node c.self.inside.inputs.array c.self.inside.tally c.push_node.new.self c.self.inside.bests.items c.push_item.new.items.items (vec_capacity c.self.inside.bests) _ c.push.new.self.array c.args.parent c.args.slot c.args.root c.args.facts (record { weight = 0; has_child = false; child = None; descendant = 0 }) c.self.invariant
     (ap (λ (h : Held). h.array) c.push.ensures.pushed ∙ ap (λ (h : Held). with_node h.array c.args.parent c.args.slot c.args.root c.args.facts) c.in_ok-room_for_node.ensures.inputs)
     (c.push_node.ensures.pushed ∙ ap (λ (x : Counts). record x { nodes = x.nodes + 1; node_room = c.push_node.new.self.node_room }) c.in_ok-room_for_node.ensures.tally)
-    (c.push_item.ensures.pushed ∙ ap (λ (rs : List Rank). rs ++ record { weight = 0; has_child = false; child = None; descendant = 0 } ∷ []) same)
+    (c.push_item.ensures.pushed ∙ ap (λ (rs : List BestDescendant). rs ++ record { weight = 0; has_child = false; child = None; descendant = 0 } ∷ []) same)
     (omega arith) (omega arith) (omega arith) (omega arith)

@@ -10,8 +10,8 @@ use Rattle.block_array.proofs.block_array.BlockArray.vote.Goals as goal
 pub invariant_of-self-2 : goal.invariant_of-self-2
 invariant_of-self-2 c =
     let o = c.in_ok-room_for_vote.ensures in
-    kept_vote c.self.inside.inputs.array c.room_for_vote.new.tally c.self.inside.ranks.items _
-    (kept_rooms c.self.inside.inputs.array c.self.inside.tally c.room_for_vote.new.tally c.self.inside.ranks.items c.self.inside.ranks.items (vec_capacity c.self.inside.ranks) _ c.self.invariant refl (ap (λ (x : Counts). x.validators) c.in_ok-room_for_vote.ensures.tally) (ap (λ (x : Counts). x.nodes) c.in_ok-room_for_vote.ensures.tally) (ap (λ (x : Counts). x.boost) c.in_ok-room_for_vote.ensures.tally) (let r : c.room_for_vote.new.tally.node_room ≡ c.self.inside.tally.node_room = ap (λ (x : Counts). x.node_room) c.in_ok-room_for_vote.ensures.tally in omega arith) c.in_ok-room_for_vote.ensures.tally_more (omega arith))
+    kept_vote c.self.inside.inputs.array c.room_for_vote.new.tally c.self.inside.bests.items _
+    (kept_rooms c.self.inside.inputs.array c.self.inside.tally c.room_for_vote.new.tally c.self.inside.bests.items c.self.inside.bests.items (vec_capacity c.self.inside.bests) _ c.self.invariant refl (ap (λ (x : Counts). x.validators) c.in_ok-room_for_vote.ensures.tally) (ap (λ (x : Counts). x.nodes) c.in_ok-room_for_vote.ensures.tally) (ap (λ (x : Counts). x.boost) c.in_ok-room_for_vote.ensures.tally) (let r : c.room_for_vote.new.tally.node_room ≡ c.self.inside.tally.node_room = ap (λ (x : Counts). x.node_room) c.in_ok-room_for_vote.ensures.tally in omega arith) c.in_ok-room_for_vote.ensures.tally_more (omega arith))
     c.note.new.inputs.array c.args.validator (record { epoch = c.args.epoch; node = c.args.node }) c.note.new.tally
     (c.note.ensures.array ∙ ap (λ (h : Held). voted h.array c.args.validator (record { epoch = c.args.epoch; node = c.args.node })) c.in_ok-room_for_vote.ensures.inputs)
     c.note.ensures.noted c.note.ensures.node_room c.note.ensures.validator_room

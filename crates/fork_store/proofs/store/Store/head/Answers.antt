@@ -9,10 +9,10 @@ pub get_head-requires : goal.get_head-requires
 get_head-requires g c = c.self.invariant.0.array_of
 
 pub invariant_of-self : goal.invariant_of-self
-invariant_of-self g c = (made_whole c.self.inside.fields c.self.inside.array c.get_head.new.array c.self.inside.ready c.self.invariant.0 c.get_head.ensures.applied, c.self.invariant.1)
+invariant_of-self g c = (made_whole c.self.inside.fields c.self.inside.array c.get_head.new.array c.self.inside.ready c.self.invariant.0 c.get_head.ensures.up_to_date, c.self.invariant.1)
 
 pub returns-clause-root : goal.returns-clause-root
 returns-clause-root g c = subst (λ (s : Seen). c.get_head.result ≡ get_head s.plain) c.self.view_is c.get_head.ensures.root
 
-pub returns-clause-applied : goal.returns-clause-applied
-returns-clause-applied g c = subst (λ (s : Seen). c.get_head.new.array ≡ made s.array) c.self.view_is c.get_head.ensures.applied
+pub returns-clause-up_to_date : goal.returns-clause-up_to_date
+returns-clause-up_to_date g c = subst (λ (s : Seen). c.get_head.new.array ≡ made s.array) c.self.view_is c.get_head.ensures.up_to_date

@@ -1,7 +1,0 @@
-use Rattle.std.proofs.Common.{false, None, set, ap}
-use Rattle.block_array.specs.declared.rank.Rank.{Rank}
-use Rattle.block_array.proofs.settle.begin_one.Goals as goal
-
-pub returns-clause-set : goal.returns-clause-set
-returns-clause-set g c =
-    ap (λ w. set c.args.ranks.now.items c.args.number (let fresh : Rank = record { weight = w; has_child = false; child = None; descendant = 0 } in fresh)) c.own.ensures
