@@ -9,12 +9,15 @@ use Rattle.std.proofs.lemmas.Option.{slice_get-get_or}
 use Rattle.std.proofs.lemmas.List.{take_all, take-append-drop, length-append, length-take, length-take-le, length-drop, get_or_append_left, get_or-append_right, get_or-take, get_or_default, append-nil}
 use Rattle.ssz_codec.specs.Basic.{number_bits}
 use Rattle.hash_tree.specs.Merkle.{bits_number}
-use Rattle.ssz_codec.specs.BitLists.{packed_bits, bits_bytes, bit_list_bytes}
+use Rattle.hash_tree.specs.Merkle.{packed_bits, bits_bytes}
+use Rattle.hash_tree.proofs.Bits.{bits_bytes_one}
+use Rattle.ssz_codec.specs.BitLists.{bit_list_bytes}
+use Rattle.ssz_codec.specs.laws.Basic.{bits_bytes_len, bits_bytes_nil, bits_bytes_step}
 use Rattle.ssz_codec.specs.inside.HeldBits.{held_bits, IsHeld}
 use Rattle.ssz_codec.specs.declared.bit_list.BitList.TheInside.{Inside}
 use Rattle.ssz_codec.specs.Lawful.{IsBytes}
 use Rattle.ssz_codec.specs.laws.Basic.{bits_of_number, number_bits_len, bits_below, pow-step}
-use Rattle.ssz_codec.specs.laws.BitLists.{whole_bits, length-whole_bits, bits_bytes_len, bits_bytes_nil, bits_bytes_step, bits_bytes_one, writing_step, writing_one}
+use Rattle.ssz_codec.specs.laws.BitLists.{whole_bits, length-whole_bits, writing_step, writing_one}
 
 -- ---- one bit
 
