@@ -4,7 +4,7 @@ use Rattle.std.specs.Prelude.{ℕ, List, [], replicate}
 use Rattle.ssz_codec.specs.Codec.{Codec}
 use Rattle.ssz_codec.specs.Containers.{Fields, fields_of, ◌▹◌∶◌, container_of}
 use Rattle.ssz_codec.specs.Basic.{uint64, bytes32, bytes96}
-use Rattle.ssz_codec.specs.Lists.{list_codec, variable_list_codec}
+use Rattle.ssz_codec.specs.Lists.{list_codec}
 use Rattle.beacon_types.specs.Containers.{eth1_data_codec, signed_header_codec, indexed_attestation_codec, aggregation_bits_codec, attestation_data_codec, deposit_codec, signed_exit_codec}
 use Rattle.beacon_body.specs.declared.proposer_slashing.ProposerSlashing.{ProposerSlashing}
 use Rattle.beacon_body.specs.declared.attester_slashing.AttesterSlashing.{AttesterSlashing}
@@ -69,8 +69,8 @@ block_body_fields = fields_of (λ randao eth1 graffiti proposer_slashings attest
     ▹ (λ v. v.eth1_data) ∶ eth1_data_codec
     ▹ (λ v. v.graffiti) ∶ bytes32
     ▹ (λ v. v.proposer_slashings) ∶ list_codec proposer_slashing_codec max_proposer_slashings
-    ▹ (λ v. v.attester_slashings) ∶ variable_list_codec attester_slashing_codec max_attester_slashings
-    ▹ (λ v. v.attestations) ∶ variable_list_codec attestation_codec max_attestations
+    ▹ (λ v. v.attester_slashings) ∶ list_codec attester_slashing_codec max_attester_slashings
+    ▹ (λ v. v.attestations) ∶ list_codec attestation_codec max_attestations
     ▹ (λ v. v.deposits) ∶ list_codec deposit_codec max_deposits
     ▹ (λ v. v.voluntary_exits) ∶ list_codec signed_exit_codec max_voluntary_exits
 

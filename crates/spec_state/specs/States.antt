@@ -3,7 +3,7 @@ use Rattle.std.specs.Prelude.{ℕ, ◌*◌}
 use Rattle.ssz_codec.specs.Codec.{Codec}
 use Rattle.ssz_codec.specs.Containers.{Fields, fields_of, ◌▹◌∶◌, ◌▹◌≔◌, container_of}
 use Rattle.ssz_codec.specs.Basic.{uint64, bytes32, bitvector}
-use Rattle.ssz_codec.specs.Lists.{vector_codec, list_codec, variable_list_codec}
+use Rattle.ssz_codec.specs.Lists.{vector_codec, list_codec}
 use Rattle.bc_preset.specs.declared.presets.Preset.{Preset}
 use Rattle.beacon_types.specs.Containers.{fork_codec, checkpoint_codec, validator_codec, eth1_data_codec, block_header_codec, pending_attestation_codec}
 use Rattle.spec_state.specs.declared.plain.PlainState.{PlainState}
@@ -36,8 +36,8 @@ state_fields p =
     ▹ (λ s. s.balances) ∶ list_codec uint64 p.validator_registry_limit
     ▹ (λ s. s.randao_mixes) ∶ vector_codec bytes32 p.epochs_per_historical_vector
     ▹ (λ s. s.slashings) ∶ vector_codec uint64 p.epochs_per_slashings_vector
-    ▹ (λ s. s.previous_epoch_attestations) ∶ variable_list_codec pending_attestation_codec (attestations_limit p)
-    ▹ (λ s. s.current_epoch_attestations) ∶ variable_list_codec pending_attestation_codec (attestations_limit p)
+    ▹ (λ s. s.previous_epoch_attestations) ∶ list_codec pending_attestation_codec (attestations_limit p)
+    ▹ (λ s. s.current_epoch_attestations) ∶ list_codec pending_attestation_codec (attestations_limit p)
     ▹ (λ s. s.justification_bits) ∶ bitvector 4
     ▹ (λ s. s.previous_justified_checkpoint) ∶ checkpoint_codec
     ▹ (λ s. s.current_justified_checkpoint) ∶ checkpoint_codec

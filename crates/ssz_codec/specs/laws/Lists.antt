@@ -10,7 +10,7 @@ use Rattle.ssz_codec.specs.declared.layout.Field.{Field}
 use Rattle.ssz_codec.specs.declared.layout.Field.TheVariants.{Fixed, Variable}
 use Rattle.ssz_codec.specs.Layout.{◌and_then◌, offset_bytes, offset_of, field_length, fixed_length, fixed_parts, variable_parts, joined, OffsetsFit, cut}
 use Rattle.ssz_codec.specs.Codec.{Codec}
-use Rattle.ssz_codec.specs.Lists.{parse_items, parse_parts, parse_list, parse_variable_list, vector_codec, list_codec, variable_list_codec}
+use Rattle.ssz_codec.specs.Lists.{parse_items, parse_parts, parse_list, parse_variable_list, vector_codec, fixed_size_list, variable_size_list}
 use Rattle.ssz_codec.specs.Lawful.{IsBytes, HasSize, FitFields, IsLawful, IsFixed}
 use Rattle.ssz_codec.specs.laws.Layout.{IsBytes-take, IsBytes-drop, bind_some, some_is, unless_some, when_some, offset_again, offset_len, cut_is_joined, joined_is_cut}
 
@@ -79,7 +79,7 @@ vector_lawful {A = A} c count fixed law = record {
   size = λ xs within. items_len c law fixed xs within.1 ∙ ap (λ n. n * field_length c.field) within.0;
 }
 
-pub list_lawful : {A : Type 0} (c : Codec A) (limit : ℕ) → IsFixed c.field → IsLawful c → IsLawful (list_codec c limit)
+pub list_lawful : {A : Type 0} (c : Codec A) (limit : ℕ) → IsFixed c.field → IsLawful c → IsLawful (fixed_size_list c limit)
 unfolding parse_list
 list_lawful {A = A} c limit fixed law =
     let size = field_length c.field in
@@ -211,7 +211,7 @@ variable_again c law limit (x ∷ xs) le within fit =
     ∙ ap (λ (o : Option (List (List ℕ))). o and_then λ ps. parse_parts c.deserialize ps) cut-is
     ∙ parts_again c law (x ∷ xs) within
 
-pub variable_list_lawful : {A : Type 0} (c : Codec A) (limit : ℕ) → IsLawful c → IsLawful (variable_list_codec c limit)
+pub variable_list_lawful : {A : Type 0} (c : Codec A) (limit : ℕ) → IsLawful c → IsLawful (variable_size_list c limit)
 unfolding parse_variable_list
 variable_list_lawful c limit law = record {
   sound = λ bytes xs fits e. variable_sound c law limit bytes xs (length bytes == 0) refl fits e;

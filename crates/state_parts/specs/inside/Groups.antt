@@ -4,7 +4,7 @@ use Rattle.std.specs.Prelude.{ℕ, List, Option, Some}
 use Rattle.ssz_codec.specs.Layout.{◌and_then◌}
 use Rattle.ssz_codec.specs.Containers.{Fields, fields_of, ◌▹◌∶◌, all_read}
 use Rattle.ssz_codec.specs.Basic.{uint64, bytes32, bitvector}
-use Rattle.ssz_codec.specs.Lists.{vector_codec, list_codec, variable_list_codec}
+use Rattle.ssz_codec.specs.Lists.{vector_codec, list_codec}
 use Rattle.bc_preset.specs.declared.presets.Preset.{Preset}
 use Rattle.beacon_types.specs.Containers.{fork_codec, checkpoint_codec, validator_codec, eth1_data_codec, block_header_codec, pending_attestation_codec}
 use Rattle.spec_state.specs.declared.plain.PlainState.{PlainState}
@@ -45,8 +45,8 @@ registry_fields p = fields_of (λ validators balances randao_mixes slashings. re
 
 unfoldable pub pending_fields : Preset → Fields Pending Pending
 pending_fields p = fields_of (λ previous_epoch_attestations current_epoch_attestations. record { previous_epoch_attestations = previous_epoch_attestations; current_epoch_attestations = current_epoch_attestations })
-    ▹ (λ v. v.previous_epoch_attestations) ∶ variable_list_codec pending_attestation_codec (attestations_limit p)
-    ▹ (λ v. v.current_epoch_attestations) ∶ variable_list_codec pending_attestation_codec (attestations_limit p)
+    ▹ (λ v. v.previous_epoch_attestations) ∶ list_codec pending_attestation_codec (attestations_limit p)
+    ▹ (λ v. v.current_epoch_attestations) ∶ list_codec pending_attestation_codec (attestations_limit p)
 
 unfoldable pub finality_fields : Fields Finality Finality
 finality_fields = fields_of (λ justification_bits previous_justified_checkpoint current_justified_checkpoint finalized_checkpoint. record { justification_bits = justification_bits; previous_justified_checkpoint = previous_justified_checkpoint; current_justified_checkpoint = current_justified_checkpoint; finalized_checkpoint = finalized_checkpoint })
