@@ -36,7 +36,10 @@ max_voluntary_exits = 16
 
 -- ProposerSlashing
 abbrev pub proposer_slashing_fields : Fields ProposerSlashing ProposerSlashing
-proposer_slashing_fields = fields_of (λ first second. record { signed_header_1 = first; signed_header_2 = second })
+proposer_slashing_fields = fields_of (λ first second. record {
+  signed_header_1 = first;
+  signed_header_2 = second;
+})
     ▹ (λ v. v.signed_header_1) ∶ signed_header_codec
     ▹ (λ v. v.signed_header_2) ∶ signed_header_codec
 
@@ -45,7 +48,10 @@ proposer_slashing_codec = container_of proposer_slashing_fields
 
 -- AttesterSlashing
 abbrev pub attester_slashing_fields : Fields AttesterSlashing AttesterSlashing
-attester_slashing_fields = fields_of (λ first second. record { attestation_1 = first; attestation_2 = second })
+attester_slashing_fields = fields_of (λ first second. record {
+  attestation_1 = first;
+  attestation_2 = second;
+})
     ▹ (λ v. v.attestation_1) ∶ indexed_attestation_codec
     ▹ (λ v. v.attestation_2) ∶ indexed_attestation_codec
 
@@ -54,7 +60,11 @@ attester_slashing_codec = container_of attester_slashing_fields
 
 -- Attestation; the published field data is called content
 abbrev pub attestation_fields : Fields Attestation Attestation
-attestation_fields = fields_of (λ bits content signature. record { aggregation_bits = bits; content = content; signature = signature })
+attestation_fields = fields_of (λ bits content signature. record {
+  aggregation_bits = bits;
+  content = content;
+  signature = signature;
+})
     ▹ (λ v. v.aggregation_bits) ∶ aggregation_bits_codec
     ▹ (λ v. v.content) ∶ attestation_data_codec
     ▹ (λ v. v.signature) ∶ bytes96
@@ -64,7 +74,16 @@ attestation_codec = container_of attestation_fields
 
 -- BeaconBlockBody
 abbrev pub block_body_fields : Fields BeaconBlockBody BeaconBlockBody
-block_body_fields = fields_of (λ randao eth1 graffiti proposer_slashings attester_slashings attestations deposits exits. record { randao_reveal = randao; eth1_data = eth1; graffiti = graffiti; proposer_slashings = proposer_slashings; attester_slashings = attester_slashings; attestations = attestations; deposits = deposits; voluntary_exits = exits })
+block_body_fields = fields_of (λ randao eth1 graffiti proposer_slashings attester_slashings attestations deposits exits. record {
+  randao_reveal = randao;
+  eth1_data = eth1;
+  graffiti = graffiti;
+  proposer_slashings = proposer_slashings;
+  attester_slashings = attester_slashings;
+  attestations = attestations;
+  deposits = deposits;
+  voluntary_exits = exits;
+})
     ▹ (λ v. v.randao_reveal) ∶ bytes96
     ▹ (λ v. v.eth1_data) ∶ eth1_data_codec
     ▹ (λ v. v.graffiti) ∶ bytes32
@@ -79,7 +98,13 @@ block_body_codec = container_of block_body_fields
 
 -- BeaconBlock
 abbrev pub block_fields : Fields BeaconBlock BeaconBlock
-block_fields = fields_of (λ slot proposer parent state body. record { slot = slot; proposer_index = proposer; parent_root = parent; state_root = state; body = body })
+block_fields = fields_of (λ slot proposer parent state body. record {
+  slot = slot;
+  proposer_index = proposer;
+  parent_root = parent;
+  state_root = state;
+  body = body;
+})
     ▹ (λ v. v.slot) ∶ uint64
     ▹ (λ v. v.proposer_index) ∶ uint64
     ▹ (λ v. v.parent_root) ∶ bytes32
@@ -91,7 +116,10 @@ block_codec = container_of block_fields
 
 -- SignedBeaconBlock
 abbrev pub signed_block_fields : Fields SignedBeaconBlock SignedBeaconBlock
-signed_block_fields = fields_of (λ message signature. record { message = message; signature = signature })
+signed_block_fields = fields_of (λ message signature. record {
+  message = message;
+  signature = signature;
+})
     ▹ (λ v. v.message) ∶ block_codec
     ▹ (λ v. v.signature) ∶ bytes96
 

@@ -18,8 +18,36 @@ attestations_limit p = p.max_attestations * p.slots_per_epoch
 -- BeaconState: the preset stands beside its 21 fields, and isn't part of the writing
 unfoldable pub state_fields : Preset → Fields PlainState PlainState
 state_fields p =
-    fields_of (λ preset genesis_time genesis_validators_root slot fork latest_block_header block_roots state_roots historical_roots eth1_data eth1_data_votes eth1_deposit_index validators balances randao_mixes slashings previous_epoch_attestations current_epoch_attestations justification_bits previous_justified_checkpoint current_justified_checkpoint finalized_checkpoint.
-    record { preset = preset; genesis_time = genesis_time; genesis_validators_root = genesis_validators_root; slot = slot; fork = fork; latest_block_header = latest_block_header; block_roots = block_roots; state_roots = state_roots; historical_roots = historical_roots; eth1_data = eth1_data; eth1_data_votes = eth1_data_votes; eth1_deposit_index = eth1_deposit_index; validators = validators; balances = balances; randao_mixes = randao_mixes; slashings = slashings; previous_epoch_attestations = previous_epoch_attestations; current_epoch_attestations = current_epoch_attestations; justification_bits = justification_bits; previous_justified_checkpoint = previous_justified_checkpoint; current_justified_checkpoint = current_justified_checkpoint; finalized_checkpoint = finalized_checkpoint })
+    fields_of (λ preset.
+    λ genesis_time genesis_validators_root slot fork.
+    λ latest_block_header block_roots state_roots historical_roots.
+    λ eth1_data eth1_data_votes eth1_deposit_index.
+    λ validators balances randao_mixes slashings.
+    λ previous_epoch_attestations current_epoch_attestations.
+    λ justification_bits previous_justified_checkpoint current_justified_checkpoint finalized_checkpoint. record {
+      preset = preset;
+      genesis_time = genesis_time;
+      genesis_validators_root = genesis_validators_root;
+      slot = slot;
+      fork = fork;
+      latest_block_header = latest_block_header;
+      block_roots = block_roots;
+      state_roots = state_roots;
+      historical_roots = historical_roots;
+      eth1_data = eth1_data;
+      eth1_data_votes = eth1_data_votes;
+      eth1_deposit_index = eth1_deposit_index;
+      validators = validators;
+      balances = balances;
+      randao_mixes = randao_mixes;
+      slashings = slashings;
+      previous_epoch_attestations = previous_epoch_attestations;
+      current_epoch_attestations = current_epoch_attestations;
+      justification_bits = justification_bits;
+      previous_justified_checkpoint = previous_justified_checkpoint;
+      current_justified_checkpoint = current_justified_checkpoint;
+      finalized_checkpoint = finalized_checkpoint;
+    })
     ▹ (λ s. s.preset) ≔ p
     ▹ (λ s. s.genesis_time) ∶ uint64
     ▹ (λ s. s.genesis_validators_root) ∶ bytes32
