@@ -4,6 +4,7 @@ use Rattle.hash_tree.specs.Merkle.{merkleize, padded_chunk, chunk_count, bit_chu
 use Rattle.ssz_codec.specs.declared.layout.Field.TheVariants.{Fixed}
 use Rattle.ssz_codec.specs.Layout.{◌and_then◌}
 use Rattle.ssz_codec.specs.Codec.{Codec}
+use Rattle.ssz_codec.specs.Lawful.{IsBytes}
 
 -- uint64
 abbrev pub uint64 : Codec ℕ
@@ -39,7 +40,7 @@ abbrev pub bytes_codec : ℕ → Codec (List ℕ)
 bytes_codec n = record {
   field = Fixed n;
   basic = false;
-  Within = λ v. length v ≡ n;
+  Within = λ v. (length v ≡ n) × IsBytes v;
   serialize = λ v. v;
   deserialize = λ bytes. if length bytes == n then Some bytes else None;
   hash_tree_root = λ v. merkleize (byte_chunks v) (chunk_count n);

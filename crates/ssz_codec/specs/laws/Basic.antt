@@ -1,8 +1,9 @@
 -- The codecs of basic values keep the law. Proofs, not definitions.
 use Rattle.std.proofs.Common.{◌≡◌, ℕ, zero, suc, ◌+◌, ◌-◌, ◌*◌, ◌/◌, ◌%◌, ◌^◌, ◌<◌, ◌≤◌, Bool, true, false, cond, List, [], ◌∷◌, ◌++◌, length, take, drop, Option, Some, None, refl, sym, ap, subst, ◌∙◌, arith, inl, inr}
 use Rattle.std.specs.Prelude.{nat_lt, ◌==◌, replicate}
-use Rattle.std.proofs.lemmas.List.{take_all, take_at, drop_at, take-append-drop, length-append, length-take-le, length-drop, append-nil}
+use Rattle.std.proofs.lemmas.List.{take_all, take_at, drop_at, take-append-drop, length-append, length-take, length-take-le, length-drop, append-nil}
 use Rattle.std.proofs.lemmas.Bool.{cases_lt, ltb-true, lt-ltb, le-ltb, eqb-true, eqb-false, eq-eqb, ne_eqb}
+use Rattle.std.proofs.Math.Pow.{pow_mono}
 use Rattle.hash_tree.proofs.Bits.{bits_bytes_one}
 use Rattle.std.proofs.lemmas.Nat.{le_bytes_8, from_le_bytes-to_le_bytes_8}
 use Rattle.hash_tree.specs.Merkle.{uint_to_bytes, bytes_to_uint64, bool_bytes, bits_number, packed_bits, bits_bytes, merkle_root, merkleize, depth_of, depth_from, chunk_count, chunks_of, byte_chunks, padded_chunk}
@@ -10,6 +11,23 @@ use Rattle.ssz_codec.specs.Layout.{◌and_then◌}
 use Rattle.ssz_codec.specs.Basic.{uint64, parse_bool, boolean, bytes_codec, bytes32, number_bits, first_bits, parse_bits, bitvector}
 use Rattle.ssz_codec.specs.Lawful.{IsBytes, IsLawful, IsFixed}
 use Rattle.ssz_codec.specs.laws.Layout.{when_some, unless_some, bind_some, some_is}
+
+pub number_fits : (n : ℕ) → IsBytes (uint_to_bytes n)
+unfolding uint_to_bytes
+number_fits n zero = omega arith
+number_fits n (suc zero) = omega arith
+number_fits n (suc (suc zero)) = omega arith
+number_fits n (suc (suc (suc zero))) = omega arith
+number_fits n (suc (suc (suc (suc zero)))) = omega arith
+number_fits n (suc (suc (suc (suc (suc zero))))) = omega arith
+number_fits n (suc (suc (suc (suc (suc (suc zero)))))) = omega arith
+number_fits n (suc (suc (suc (suc (suc (suc (suc zero))))))) = omega arith
+number_fits n (suc (suc (suc (suc (suc (suc (suc (suc i)))))))) = omega arith
+
+bool_fits : (b : Bool) → IsBytes (bool_bytes b)
+bool_fits true zero = omega arith
+bool_fits false zero = omega arith
+bool_fits b (suc i) = omega arith
 
 number_back : (bytes : List ℕ) → length bytes ≡ 8 → IsBytes bytes → uint_to_bytes (bytes_to_uint64 bytes) ≡ bytes
 unfolding uint_to_bytes bytes_to_uint64
@@ -36,6 +54,7 @@ uint64_lawful = record {
   complete = λ v within.
       ap (λ b. cond b (Some (bytes_to_uint64 (uint_to_bytes v))) None) (eq-eqb _ _ (number_len v)) ∙ ap (λ n. Some n) (number_again v within);
   size = λ v within. number_len v;
+  bytes = λ v within. number_fits v;
 }
 
 pub uint64_is_fixed : IsFixed uint64.field
@@ -57,6 +76,7 @@ boolean_lawful = record {
   sound = λ bytes v fits e. (tt, bool_sound bytes v e);
   complete = λ v within. bool_complete v;
   size = λ v within. refl;
+  bytes = λ v within. bool_fits v;
 }
 
 pub bytes_lawful : (n : ℕ) → IsLawful (bytes_codec n)
@@ -64,15 +84,16 @@ bytes_lawful n = record {
   sound = λ bytes v fits e.
       let w = when_some (length bytes == n) (Some bytes) v e in
       let v-is : bytes ≡ v = some_is _ _ w.1 in
-      (subst (λ (l : List ℕ). length l ≡ n) v-is (eqb-true _ _ w.0), v-is);
-  complete = λ v within. ap (λ b. cond b (Some v) None) (eq-eqb _ _ within);
-  size = λ v within. within;
+      (subst (λ (l : List ℕ). (length l ≡ n) × IsBytes l) v-is (eqb-true _ _ w.0, fits), v-is);
+  complete = λ v within. ap (λ b. cond b (Some v) None) (eq-eqb _ _ within.0);
+  size = λ v within. within.0;
+  bytes = λ v within. within.1;
 }
 
 pub bytes32_lawful : IsLawful bytes32
 bytes32_lawful =
     let law = bytes_lawful 32 in
-    record { sound = law.sound; complete = law.complete; size = law.size }
+    record { sound = law.sound; complete = law.complete; size = law.size; bytes = law.bytes }
 
 pub bytes32_is_fixed : IsFixed bytes32.field
 bytes32_is_fixed = omega arith
@@ -151,6 +172,16 @@ packed_step count more front bits e l = rw e (
 pub bits_bytes_step : (front bits : List Bool) → length front ≡ 8 → bits_bytes (front ++ bits) ≡ bits_number front ∷ bits_bytes bits
 bits_bytes_step front bits l =
     packed_step ((length (front ++ bits) + 7) / 8) ((length bits + 7) / 8) front bits (omega (arith, length-append front bits)) l
+
+-- bits are packed into bytes
+pub packed_fits : (count : ℕ) (bits : List Bool) → IsBytes (packed_bits count bits)
+unfolding packed_bits
+packed_fits zero bits i = omega arith
+packed_fits (suc count) bits zero =
+    let few : length (take 8 bits) ≤ 8 = omega (arith, length-take 8 bits) in
+    let high : 2 ^ length (take 8 bits) ≤ 2 ^ 8 = pow_mono {i = length (take 8 bits)} {j = 8} few in
+    omega (arith, bits_below (take 8 bits))
+packed_fits (suc count) bits (suc i) = packed_fits count (drop 8 bits) i
 
 pub bits_bytes_nil : bits_bytes [] ≡ []
 unfolding packed_bits
@@ -254,4 +285,5 @@ bitvector_lawful count = record {
   sound = λ bytes v fits e. bits_sound count bytes v e;
   complete = λ v within. ap (λ k. parse_bits k (bits_bytes v)) (sym within) ∙ again_at (length v / 8) v refl;
   size = λ v within. bits_bytes_len v ∙ ap (λ k. (k + 7) / 8) within;
+  bytes = λ v within. packed_fits ((length v + 7) / 8) v;
 }

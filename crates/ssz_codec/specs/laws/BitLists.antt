@@ -14,7 +14,7 @@ use Rattle.ssz_codec.specs.declared.fault.SszFault.TheVariants.{NotAWriting, NoM
 use Rattle.ssz_codec.specs.Reads.{ReadsAs, Reads}
 use Rattle.ssz_codec.specs.Lawful.{IsBytes, IsLawful}
 use Rattle.ssz_codec.specs.laws.Layout.{bind_some, some_is, unless_some}
-use Rattle.ssz_codec.specs.laws.Basic.{bits_of_number, number_bits_len, bits_again, first_bit, other_bits, halves, pow-step, bits_bytes_len, bits_bytes_step}
+use Rattle.ssz_codec.specs.laws.Basic.{bits_of_number, number_bits_len, bits_again, first_bit, other_bits, halves, pow-step, bits_bytes_len, bits_bytes_step, packed_fits}
 use Rattle.hash_tree.proofs.Bits.{bits_bytes_one}
 
 -- ---- the writing, byte by byte
@@ -157,11 +157,16 @@ bit_list_complete limit bits l =
     ap (λ o. o and_then λ all. cond (nat_lt limit (length all)) None (Some all)) (before_end_complete bits)
     ∙ ap (λ b. cond b None (Some bits)) (le-ltb _ _ l)
 
+list_fits : (bits : List Bool) → IsBytes (bit_list_bytes bits)
+unfolding bit_list_bytes
+list_fits bits = packed_fits ((length (bits ++ true ∷ []) + 7) / 8) (bits ++ true ∷ [])
+
 pub bitlist_lawful : (limit : ℕ) → IsLawful (bitlist limit)
 bitlist_lawful limit = record {
   sound = λ bytes bits fits e. bit_list_sound limit bytes bits fits e;
   complete = λ bits l. bit_list_complete limit bits l;
   size = λ bits l. tt;
+  bytes = λ bits l. list_fits bits;
 }
 
 pub reads_from_gives : (limit : ℕ) (bytes : List ℕ) (r : Result (List Bool) SszFault) → IsBytes bytes → ReadsAs r (parse_bit_list limit bytes) → Reads (bitlist limit) r bytes
