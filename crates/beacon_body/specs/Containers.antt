@@ -1,6 +1,8 @@
 -- The containers of blocks, field by field in the order of the published specification (beacon-chain.md, "Beacon
 -- operations" and "Beacon blocks").
 use Rattle.std.specs.Prelude.{ℕ, List, [], replicate}
+use Rattle.bc_preset.specs.Presets.{mainnet}
+use Rattle.hash_tree.specs.Merkle.{zero_root}
 use Rattle.ssz_codec.specs.Codec.{Codec}
 use Rattle.ssz_codec.specs.Containers.{Fields, fields_of, ◌▹◌∶◌, container_of}
 use Rattle.ssz_codec.specs.Basic.{uint64, bytes32, bytes96}
@@ -13,26 +15,21 @@ use Rattle.beacon_body.specs.declared.body.BeaconBlockBody.{BeaconBlockBody}
 use Rattle.beacon_body.specs.declared.block.BeaconBlock.{BeaconBlock}
 use Rattle.beacon_body.specs.declared.signed_block.SignedBeaconBlock.{SignedBeaconBlock}
 
--- The limits of a body's lists ("Max operations per block"), which all presets share.
--- MAX_PROPOSER_SLASHINGS
+-- The limits of a body's lists ("Max operations per block"), which both presets share
 abbrev pub max_proposer_slashings : ℕ
-max_proposer_slashings = 16
+max_proposer_slashings = mainnet.max_proposer_slashings
 
--- MAX_ATTESTER_SLASHINGS
 abbrev pub max_attester_slashings : ℕ
-max_attester_slashings = 2
+max_attester_slashings = mainnet.max_attester_slashings
 
--- MAX_ATTESTATIONS
 abbrev pub max_attestations : ℕ
-max_attestations = 128
+max_attestations = mainnet.max_attestations
 
--- MAX_DEPOSITS
 abbrev pub max_deposits : ℕ
-max_deposits = 16
+max_deposits = mainnet.max_deposits
 
--- MAX_VOLUNTARY_EXITS
 abbrev pub max_voluntary_exits : ℕ
-max_voluntary_exits = 16
+max_voluntary_exits = mainnet.max_voluntary_exits
 
 -- ProposerSlashing
 abbrev pub proposer_slashing_fields : Fields ProposerSlashing ProposerSlashing
@@ -130,8 +127,8 @@ signed_block_codec = container_of signed_block_fields
 abbrev pub default_block_body : BeaconBlockBody
 default_block_body = record {
   randao_reveal = replicate 96 0;
-  eth1_data = record { deposit_root = replicate 32 0; deposit_count = 0; block_hash = replicate 32 0 };
-  graffiti = replicate 32 0;
+  eth1_data = record { deposit_root = zero_root; deposit_count = 0; block_hash = zero_root };
+  graffiti = zero_root;
   proposer_slashings = [];
   attester_slashings = [];
   attestations = [];
