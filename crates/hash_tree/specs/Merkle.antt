@@ -48,7 +48,7 @@ unfoldable pub uint_to_bytes : ℕ → List ℕ
 uint_to_bytes n = to_le_bytes w64 n
 
 -- bytes_to_uint64: the number that eight bytes write, low byte first
-unfoldable pub bytes_to_uint64 : List ℕ → ℕ
+abbrev pub bytes_to_uint64 : List ℕ → ℕ
 bytes_to_uint64 bytes = from_le_bytes w64 bytes
 
 -- the bytes of numbers of 64 bits, one after another

@@ -22,7 +22,6 @@ impl Ssz for u64 {
         Field::Fixed(8)
     }
 
-    #[tactic(auto, unfolding(hash_tree::specs::Merkle::bytes_to_uint64))]
     fn parse(_alloc: Global, bytes: &[u8]) -> Result<u64, SszFault> {
         match bytes {
             [a, b, c, d, e, f, g, h] => Ok(u64::from_le_bytes([*a, *b, *c, *d, *e, *f, *g, *h])),

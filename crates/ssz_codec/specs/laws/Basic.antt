@@ -30,15 +30,14 @@ bool_fits false zero = omega arith
 bool_fits b (suc i) = omega arith
 
 number_back : (bytes : List ℕ) → length bytes ≡ 8 → IsBytes bytes → uint_to_bytes (bytes_to_uint64 bytes) ≡ bytes
-unfolding uint_to_bytes bytes_to_uint64
+unfolding uint_to_bytes
 number_back bytes len fits = le_bytes_8 bytes _ len fits refl
 
 number_below : (bytes : List ℕ) → IsBytes bytes → bytes_to_uint64 bytes < 2 ^ 64
-unfolding bytes_to_uint64
 number_below bytes fits = omega (arith, fits 0, fits 1, fits 2, fits 3, fits 4, fits 5, fits 6, fits 7)
 
 number_again : (n : ℕ) → n < 2 ^ 64 → bytes_to_uint64 (uint_to_bytes n) ≡ n
-unfolding uint_to_bytes bytes_to_uint64
+unfolding uint_to_bytes
 number_again n lt = from_le_bytes-to_le_bytes_8 n lt
 
 pub number_len : (n : ℕ) → length (uint_to_bytes n) ≡ 8
