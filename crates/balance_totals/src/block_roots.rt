@@ -17,8 +17,9 @@ fn root_at(state: &State, place: u64) -> Root
     }
 }
 
-/// The root of the latest block at a slot (beacon-chain.md, `get_block_root_at_slot`). A slot that is as many as
-/// `slots_per_historical_root` or more before the state's reads that of a later one, since the roots go round.
+/// The root of the latest block at a slot (beacon-chain.md, `get_block_root_at_slot`). The roots go round: a slot more than
+/// `slots_per_historical_root` before the state's reads that of a later one, and one that isn't before the state's that of an
+/// earlier one. The published assert refuses both; no caller asks for one.
 #[tactic(auto, unfolding(spec_state::specs::Accessors::get_block_root_at_slot), using(bc_preset::proofs::Bounds::preset_bounds))]
 pub fn block_root_at_slot(state: &State, slot: u64) -> Root
     ensures { result ≡ get_block_root_at_slot state.now slot }

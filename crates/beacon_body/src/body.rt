@@ -166,7 +166,6 @@ impl Ssz for BeaconBlockBody {
         Field::Variable
     }
 
-    #[tactic(auto, using(ssz_codec::proofs::Fieldwise::eight_unread))]
     fn parse(alloc: Global, bytes: &[u8]) -> Result<BeaconBlockBody, SszFault> {
         read_container!(
             alloc,

@@ -2,6 +2,7 @@
 //! them). The lists of a body take these types.
 
 ghost use Rattle.std.specs.Prelude.{ℕ, ◌≤◌, ◌^◌};
+ghost use Rattle.beacon_body.specs.Containers.{max_proposer_slashings, max_attester_slashings, max_attestations, max_deposits, max_voluntary_exits};
 ghost use Rattle.beacon_body.specs.laws.Containers.{proposer_slashings_low, attester_slashings_low, attestations_low, deposits_low, voluntary_exits_low};
 
 use ssz_codec::ListLimit;
@@ -11,7 +12,7 @@ use ssz_codec::ListLimit;
 pub struct ProposerSlashingsLimit;
 
 impl ListLimit for ProposerSlashingsLimit {
-    ghost LIMIT = { 16 };
+    ghost LIMIT = { max_proposer_slashings };
 
     const LIMIT: u64 = 16;
 
@@ -23,7 +24,7 @@ impl ListLimit for ProposerSlashingsLimit {
 pub struct AttesterSlashingsLimit;
 
 impl ListLimit for AttesterSlashingsLimit {
-    ghost LIMIT = { 2 };
+    ghost LIMIT = { max_attester_slashings };
 
     const LIMIT: u64 = 2;
 
@@ -35,7 +36,7 @@ impl ListLimit for AttesterSlashingsLimit {
 pub struct AttestationsLimit;
 
 impl ListLimit for AttestationsLimit {
-    ghost LIMIT = { 128 };
+    ghost LIMIT = { max_attestations };
 
     const LIMIT: u64 = 128;
 
@@ -47,7 +48,7 @@ impl ListLimit for AttestationsLimit {
 pub struct DepositsLimit;
 
 impl ListLimit for DepositsLimit {
-    ghost LIMIT = { 16 };
+    ghost LIMIT = { max_deposits };
 
     const LIMIT: u64 = 16;
 
@@ -59,7 +60,7 @@ impl ListLimit for DepositsLimit {
 pub struct VoluntaryExitsLimit;
 
 impl ListLimit for VoluntaryExitsLimit {
-    ghost LIMIT = { 16 };
+    ghost LIMIT = { max_voluntary_exits };
 
     const LIMIT: u64 = 16;
 

@@ -23,7 +23,11 @@ use Rattle.beacon_types.specs.declared.signed_exit.SignedVoluntaryExit.{SignedVo
 
 -- Fork
 abbrev pub fork_fields : Fields Fork Fork
-fork_fields = fields_of (λ previous current epoch. record { previous_version = previous; current_version = current; epoch = epoch })
+fork_fields = fields_of (λ previous current epoch. record {
+  previous_version = previous;
+  current_version = current;
+  epoch = epoch;
+})
     ▹ (λ v. v.previous_version) ∶ bytes4
     ▹ (λ v. v.current_version) ∶ bytes4
     ▹ (λ v. v.epoch) ∶ uint64
@@ -33,7 +37,10 @@ fork_codec = container_of fork_fields
 
 -- Checkpoint
 abbrev pub checkpoint_fields : Fields Checkpoint Checkpoint
-checkpoint_fields = fields_of (λ epoch root. record { epoch = epoch; root = root })
+checkpoint_fields = fields_of (λ epoch root. record {
+  epoch = epoch;
+  root = root;
+})
     ▹ (λ v. v.epoch) ∶ uint64
     ▹ (λ v. v.root) ∶ bytes32
 
@@ -42,7 +49,16 @@ checkpoint_codec = container_of checkpoint_fields
 
 -- Validator
 abbrev pub validator_fields : Fields Validator Validator
-validator_fields = fields_of (λ pubkey credentials balance slashed eligibility activation exit withdrawable. record { pubkey = pubkey; withdrawal_credentials = credentials; effective_balance = balance; slashed = slashed; activation_eligibility_epoch = eligibility; activation_epoch = activation; exit_epoch = exit; withdrawable_epoch = withdrawable })
+validator_fields = fields_of (λ pubkey credentials balance slashed eligibility activation exit withdrawable. record {
+  pubkey = pubkey;
+  withdrawal_credentials = credentials;
+  effective_balance = balance;
+  slashed = slashed;
+  activation_eligibility_epoch = eligibility;
+  activation_epoch = activation;
+  exit_epoch = exit;
+  withdrawable_epoch = withdrawable;
+})
     ▹ (λ v. v.pubkey) ∶ bytes48
     ▹ (λ v. v.withdrawal_credentials) ∶ bytes32
     ▹ (λ v. v.effective_balance) ∶ uint64
@@ -57,7 +73,13 @@ validator_codec = container_of validator_fields
 
 -- AttestationData
 abbrev pub attestation_data_fields : Fields AttestationData AttestationData
-attestation_data_fields = fields_of (λ slot index block source target. record { slot = slot; index = index; beacon_block_root = block; source = source; target = target })
+attestation_data_fields = fields_of (λ slot index block source target. record {
+  slot = slot;
+  index = index;
+  beacon_block_root = block;
+  source = source;
+  target = target;
+})
     ▹ (λ v. v.slot) ∶ uint64
     ▹ (λ v. v.index) ∶ uint64
     ▹ (λ v. v.beacon_block_root) ∶ bytes32
@@ -69,7 +91,11 @@ attestation_data_codec = container_of attestation_data_fields
 
 -- Eth1Data
 abbrev pub eth1_data_fields : Fields Eth1Data Eth1Data
-eth1_data_fields = fields_of (λ root count hash. record { deposit_root = root; deposit_count = count; block_hash = hash })
+eth1_data_fields = fields_of (λ root count hash. record {
+  deposit_root = root;
+  deposit_count = count;
+  block_hash = hash;
+})
     ▹ (λ v. v.deposit_root) ∶ bytes32
     ▹ (λ v. v.deposit_count) ∶ uint64
     ▹ (λ v. v.block_hash) ∶ bytes32
@@ -79,7 +105,13 @@ eth1_data_codec = container_of eth1_data_fields
 
 -- BeaconBlockHeader
 abbrev pub block_header_fields : Fields BeaconBlockHeader BeaconBlockHeader
-block_header_fields = fields_of (λ slot proposer parent state body. record { slot = slot; proposer_index = proposer; parent_root = parent; state_root = state; body_root = body })
+block_header_fields = fields_of (λ slot proposer parent state body. record {
+  slot = slot;
+  proposer_index = proposer;
+  parent_root = parent;
+  state_root = state;
+  body_root = body;
+})
     ▹ (λ v. v.slot) ∶ uint64
     ▹ (λ v. v.proposer_index) ∶ uint64
     ▹ (λ v. v.parent_root) ∶ bytes32
@@ -91,7 +123,10 @@ block_header_codec = container_of block_header_fields
 
 -- VoluntaryExit
 abbrev pub voluntary_exit_fields : Fields VoluntaryExit VoluntaryExit
-voluntary_exit_fields = fields_of (λ epoch validator. record { epoch = epoch; validator_index = validator })
+voluntary_exit_fields = fields_of (λ epoch validator. record {
+  epoch = epoch;
+  validator_index = validator;
+})
     ▹ (λ v. v.epoch) ∶ uint64
     ▹ (λ v. v.validator_index) ∶ uint64
 
@@ -104,7 +139,12 @@ aggregation_bits_codec = bitlist max_validators_per_committee
 
 -- PendingAttestation; the published field data is called content
 abbrev pub pending_attestation_fields : Fields PendingAttestation PendingAttestation
-pending_attestation_fields = fields_of (λ bits content delay proposer. record { aggregation_bits = bits; content = content; inclusion_delay = delay; proposer_index = proposer })
+pending_attestation_fields = fields_of (λ bits content delay proposer. record {
+  aggregation_bits = bits;
+  content = content;
+  inclusion_delay = delay;
+  proposer_index = proposer;
+})
     ▹ (λ v. v.aggregation_bits) ∶ aggregation_bits_codec
     ▹ (λ v. v.content) ∶ attestation_data_codec
     ▹ (λ v. v.inclusion_delay) ∶ uint64
@@ -115,7 +155,12 @@ pending_attestation_codec = container_of pending_attestation_fields
 
 -- DepositData
 abbrev pub deposit_data_fields : Fields DepositData DepositData
-deposit_data_fields = fields_of (λ pubkey withdrawal_credentials amount signature. record { pubkey = pubkey; withdrawal_credentials = withdrawal_credentials; amount = amount; signature = signature })
+deposit_data_fields = fields_of (λ pubkey withdrawal_credentials amount signature. record {
+  pubkey = pubkey;
+  withdrawal_credentials = withdrawal_credentials;
+  amount = amount;
+  signature = signature;
+})
     ▹ (λ v. v.pubkey) ∶ bytes48
     ▹ (λ v. v.withdrawal_credentials) ∶ bytes32
     ▹ (λ v. v.amount) ∶ uint64
@@ -126,7 +171,11 @@ deposit_data_codec = container_of deposit_data_fields
 
 -- IndexedAttestation; the published field data is called content
 abbrev pub indexed_attestation_fields : Fields IndexedAttestation IndexedAttestation
-indexed_attestation_fields = fields_of (λ indices content signature. record { attesting_indices = indices; content = content; signature = signature })
+indexed_attestation_fields = fields_of (λ indices content signature. record {
+  attesting_indices = indices;
+  content = content;
+  signature = signature;
+})
     ▹ (λ v. v.attesting_indices) ∶ list_codec uint64 max_validators_per_committee
     ▹ (λ v. v.content) ∶ attestation_data_codec
     ▹ (λ v. v.signature) ∶ bytes96
@@ -140,7 +189,10 @@ deposit_contract_tree_depth = 32
 
 -- Deposit; the published field data is called content
 abbrev pub deposit_fields : Fields Deposit Deposit
-deposit_fields = fields_of (λ proof content. record { proof = proof; content = content })
+deposit_fields = fields_of (λ proof content. record {
+  proof = proof;
+  content = content;
+})
     ▹ (λ v. v.proof) ∶ vector_codec bytes32 (deposit_contract_tree_depth + 1)
     ▹ (λ v. v.content) ∶ deposit_data_codec
 
@@ -149,7 +201,10 @@ deposit_codec = container_of deposit_fields
 
 -- SignedBeaconBlockHeader
 abbrev pub signed_header_fields : Fields SignedBeaconBlockHeader SignedBeaconBlockHeader
-signed_header_fields = fields_of (λ message signature. record { message = message; signature = signature })
+signed_header_fields = fields_of (λ message signature. record {
+  message = message;
+  signature = signature;
+})
     ▹ (λ v. v.message) ∶ block_header_codec
     ▹ (λ v. v.signature) ∶ bytes96
 
@@ -158,7 +213,10 @@ signed_header_codec = container_of signed_header_fields
 
 -- SignedVoluntaryExit
 abbrev pub signed_exit_fields : Fields SignedVoluntaryExit SignedVoluntaryExit
-signed_exit_fields = fields_of (λ message signature. record { message = message; signature = signature })
+signed_exit_fields = fields_of (λ message signature. record {
+  message = message;
+  signature = signature;
+})
     ▹ (λ v. v.message) ∶ voluntary_exit_codec
     ▹ (λ v. v.signature) ∶ bytes96
 

@@ -1,12 +1,11 @@
 -- The proposer of a slot (beacon-chain.md, "compute_proposer_index").
-use Rattle.std.specs.Prelude.{ℕ, ◌/◌, ◌%◌, List, ◌++◌, length, Bool, Option, Some, None, leb, slice_index, ◌==◌, if◌then◌else◌}
-use Rattle.std.specs.Int.{w64, to_le_bytes}
+use Rattle.std.specs.Prelude.{ℕ, ◌/◌, ◌%◌, List, ◌∷◌, ◌++◌, length, Bool, Option, Some, None, leb, slice_index, ◌==◌, if◌then◌else◌}
 use Rattle.bc_words.specs.Outcome.{Outcome, done, refused, limited, bind, ◌>>=◌, checked_mul}
 use Rattle.bc_words.specs.Searches.{first_from}
 use Rattle.bc_words.specs.declared.refusal.Refusal.TheVariants.{NoActive}
 use Rattle.bc_words.specs.declared.stop.Limit.TheVariants.{Proposer}
 use Rattle.bc_preset.specs.declared.presets.Preset.{Preset}
-use Rattle.hash_tree.specs.Merkle.{hash}
+use Rattle.hash_tree.specs.Merkle.{hash, uint_to_bytes}
 use Rattle.shuffling.specs.Shuffling.{compute_shuffled_index}
 
 -- candidate number i: the validator at the shuffled index of i % total
@@ -16,7 +15,7 @@ candidate preset indices seed i =
 
 -- the random byte of candidate number i
 unfoldable pub random_byte : List ℕ → ℕ → ℕ
-random_byte seed i = slice_index (hash (seed ++ to_le_bytes w64 (i / 32))) (i % 32)
+random_byte seed i = slice_index (hash (seed ++ uint_to_bytes (i / 32))) (i % 32)
 
 -- effective_balance * MAX_RANDOM_BYTE >= MAX_EFFECTIVE_BALANCE * random_byte
 unfoldable pub weighs_enough : Preset → ℕ → ℕ → Outcome Bool

@@ -30,7 +30,7 @@ fn candidate(preset: &Preset, active: &[u64], seed: &Root, i: u64) -> u64
 }
 
 /// The random byte of the candidate with number `i`.
-#[tactic(auto, unfolding(crate::specs::Proposers::random_byte, hash_tree::specs::Merkle::hash))]
+#[tactic(auto, unfolding(crate::specs::Proposers::random_byte, hash_tree::specs::Merkle::hash, hash_tree::specs::Merkle::uint_to_bytes))]
 fn random_byte(seed: &Root, i: u64) -> u8
     ensures { result ≡ random_byte seed.now i }
 {

@@ -13,7 +13,7 @@ pub const DOMAIN_BEACON_PROPOSER: [u8; 4] = [0, 0, 0, 0];
 pub const DOMAIN_BEACON_ATTESTER: [u8; 4] = [1, 0, 0, 0];
 
 /// The seed of an epoch, which is at most 2^61, for a domain (beacon-chain.md, `get_seed`).
-#[tactic(auto, unfolding(crate::specs::Seeds::seed_from, hash_tree::specs::Merkle::hash))]
+#[tactic(auto, unfolding(crate::specs::Seeds::seed_from, hash_tree::specs::Merkle::hash, hash_tree::specs::Merkle::uint_to_bytes))]
 pub fn seed_of<S: Lookup>(state: &S, epoch: u64, domain: [u8; 4]) -> Root
     requires { epoch ≤ 2 ^ 61 }
     ensures { result ≡ seed_from (S.preset_of state.now) (S.mix_at state.now) epoch domain }

@@ -1,7 +1,8 @@
--- The number of four bits.
-use Rattle.std.proofs.Common.{◌≡◌, ℕ, ◌+◌, ◌*◌, Bool, true, false, cond, List, [], ◌∷◌, length, get_or, refl, ◌∙◌, arith}
+-- The number of four bits, and their byte.
+use Rattle.std.proofs.Common.{◌≡◌, ℕ, ◌+◌, ◌*◌, ◌/◌, ◌<◌, ◌≤◌, Bool, true, false, cond, List, [], ◌∷◌, length, take, drop, get_or, refl, ap, ◌∙◌, arith}
 use mir.Val.{bool_byte}
-use Rattle.hash_tree.specs.Merkle.{bits_number}
+use Rattle.std.proofs.lemmas.List.{take_all}
+use Rattle.hash_tree.specs.Merkle.{bits_number, packed_bits, bits_bytes}
 
 byte_of : (b : Bool) → bool_byte b ≡ cond b 1 0
 byte_of true = refl
@@ -21,3 +22,11 @@ four_bits (w ∷ x ∷ y ∷ z ∷ []) a b c d long one two three four =
     let fourth : d ≡ cond z 1 0 = four ∙ byte_of z in
     omega arith
 four_bits (w ∷ x ∷ y ∷ z ∷ v ∷ rest) a b c d long one two three four = absurd (omega (arith, long))
+
+packed_one : (count : ℕ) (bits : List Bool) → count ≡ 1 → length bits ≤ 8 → packed_bits count bits ≡ bits_number bits ∷ []
+unfolding packed_bits
+packed_one count bits e l = rw e (ap (λ t. bits_number t ∷ []) (take_all 8 bits l))
+
+-- at most one byte
+pub bits_bytes_one : (bits : List Bool) → 0 < length bits → length bits ≤ 8 → bits_bytes bits ≡ bits_number bits ∷ []
+bits_bytes_one bits some l = packed_one ((length bits + 7) / 8) bits (omega arith) l

@@ -1,7 +1,7 @@
 -- the table of zero roots: each row is the hash of the row before it beside itself
 use Rattle.std.proofs.Common.{ℕ, zero, suc, ◌+◌, ◌<◌, ◌≡◌, List, [], ◌∷◌, ◌++◌, length, get_or, take, drop, refl, sym, ap, ◌∙◌, arith}
 use Rattle.sha2.specs.Sha256.{sha256, digest_bytes, hash_after, compress, rounds, schedule, first_words}
-use Rattle.hash_tree.specs.Merkle.{hash, zero_root, merkle_root}
+use Rattle.hash_tree.specs.Merkle.{hash, merkle_root}
 use Rattle.hash_tree.specs.declared.zero.TheConstants.{ZERO_HASHES}
 
 abbrev pub IsChain : List ℕ → List (List ℕ) → Type 0
@@ -31,7 +31,7 @@ chained row (next ∷ rows) depth (suc k) d e h l =
     chained next rows (suc depth) k d (next_is row next depth e h.0) h.1 (omega arith) ∙ ap (λ n. merkle_root n []) (omega arith)
 
 row_zero : get_or ZERO_HASHES 0 [] ≡ merkle_root 0 []
-unfolding merkle_root zero_root
+unfolding merkle_root
 row_zero = refl
 
 rows_chained : IsChain (get_or ZERO_HASHES 0 []) (drop 1 ZERO_HASHES)

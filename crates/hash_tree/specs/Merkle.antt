@@ -2,15 +2,15 @@
 -- 32 bytes, and a byte is a number below 256.
 use Rattle.std.specs.Prelude.{ℕ, zero, suc, ◌+◌, ◌-◌, ◌*◌, ◌/◌, ◌^◌, Bool, cond, List, [], ◌∷◌, ◌++◌, length, take, drop, replicate, nat_lt, if◌then◌else◌}
 use Rattle.std.specs.List.{flat_map}
-use Rattle.std.specs.Int.{w64, to_le_bytes}
+use Rattle.std.specs.Int.{w64, to_le_bytes, from_le_bytes}
 use Rattle.sha2.specs.Sha256.{sha256}
 
 -- hash of beacon-chain.md, "Crypto": SHA-256 of the bytes
 unfoldable pub hash : List ℕ → List ℕ
 hash bytes = sha256 bytes
 
--- the chunk of 32 zero bytes
-unfoldable pub zero_root : List ℕ
+-- 32 zero bytes: a chunk without a byte of its own, and the root that stands where there is none (Bytes32(), Root())
+abbrev pub zero_root : List ℕ
 zero_root = replicate 32 0
 
 -- the root of the chunks in a tree of this depth, that is with 2 ^ depth leaves, where a leaf that no chunk fills is
@@ -43,9 +43,13 @@ unfoldable pub chunks_of : ℕ → List ℕ → List (List ℕ)
 chunks_of zero bytes = []
 chunks_of (suc count) bytes = padded_chunk (take 32 bytes) ∷ chunks_of count (drop 32 bytes)
 
--- the bytes of a number of 64 bits, low byte first
+-- uint_to_bytes of a uint64: its eight bytes, low byte first
 unfoldable pub uint_to_bytes : ℕ → List ℕ
 uint_to_bytes n = to_le_bytes w64 n
+
+-- bytes_to_uint64: the number that eight bytes write, low byte first
+abbrev pub bytes_to_uint64 : List ℕ → ℕ
+bytes_to_uint64 bytes = from_le_bytes w64 bytes
 
 -- the bytes of numbers of 64 bits, one after another
 unfoldable pub uints_to_bytes : List ℕ → List ℕ
@@ -63,10 +67,19 @@ bit_chunk_count bits = (bits + 255) / 256
 abbrev pub byte_chunks : List ℕ → List (List ℕ)
 byte_chunks bytes = chunks_of (chunk_count (length bytes)) bytes
 
--- pack_bits: the number whose binary digits these are, the lowest first
+-- the number whose binary digits these are, the lowest first
 abbrev pub bits_number : List Bool → ℕ
 bits_number [] = 0
 bits_number (b ∷ bs) = cond b 1 0 + 2 * bits_number bs
+
+-- so many bytes of bits: eight to a byte, the first in its lowest place, and 0 for bits that are missing
+unfoldable pub packed_bits : ℕ → List Bool → List ℕ
+packed_bits zero bits = []
+packed_bits (suc count) bits = bits_number (take 8 bits) ∷ packed_bits count (drop 8 bits)
+
+-- the bytes of pack_bits: as few as hold the bits
+abbrev pub bits_bytes : List Bool → List ℕ
+bits_bytes bits = packed_bits ((length bits + 7) / 8) bits
 
 -- a boolean in one byte
 abbrev pub bool_bytes : Bool → List ℕ

@@ -3,7 +3,7 @@
 //! Basic values have theirs here; the containers above implement `Leaf` too, and `rows` and shared trees take the roots.
 
 ghost use Rattle.std.specs.Prelude.{◌≡◌, ℕ, List, [], ◌∷◌, length, map};
-ghost use Rattle.hash_tree.specs.Merkle.{padded_chunk, uint_to_bytes, bool_bytes, bits_number, byte_chunks, chunk_count, bit_chunk_count, merkleize};
+ghost use Rattle.hash_tree.specs.Merkle.{padded_chunk, uint_to_bytes, bool_bytes, bits_number, bits_bytes, byte_chunks, chunk_count, bit_chunk_count, merkleize};
 
 use crate::Root;
 use crate::pair::chunk_root;
@@ -88,8 +88,9 @@ pub fn bits_byte(bits: &[bool; 4]) -> u8
 }
 
 impl Leaf for [bool; 4] {
-    ghost root_of = { λ bits. merkleize (byte_chunks (bits_number bits ∷ [])) (bit_chunk_count 4) };
+    ghost root_of = { λ bits. merkleize (byte_chunks (bits_bytes bits)) (bit_chunk_count 4) };
 
+    #[tactic(auto, using(crate::proofs::Bits::bits_bytes_one))]
     fn root(&self) -> Root {
         bytes_root(&[bits_byte(self)])
     }

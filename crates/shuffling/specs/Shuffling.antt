@@ -1,14 +1,14 @@
 -- The swap-or-not shuffle of beacon-chain.md, "compute_shuffled_index". A seed is a list of 32 bytes.
 use Rattle.std.specs.Prelude.{ℕ, zero, suc, ◌+◌, ◌-◌, ◌/◌, ◌%◌, ◌^◌, max, List, [], ◌∷◌, ◌++◌, length, take, map, slice_index, ◌==◌, if◌then◌else◌}
 use Rattle.std.specs.List.{range_with_len}
-use Rattle.std.specs.Int.{w32, w64, to_le_bytes, from_le_bytes}
-use Rattle.hash_tree.specs.Merkle.{hash}
+use Rattle.std.specs.Int.{w32, to_le_bytes}
+use Rattle.hash_tree.specs.Merkle.{hash, bytes_to_uint64}
 
 -- the pivot of a round: the first 8 bytes of hash(seed + round), as an index below count
 unfoldable pub pivot_of : List ℕ → ℕ → ℕ → ℕ
-pivot_of seed round count = from_le_bytes w64 (take 8 (hash (seed ++ round ∷ []))) % count
+pivot_of seed round count = bytes_to_uint64 (take 8 (hash (seed ++ round ∷ []))) % count
 
--- the source of a round for a page of 256 positions: hash(seed + round + page)
+-- the source of a round for a page of 256 positions: hash(seed + round + uint_to_bytes(page)), the page as a uint32
 unfoldable pub source_of : List ℕ → ℕ → ℕ → List ℕ
 source_of seed round page = hash (seed ++ round ∷ to_le_bytes w32 page)
 

@@ -1,6 +1,6 @@
 -- The head of a block keeps a state sound.
 use Rattle.std.proofs.Common.{◌≡◌, ◌≢◌, ◌∙◌, ℕ, ◌+◌, ◌-◌, ◌/◌, ◌%◌, ◌<◌, ◌≤◌, List, [], ◌++◌, slice_set, refl, sym, ap, arith, inl, inr}
-use Rattle.std.specs.Int.{w64, to_le_bytes}
+use Rattle.hash_tree.specs.Merkle.{uint_to_bytes}
 use Rattle.std.proofs.lemmas.Bool.{cases_lt}
 use Rattle.std.proofs.lemmas.List.{get_or-set_other}
 use Rattle.std.proofs.Math.Nat.{div-add-mod, mul-le-mul_left}
@@ -70,7 +70,7 @@ same_seed domain s epoch written mix bounds low high =
     let place : ℕ → ℕ = λ (lookahead : ℕ). (epoch + n - lookahead - 1) % n in
     let taken : place s.preset.min_seed_lookahead ≡ place 1 = ap place bounds.min_seed_lookahead in
     let other : written % n ≢ place 1 = other_place n written epoch bounds.least_epochs_per_historical_vector low high in
-    ap (λ (m : List ℕ). hash (domain ++ to_le_bytes w64 epoch ++ m))
+    ap (λ (m : List ℕ). hash (domain ++ uint_to_bytes epoch ++ m))
     (get_or-set_other s.randao_mixes (written % n) (place s.preset.min_seed_lookahead) mix [] (λ same. other (sym same ∙ taken)))
 
 same_epoch : (s : PlainState) (mixes : List (List ℕ)) → get_current_epoch (record s { randao_mixes = mixes }) ≡ get_current_epoch s

@@ -33,35 +33,35 @@ with_pending state pending =
 
 -- the checks of the vote's target and slot
 unfoldable pub check_times : PlainState → AttestationData → Outcome (Unit {0})
-check_times state voted = do
+check_times state content = do
   -- the target is of the previous or the current epoch
-  check ((voted.target.epoch == get_previous_epoch state) || (voted.target.epoch == get_current_epoch state)) AtTargetEpoch
+  check ((content.target.epoch == get_previous_epoch state) || (content.target.epoch == get_current_epoch state)) AtTargetEpoch
   -- which is the epoch of the slot
-  check (voted.target.epoch == compute_epoch_at_slot state.preset voted.slot) AtSlotEpoch
+  check (content.target.epoch == compute_epoch_at_slot state.preset content.slot) AtSlotEpoch
   -- the inclusion delay has passed
-  earliest ← checked_add voted.slot state.preset.min_attestation_inclusion_delay
+  earliest ← checked_add content.slot state.preset.min_attestation_inclusion_delay
   check (leb earliest state.slot) AtEarly
   -- and no more than an epoch
-  latest ← checked_add voted.slot state.preset.slots_per_epoch
+  latest ← checked_add content.slot state.preset.slots_per_epoch
   check (leb state.slot latest) AtLate
 
 -- the checks of the vote's committee
 unfoldable pub check_committee : PlainState → AttestationData → List Bool → Outcome (Unit {0})
-check_committee state voted bits = do
+check_committee state content bits = do
   -- the slot has such a committee
-  check (nat_lt voted.index (get_committee_count_per_slot state voted.target.epoch)) AtIndex
+  check (nat_lt content.index (get_committee_count_per_slot state content.target.epoch)) AtIndex
   -- with as many members as there are bits
-  check (length bits == length (get_beacon_committee state voted.slot voted.index)) AtBits
+  check (length bits == length (get_beacon_committee state content.slot content.index)) AtBits
 
 -- process_attestation(state, attestation), where proposer is the block's proposer. Of is_valid_indexed_attestation there
 -- is left that somebody attested: the members of a committee are in the registry, each once
 unfoldable pub process_attestation : PlainState → Attestation → ℕ → Outcome PlainState
 process_attestation state attestation proposer = do
-  let voted = attestation.content
-  check_times state voted
-  check_committee state voted attestation.aggregation_bits
-  delay ← checked_sub state.slot voted.slot
-  next ← with_pending state (record { aggregation_bits = attestation.aggregation_bits; content = voted; inclusion_delay = delay; proposer_index = proposer })
+  let content = attestation.content
+  check_times state content
+  check_committee state content attestation.aggregation_bits
+  delay ← checked_sub state.slot content.slot
+  next ← with_pending state (record { aggregation_bits = attestation.aggregation_bits; content = content; inclusion_delay = delay; proposer_index = proposer })
   -- somebody attested
-  check (not (length (get_attesting_indices state voted attestation.aggregation_bits) == 0)) AtEmpty
+  check (not (length (get_attesting_indices state content attestation.aggregation_bits) == 0)) AtEmpty
   done next

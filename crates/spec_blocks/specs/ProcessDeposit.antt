@@ -1,20 +1,16 @@
 -- process_deposit (beacon-chain.md, "Deposits"). Signatures are off: a key joins whoever signed for it.
-use Rattle.std.specs.Prelude.{ℕ, ◌+◌, List, Bool, Option, Some, None, position, nat_eq}
-use Rattle.std.specs.Cmp.Lexicographic.{pointwise}
+use Rattle.std.specs.Prelude.{ℕ, ◌+◌, List, Option, Some, None, position}
 use Rattle.bc_words.specs.Outcome.{Outcome, done, ◌>>=◌, checked_add, checked_push}
 use Rattle.bc_words.specs.declared.refusal.Refusal.TheVariants.{DpBranch}
 use Rattle.beacon_types.specs.declared.deposit.Deposit.{Deposit}
 use Rattle.beacon_types.specs.declared.validator.Validator.{Validator}
 use Rattle.beacon_types.specs.Containers.{deposit_contract_tree_depth, deposit_data_codec}
+pub use Rattle.beacon_types.specs.Equality.{same_pubkey}
 use Rattle.spec_state.specs.declared.plain.PlainState.{PlainState}
 use Rattle.spec_blocks.specs.Checks.{check, ◌>>◌}
 use Rattle.spec_blocks.specs.IncreaseBalance.{increase_balance}
 use Rattle.spec_blocks.specs.IsValidMerkleBranch.{is_valid_merkle_branch}
 use Rattle.spec_blocks.specs.GetValidatorFromDeposit.{get_validator_from_deposit}
-
--- two keys are equal
-abbrev pub same_pubkey : List ℕ → List ℕ → Bool
-same_pubkey a b = pointwise nat_eq a b
 
 -- the index of the first validator with a key, if there is one
 unfoldable pub index_of_pubkey : List Validator → List ℕ → Option ℕ

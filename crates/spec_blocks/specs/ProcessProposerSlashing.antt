@@ -1,21 +1,15 @@
 -- process_proposer_slashing (beacon-chain.md, "Proposer slashings"). Signatures are off.
-use Rattle.std.specs.Prelude.{ℕ, Bool, not, ◌&&◌, ◌==◌}
+use Rattle.std.specs.Prelude.{ℕ, not, ◌==◌}
 use Rattle.bc_words.specs.Outcome.{Outcome, ◌>>=◌}
 use Rattle.bc_words.specs.declared.refusal.Refusal.TheVariants.{PsSlots, PsProposers, PsSame, NotSlashable}
 use Rattle.bc_preset.specs.declared.configuration.ConfigValues.{ConfigValues}
-use Rattle.beacon_types.specs.declared.block_header.BeaconBlockHeader.{BeaconBlockHeader}
 use Rattle.beacon_body.specs.declared.proposer_slashing.ProposerSlashing.{ProposerSlashing}
 use Rattle.spec_state.specs.declared.plain.PlainState.{PlainState}
 use Rattle.spec_state.specs.Predicates.{is_slashable_validator}
 use Rattle.spec_state.specs.Accessors.{get_current_epoch}
-use Rattle.beacon_types.specs.Equality.{same_root}
+pub use Rattle.beacon_types.specs.Equality.{same_header}
 use Rattle.spec_blocks.specs.Checks.{check, item_at, ◌>>◌}
 use Rattle.spec_blocks.specs.SlashValidator.{slash_validator}
-
--- the two headers are equal
-abbrev pub same_header : BeaconBlockHeader → BeaconBlockHeader → Bool
-same_header a b =
-    (a.slot == b.slot) && ((a.proposer_index == b.proposer_index) && (same_root a.parent_root b.parent_root && (same_root a.state_root b.state_root && same_root a.body_root b.body_root)))
 
 -- process_proposer_slashing(state, proposer_slashing), where proposer is the block's proposer
 unfoldable pub process_proposer_slashing : PlainState → ProposerSlashing → ℕ → ConfigValues → Outcome PlainState

@@ -5,6 +5,7 @@ use Rattle.std.specs.Bool.{Decides}
 use Rattle.std.specs.Cmp.{unsigned_Decides, booleans_Decides}
 use Rattle.std.specs.Cmp.Lexicographic.{pointwise_decides, bytes_decides}
 use Rattle.std.proofs.lemmas.Bool.Decides.{Decides-and, Decides-like}
+use Rattle.beacon_types.specs.Equality.{same_eth1_data, same_header}
 use Rattle.beacon_types.proofs.Equality.{data_decides}
 use Rattle.beacon_types.specs.declared.eth1_data.Eth1Data.{Eth1Data}
 use Rattle.beacon_types.specs.declared.block_header.BeaconBlockHeader.{BeaconBlockHeader}
@@ -19,14 +20,13 @@ use Rattle.beacon_body.specs.declared.attester_slashing.AttesterSlashing.{Attest
 use Rattle.beacon_body.specs.declared.attestation.Attestation.{Attestation}
 use Rattle.beacon_body.specs.declared.body.BeaconBlockBody.{BeaconBlockBody}
 use Rattle.beacon_body.specs.declared.block.BeaconBlock.{BeaconBlock}
-use Rattle.spec_fork_choice.specs.SameBlock.{same_eth1_data, same_header, same_signed_header, same_proposer_slashing, same_indexed_attestation, same_attester_slashing, same_attestation, same_deposit_data, same_deposit, same_exit, same_signed_exit, same_operations, same_body, same_block}
+use Rattle.spec_fork_choice.specs.SameBlock.{same_signed_header, same_proposer_slashing, same_indexed_attestation, same_attester_slashing, same_attestation, same_deposit_data, same_deposit, same_exit, same_signed_exit, same_operations, same_body, same_block}
 
 -- the fact first, so that its statement is known to what follows
 like : {P Q : Type 0} {r : Bool} → Decides r P → (P → Q) → (Q → P) → Decides r Q
 like d f g = Decides-like _ f g d
 
 eth1_data_decides : (a b : Eth1Data) → Decides (same_eth1_data a b) (a ≡ b)
-unfolding same_eth1_data
 eth1_data_decides a b =
     like
     (Decides-and _ _ (bytes_decides a.deposit_root b.deposit_root)
@@ -36,7 +36,6 @@ eth1_data_decides a b =
     (λ e. (λ i. (e i).deposit_root, (λ i. (e i).deposit_count, λ i. (e i).block_hash)))
 
 header_decides : (a b : BeaconBlockHeader) → Decides (same_header a b) (a ≡ b)
-unfolding same_header
 header_decides a b =
     like
     (Decides-and _ _ (unsigned_Decides a.slot b.slot)

@@ -14,16 +14,16 @@ use Rattle.spec_fork_choice.specs.UpdateLatestMessages.{update_latest_messages}
 
 -- the number of a vote's committee among those of its epoch
 unfoldable pub committee_number : PlainState → AttestationData → ℕ
-committee_number state voted =
-    voted.slot % state.preset.slots_per_epoch * get_committee_count_per_slot state voted.target.epoch + voted.index
+committee_number state content =
+    content.slot % state.preset.slots_per_epoch * get_committee_count_per_slot state content.target.epoch + content.index
 
 -- the checks of the vote's committee in its target's state: the epoch has such a committee, and the bits are at least as
 -- many as its members; bits behind them are ignored. The index isn't compared with the slot's number of committees
 unfoldable pub check_target_committee : PlainState → Attestation → Outcome (Unit {0})
 check_target_committee state attestation = do
-  let voted = attestation.content
-  check (nat_lt (committee_number state voted) (get_committee_count_per_slot state voted.target.epoch * state.preset.slots_per_epoch)) FcCommittee
-  check (leb (length (get_beacon_committee state voted.slot voted.index)) (length attestation.aggregation_bits)) FcBitsShort
+  let content = attestation.content
+  check (nat_lt (committee_number state content) (get_committee_count_per_slot state content.target.epoch * state.preset.slots_per_epoch)) FcCommittee
+  check (leb (length (get_beacon_committee state content.slot content.index)) (length attestation.aggregation_bits)) FcBitsShort
 
 -- on_attestation(store, attestation, is_from_block). Of is_valid_indexed_attestation there is left that somebody attested:
 -- the members of a committee are in the registry, each once

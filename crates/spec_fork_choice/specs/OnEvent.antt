@@ -1,6 +1,6 @@
 -- One event of a record: its payload is read and handled (fork-choice.md, "Handlers"). Events are of four kinds.
 use Rattle.std.specs.Prelude.{ℕ, ◌==◌, List, [], Bool, length, Option, Some, None, if◌then◌else◌}
-use Rattle.std.specs.Int.{w64, from_le_bytes}
+use Rattle.hash_tree.specs.Merkle.{bytes_to_uint64}
 use Rattle.bc_words.specs.Events.{EventOutcome, accepted, event_refused, event_clashes, then_event, on_the_way}
 use Rattle.bc_words.specs.Outcome.{Outcome}
 use Rattle.bc_words.specs.declared.refusal.Refusal.TheVariants.{Malformed}
@@ -30,7 +30,7 @@ without_block outcome = on_the_way outcome (λ store. accepted (store, other))
 -- a tick: its time in 8 bytes, low byte first
 unfoldable pub handle_tick : Store → List ℕ → EventOutcome (Store × Accepted)
 handle_tick store payload =
-    if length payload == 8 then without_block (on_tick store (from_le_bytes w64 payload)) else event_refused Malformed
+    if length payload == 8 then without_block (on_tick store (bytes_to_uint64 payload)) else event_refused Malformed
 
 -- a signed block, if the payload is the writing of one
 unfoldable pub handle_block : Store → Option SignedBeaconBlock → EventOutcome (Store × Accepted)

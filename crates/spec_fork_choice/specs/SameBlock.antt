@@ -2,9 +2,7 @@
 use Rattle.std.specs.Prelude.{ℕ, List, Bool, ◌==◌, ◌&&◌, nat_eq}
 use Rattle.std.specs.Bool.{beq}
 use Rattle.std.specs.Cmp.Lexicographic.{pointwise}
-use Rattle.beacon_types.specs.Equality.{same_root, same_data}
-use Rattle.beacon_types.specs.declared.eth1_data.Eth1Data.{Eth1Data}
-use Rattle.beacon_types.specs.declared.block_header.BeaconBlockHeader.{BeaconBlockHeader}
+use Rattle.beacon_types.specs.Equality.{same_root, same_data, same_eth1_data, same_header}
 use Rattle.beacon_types.specs.declared.signed_header.SignedBeaconBlockHeader.{SignedBeaconBlockHeader}
 use Rattle.beacon_types.specs.declared.indexed_attestation.IndexedAttestation.{IndexedAttestation}
 use Rattle.beacon_types.specs.declared.deposit_data.DepositData.{DepositData}
@@ -24,14 +22,6 @@ same_numbers a b = pointwise nat_eq a b
 -- of lists of bits
 abbrev pub same_bits : List Bool → List Bool → Bool
 same_bits a b = pointwise beq a b
-
-unfoldable pub same_eth1_data : Eth1Data → Eth1Data → Bool
-same_eth1_data a b = same_root a.deposit_root b.deposit_root && ((a.deposit_count == b.deposit_count) && same_numbers a.block_hash b.block_hash)
-
-unfoldable pub same_header : BeaconBlockHeader → BeaconBlockHeader → Bool
-same_header a b =
-    (a.slot == b.slot)
-    && ((a.proposer_index == b.proposer_index) && (same_root a.parent_root b.parent_root && (same_root a.state_root b.state_root && same_root a.body_root b.body_root)))
 
 unfoldable pub same_signed_header : SignedBeaconBlockHeader → SignedBeaconBlockHeader → Bool
 same_signed_header a b = same_header a.message b.message && same_numbers a.signature b.signature

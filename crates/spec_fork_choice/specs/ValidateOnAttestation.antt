@@ -23,17 +23,17 @@ check_time store attestation is_from_block = if is_from_block then done tt else 
 -- validate_on_attestation(store, attestation, is_from_block)
 unfoldable pub validate_on_attestation : Store → Attestation → Bool → Outcome (Unit {0})
 validate_on_attestation store attestation is_from_block = do
-  let voted = attestation.content
-  let target = voted.target
+  let content = attestation.content
+  let target = content.target
   check_time store attestation is_from_block
   -- the target's epoch is the slot's
-  check (target.epoch == compute_epoch_at_slot store.config.preset voted.slot) FcSlotEpoch
+  check (target.epoch == compute_epoch_at_slot store.config.preset content.slot) FcSlotEpoch
   -- the target and the block are known
   check (is_kept store.blocks target.root) FcTargetUnknown
-  check (is_kept store.blocks voted.beacon_block_root) FcBlockUnknown
+  check (is_kept store.blocks content.beacon_block_root) FcBlockUnknown
   -- the block isn't later than the vote
-  check (leb (slot_of store.blocks voted.beacon_block_root) voted.slot) FcBlockAfter
+  check (leb (slot_of store.blocks content.beacon_block_root) content.slot) FcBlockAfter
   -- and the target is on its chain
-  check (same_root (get_ancestor store voted.beacon_block_root (start_slot_of store target)) target.root) FcTargetChain
+  check (same_root (get_ancestor store content.beacon_block_root (start_slot_of store target)) target.root) FcTargetChain
   -- the vote's slot is over
-  check (nat_lt voted.slot (get_current_slot store)) FcTooEarly
+  check (nat_lt content.slot (get_current_slot store)) FcTooEarly

@@ -1,10 +1,9 @@
 -- Beacon state accessors (beacon-chain.md, "Beacon state accessors"), in the published order. A plain state holds its
 -- preset.
 use Rattle.std.specs.Prelude.{ℕ, suc, ◌+◌, ◌-◌, ◌*◌, ◌/◌, ◌%◌, max, Bool, List, [], ◌∷◌, ◌++◌, length, slice_index_or, if◌then◌else◌}
-use Rattle.std.specs.Int.{w64, to_le_bytes}
 use Rattle.bc_words.specs.Outcome.{Outcome, done, ◌>>=◌, checked_sum_by}
 use Rattle.bc_preset.specs.declared.configuration.ConfigValues.{ConfigValues}
-use Rattle.hash_tree.specs.Merkle.{hash}
+use Rattle.hash_tree.specs.Merkle.{hash, uint_to_bytes}
 use Rattle.beacon_types.specs.declared.attestation_data.AttestationData.{AttestationData}
 use Rattle.beacon_types.specs.declared.validator.Validator.{Validator}
 use Rattle.committees.specs.Seeds.{seed_from}
@@ -22,7 +21,10 @@ get_current_epoch state = compute_epoch_at_slot state.preset state.slot
 unfoldable pub get_previous_epoch : PlainState → ℕ
 get_previous_epoch state = get_current_epoch state - 1
 
--- get_block_root_at_slot
+-- get_block_root_at_slot. The published assert, that the slot is before the state's and no more than
+-- SLOTS_PER_HISTORICAL_ROOT before it, isn't there: whoever asks has such a slot. Roots are asked for at the slots of pending
+-- attestations, which are before the state's, and at the beginnings of the current and the previous epoch when an epoch
+-- ends, and two epochs have fewer slots than roots are kept.
 unfoldable pub get_block_root_at_slot : PlainState → ℕ → List ℕ
 get_block_root_at_slot state slot = slice_index_or state.block_roots (slot % state.preset.slots_per_historical_root) []
 
@@ -49,7 +51,7 @@ unfoldable pub get_validator_churn_limit : PlainState → ConfigValues → ℕ
 get_validator_churn_limit state config =
     max config.min_per_epoch_churn_limit (length (get_active_validator_indices state (get_current_epoch state)) / config.churn_limit_quotient)
 
--- get_seed: hash(domain_type + epoch as 8 bytes + the mix of MIN_SEED_LOOKAHEAD + 1 epochs before)
+-- get_seed: hash(domain_type + uint_to_bytes(epoch) + the mix of MIN_SEED_LOOKAHEAD + 1 epochs before)
 abbrev pub get_seed : PlainState → ℕ → List ℕ → List ℕ
 get_seed state epoch domain_type = seed_from state.preset (get_randao_mix state) epoch domain_type
 
@@ -73,7 +75,7 @@ epoch_committees state epoch = committees_of state.preset (get_seed state epoch 
 unfoldable pub get_beacon_proposer_index : PlainState → Outcome ℕ
 get_beacon_proposer_index state =
     let epoch : ℕ = get_current_epoch state in
-    let seed : List ℕ = hash (get_seed state epoch domain_beacon_proposer ++ to_le_bytes w64 state.slot) in
+    let seed : List ℕ = hash (get_seed state epoch domain_beacon_proposer ++ uint_to_bytes state.slot) in
     compute_proposer_index state (get_active_validator_indices state epoch) seed
 
 -- get_total_balance: at least one increment, and refused where the sum does not fit in a uint64
@@ -93,6 +95,6 @@ members_with_bits (member ∷ committee) [] = []
 members_with_bits (member ∷ committee) (bit ∷ bits) =
     if bit then member ∷ members_with_bits committee bits else members_with_bits committee bits
 
--- get_attesting_indices, in the committee's order
+-- get_attesting_indices, in the committee's order. The published argument data is called content.
 unfoldable pub get_attesting_indices : PlainState → AttestationData → List Bool → List ℕ
-get_attesting_indices state attestation bits = members_with_bits (get_beacon_committee state attestation.slot attestation.index) bits
+get_attesting_indices state content bits = members_with_bits (get_beacon_committee state content.slot content.index) bits

@@ -1,6 +1,6 @@
 -- Genesis: which states begin a chain, and the root of the genesis block (beacon-chain.md, "Genesis"; a state that
 -- initialize_beacon_state_from_eth1 makes is one).
-use Rattle.std.specs.Prelude.{ℕ, ◌+◌, ◌&&◌, not, Bool, List, [], ◌∷◌, length, replicate, Option, Some, None, Result, Ok, Err, nat_lt, ◌==◌, if◌then◌else◌}
+use Rattle.std.specs.Prelude.{ℕ, ◌+◌, ◌&&◌, not, Bool, List, [], ◌∷◌, length, Option, Some, None, Result, Ok, Err, nat_lt, ◌==◌, if◌then◌else◌}
 use Rattle.std.specs.List.{list_all}
 use Rattle.bc_preset.specs.declared.presets.Preset.{Preset}
 use Rattle.beacon_types.specs.declared.block_header.BeaconBlockHeader.{BeaconBlockHeader}
@@ -13,13 +13,10 @@ use Rattle.spec_state.specs.declared.fault.ValidatorFault.{ValidatorFault}
 use Rattle.spec_state.specs.declared.fault.ValidatorFault.TheVariants as validators
 use Rattle.spec_state.specs.declared.fault.GenesisFault.{GenesisFault}
 use Rattle.spec_state.specs.declared.fault.GenesisFault.TheVariants as parts
+pub use Rattle.hash_tree.specs.Merkle.{zero_root}
 pub use Rattle.beacon_types.specs.Equality.{same_root}
 use Rattle.spec_state.specs.Constants.{far_future_epoch, max_genesis_len}
 use Rattle.spec_state.specs.States.{state_codec}
-
--- 32 zero bytes
-abbrev pub zero_root : List ℕ
-zero_root = replicate 32 0
 
 -- the header with the state's root, as it is once the slot is over
 unfoldable pub block_header_of : PlainState → BeaconBlockHeader

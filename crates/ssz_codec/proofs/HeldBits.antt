@@ -9,12 +9,15 @@ use Rattle.std.proofs.lemmas.Option.{slice_get-get_or}
 use Rattle.std.proofs.lemmas.List.{take_all, take-append-drop, length-append, length-take, length-take-le, length-drop, get_or_append_left, get_or-append_right, get_or-take, get_or_default, append-nil}
 use Rattle.ssz_codec.specs.Basic.{number_bits}
 use Rattle.hash_tree.specs.Merkle.{bits_number}
-use Rattle.ssz_codec.specs.BitLists.{packed_bits, bits_bytes, bit_list_bytes}
+use Rattle.hash_tree.specs.Merkle.{packed_bits, bits_bytes}
+use Rattle.hash_tree.proofs.Bits.{bits_bytes_one}
+use Rattle.ssz_codec.specs.BitLists.{bit_list_bytes}
+use Rattle.ssz_codec.specs.laws.Basic.{bits_bytes_len, bits_bytes_nil, bits_bytes_step, packed_fits}
 use Rattle.ssz_codec.specs.inside.HeldBits.{held_bits, IsHeld}
 use Rattle.ssz_codec.specs.declared.bit_list.BitList.TheInside.{Inside}
 use Rattle.ssz_codec.specs.Lawful.{IsBytes}
 use Rattle.ssz_codec.specs.laws.Basic.{bits_of_number, number_bits_len, bits_below, pow-step}
-use Rattle.ssz_codec.specs.laws.BitLists.{whole_bits, length-whole_bits, bits_bytes_len, bits_bytes_nil, bits_bytes_step, bits_bytes_one, writing_step, writing_one}
+use Rattle.ssz_codec.specs.laws.BitLists.{whole_bits, length-whole_bits, writing_step, writing_one}
 
 -- ---- one bit
 
@@ -239,16 +242,6 @@ bit_of_one false = refl
 one_low : (bit : Bool) → cond bit 1 0 < 2
 one_low true = omega arith
 one_low false = omega arith
-
--- bits are packed into bytes
-packed_fits : (count : ℕ) (bits : List Bool) → IsBytes (packed_bits count bits)
-unfolding packed_bits
-packed_fits zero bits i = omega arith
-packed_fits (suc count) bits zero =
-    let few : length (take 8 bits) ≤ 8 = omega (arith, length-take 8 bits) in
-    let high : 2 ^ length (take 8 bits) ≤ 2 ^ 8 = pow_mono {i = length (take 8 bits)} {j = 8} few in
-    omega (arith, bits_below (take 8 bits))
-packed_fits (suc count) bits (suc i) = packed_fits count (drop 8 bits) i
 
 pub held_fits : (b : Inside) → IsHeld b → IsBytes b.bytes.items
 held_fits b h = subst IsBytes h.packed (packed_fits ((length (held_bits b) + 7) / 8) (held_bits b))

@@ -1,13 +1,10 @@
 -- Basic types and vectors of bytes and bits (simple-serialize.md, "Basic types", "uintN", "boolean", "Bitvector[N]").
-use Rattle.std.specs.Prelude.{◌≡◌, ℕ, zero, suc, ◌/◌, ◌%◌, ◌<◌, ◌^◌, Bool, true, false, List, [], ◌∷◌, length, Option, Some, None, nat_lt, ◌==◌, if◌then◌else◌}
-use Rattle.std.specs.Int.{w64, from_le_bytes}
-use Rattle.hash_tree.specs.Merkle.{merkleize, padded_chunk, chunk_count, bit_chunk_count, byte_chunks, uint_to_bytes, bool_bytes, bits_number}
+use Rattle.std.specs.Prelude.{◌≡◌, ℕ, zero, suc, ◌+◌, ◌-◌, ◌/◌, ◌%◌, ◌<◌, ◌^◌, Bool, true, false, List, [], ◌∷◌, ◌++◌, length, Option, Some, None, nat_lt, ◌==◌, if◌then◌else◌}
+use Rattle.hash_tree.specs.Merkle.{merkleize, padded_chunk, chunk_count, bit_chunk_count, byte_chunks, uint_to_bytes, bytes_to_uint64, bool_bytes, bits_bytes}
 use Rattle.ssz_codec.specs.declared.layout.Field.TheVariants.{Fixed}
+use Rattle.ssz_codec.specs.Layout.{◌and_then◌}
 use Rattle.ssz_codec.specs.Codec.{Codec}
-
--- the number that eight bytes write, low byte first
-unfoldable pub bytes_to_uint64 : List ℕ → ℕ
-bytes_to_uint64 bytes = from_le_bytes w64 bytes
+use Rattle.ssz_codec.specs.Lawful.{IsBytes}
 
 -- uint64
 abbrev pub uint64 : Codec ℕ
@@ -43,7 +40,7 @@ abbrev pub bytes_codec : ℕ → Codec (List ℕ)
 bytes_codec n = record {
   field = Fixed n;
   basic = false;
-  Within = λ v. length v ≡ n;
+  Within = λ v. (length v ≡ n) × IsBytes v;
   serialize = λ v. v;
   deserialize = λ bytes. if length bytes == n then Some bytes else None;
   hash_tree_root = λ v. merkleize (byte_chunks v) (chunk_count n);
@@ -67,18 +64,24 @@ abbrev pub number_bits : ℕ → ℕ → List Bool
 number_bits zero n = []
 number_bits (suc k) n = (n % 2 == 1) ∷ number_bits k (n / 2)
 
-abbrev pub parse_bits : ℕ → List ℕ → Option (List Bool)
-parse_bits count [] = None
-parse_bits count (n ∷ []) = if nat_lt n (2 ^ count) then Some (number_bits count n) else None
-parse_bits count (n ∷ m ∷ bytes) = None
+-- how many of so many bits stand in the first byte
+abbrev pub first_bits : ℕ → ℕ
+first_bits count = if nat_lt count 8 then count else 8
 
--- Bitvector[N] of at most eight bits: one byte, whose spare bits are 0
+-- so many bits of the bytes: eight of each, and of the last those that are left, whose spare bits are 0
+abbrev pub parse_bits : ℕ → List ℕ → Option (List Bool)
+parse_bits count [] = if count == 0 then Some [] else None
+parse_bits count (n ∷ bytes) =
+    if count == 0 then None
+    else (if nat_lt n (2 ^ first_bits count) then (parse_bits (count - 8) bytes and_then λ bits. Some (number_bits (first_bits count) n ++ bits)) else None)
+
+-- Bitvector[N]
 abbrev pub bitvector : ℕ → Codec (List Bool)
 bitvector count = record {
-  field = Fixed 1;
+  field = Fixed ((count + 7) / 8);
   basic = false;
   Within = λ bits. length bits ≡ count;
-  serialize = λ bits. bits_number bits ∷ [];
+  serialize = bits_bytes;
   deserialize = parse_bits count;
-  hash_tree_root = λ bits. merkleize (byte_chunks (bits_number bits ∷ [])) (bit_chunk_count count);
+  hash_tree_root = λ bits. merkleize (byte_chunks (bits_bytes bits)) (bit_chunk_count count);
 }

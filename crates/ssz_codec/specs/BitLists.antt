@@ -1,19 +1,10 @@
 -- Lists of bits (simple-serialize.md, "Bitlist[N]").
 use Rattle.std.specs.Prelude.{ℕ, zero, suc, ◌+◌, ◌/◌, ◌%◌, ◌≤◌, Bool, true, false, List, [], ◌∷◌, ◌++◌, length, take, drop, Option, Some, None, nat_lt, ◌==◌, if◌then◌else◌}
-use Rattle.hash_tree.specs.Merkle.{merkleize, mix_in_length, bit_chunk_count, byte_chunks, bits_number}
+use Rattle.hash_tree.specs.Merkle.{merkleize, mix_in_length, bit_chunk_count, byte_chunks, bits_bytes}
 use Rattle.ssz_codec.specs.declared.layout.Field.TheVariants.{Variable}
 use Rattle.ssz_codec.specs.Layout.{◌and_then◌}
 use Rattle.ssz_codec.specs.Codec.{Codec}
 use Rattle.ssz_codec.specs.Basic.{number_bits}
-
--- so many bytes of bits: eight to a byte, the first in its lowest place, and 0 for bits that are missing
-unfoldable pub packed_bits : ℕ → List Bool → List ℕ
-packed_bits zero bits = []
-packed_bits (suc count) bits = bits_number (take 8 bits) ∷ packed_bits count (drop 8 bits)
-
--- the bits in as few bytes as hold them
-abbrev pub bits_bytes : List Bool → List ℕ
-bits_bytes bits = packed_bits ((length bits + 7) / 8) bits
 
 -- serialize: a bit 1 stands behind the last bit
 unfoldable pub bit_list_bytes : List Bool → List ℕ

@@ -33,3 +33,5 @@ pub record IsLawful {A : Type 0} (c : Codec A) : Type 0 where
   -- what is written is read again
   pub complete : (v : A) → c.Within v → c.deserialize (c.serialize v) ≡ Some v
   pub size : (v : A) → c.Within v → HasSize c.field (c.serialize v)
+  -- a writing is bytes
+  pub bytes : (v : A) → c.Within v → IsBytes (c.serialize v)

@@ -2,6 +2,7 @@
 use Rattle.std.specs.Prelude.{◌≡◌, ℕ, zero, suc, false, ◌*◌, ◌/◌, ◌≤◌, List, [], ◌∷◌, length, take, drop, map, replicate, Option, Some, None, nat_lt, ◌==◌, if◌then◌else◌}
 use Rattle.std.specs.List.{flat_map, AllByRecursion}
 use Rattle.hash_tree.specs.Merkle.{merkleize, mix_in_length, chunk_count, byte_chunks}
+use Rattle.ssz_codec.specs.declared.layout.Field.{Field}
 use Rattle.ssz_codec.specs.declared.layout.Field.TheVariants.{Fixed, Variable}
 use Rattle.ssz_codec.specs.Layout.{◌and_then◌, field_length, offset_of, joined, OffsetsFit, cut}
 use Rattle.ssz_codec.specs.Codec.{Codec}
@@ -42,9 +43,9 @@ unfoldable pub parse_list : {A : Type 0} → (List ℕ → Option A) → ℕ →
 parse_list parse size limit bytes =
     if nat_lt limit (length bytes / size) then None else parse_items parse size (length bytes / size) bytes
 
--- List[T, N] of values of fixed size
-abbrev pub list_codec : {A : Type 0} → Codec A → ℕ → Codec (List A)
-list_codec c limit = record {
+-- a list of values of fixed size, one after another
+abbrev pub fixed_size_list : {A : Type 0} → Codec A → ℕ → Codec (List A)
+fixed_size_list c limit = record {
   field = Variable;
   basic = false;
   Within = λ xs. (length xs ≤ limit) × AllByRecursion c.Within xs;
@@ -60,9 +61,9 @@ parse_variable_list parse limit bytes =
     if length bytes == 0 then Some []
     else (if nat_lt limit count then None else (cut (replicate count Variable) bytes and_then λ parts. parse_parts parse parts))
 
--- List[T, N] of values of variable size, which are never basic: each is a leaf
-abbrev pub variable_list_codec : {A : Type 0} → Codec A → ℕ → Codec (List A)
-variable_list_codec c limit = record {
+-- a list of values of variable size, each at its offset. They are never basic: each is a leaf
+abbrev pub variable_size_list : {A : Type 0} → Codec A → ℕ → Codec (List A)
+variable_size_list c limit = record {
   field = Variable;
   basic = false;
   Within = λ xs. (length xs ≤ limit) × AllByRecursion c.Within xs × OffsetsFit (replicate (length xs) Variable) (map c.serialize xs) (4 * length xs);
@@ -70,3 +71,11 @@ variable_list_codec c limit = record {
   deserialize = parse_variable_list c.deserialize limit;
   hash_tree_root = λ xs. mix_in_length (merkleize (map c.hash_tree_root xs) limit) (length xs);
 }
+
+-- List[T, N]: whether its values have offsets follows from their type
+abbrev pub list_by_field : {A : Type 0} → Field → Codec A → ℕ → Codec (List A)
+list_by_field (Fixed size) c limit = fixed_size_list c limit
+list_by_field Variable c limit = variable_size_list c limit
+
+abbrev pub list_codec : {A : Type 0} → Codec A → ℕ → Codec (List A)
+list_codec c limit = list_by_field c.field c limit

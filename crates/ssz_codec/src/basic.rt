@@ -2,7 +2,7 @@
 
 ghost use Rattle.std.specs.Prelude.{◌≡◌, length, nat_lt, ◌^◌, ◌<◌, refl};
 ghost use Rattle.ssz_codec.specs.Codec.{Codec};
-ghost use Rattle.ssz_codec.specs.Basic.{bytes_to_uint64, uint64, boolean, bytes_codec, bytes4, bytes32, bytes48, bytes96, bitvector, number_bits};
+ghost use Rattle.ssz_codec.specs.Basic.{uint64, boolean, bytes_codec, bytes4, bytes32, bytes48, bytes96, bitvector, number_bits};
 ghost use Rattle.hash_tree.specs.Merkle.{bits_number};
 ghost use Rattle.ssz_codec.specs.laws.Basic.{uint64_lawful, boolean_lawful, bytes_lawful, bytes32_lawful, bytes32_is_fixed, bitvector_lawful};
 ghost use Rattle.ssz_codec.specs.Reads.{ReadsAs};
@@ -22,7 +22,6 @@ impl Ssz for u64 {
         Field::Fixed(8)
     }
 
-    #[tactic(auto, unfolding(crate::specs::Basic::bytes_to_uint64))]
     fn parse(_alloc: Global, bytes: &[u8]) -> Result<u64, SszFault> {
         match bytes {
             [a, b, c, d, e, f, g, h] => Ok(u64::from_le_bytes([*a, *b, *c, *d, *e, *f, *g, *h])),
@@ -178,6 +177,7 @@ impl Ssz for [bool; 4] {
         }
     }
 
+    #[tactic(auto, using(hash_tree::proofs::Bits::bits_bytes_one))]
     fn append_to(&self, out: &mut Writer) -> Result<(), NoMemory> {
         out.put_bytes(&[bits_byte(self)])
     }

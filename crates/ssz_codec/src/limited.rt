@@ -3,7 +3,7 @@
 
 ghost use Rattle.std.specs.Prelude.{◌≡◌, ℕ, ◌≤◌, ◌<◌, ◌^◌, ◌∷◌, ◌++◌, [], length, refl, OnOk, OnErr, IfOk, IsTrue, ◌↔◌};
 ghost use Rattle.ssz_codec.specs.Layout.{field_length};
-ghost use Rattle.ssz_codec.specs.Lists.{list_codec};
+ghost use Rattle.ssz_codec.specs.Lists.{fixed_size_list};
 ghost use Rattle.ssz_codec.specs.laws.Lists.{list_lawful};
 
 use crate::fault::SszFault;
@@ -113,7 +113,7 @@ impl<T: FixedSsz + ListValue, L: ListLimit> LimitedList<T, L> {
 }
 
 impl<T: FixedSsz, L: ListLimit> Leaf for LimitedList<T, L> {
-    ghost root_of = { (list_codec T.Ssz.codec L.LIMIT).hash_tree_root };
+    ghost root_of = { (fixed_size_list T.Ssz.codec L.LIMIT).hash_tree_root };
 
     fn root(&self) -> Root {
         let _low = L::LIMIT;
@@ -122,7 +122,7 @@ impl<T: FixedSsz, L: ListLimit> Leaf for LimitedList<T, L> {
 }
 
 impl<T: FixedSsz, L: ListLimit> Ssz for LimitedList<T, L> {
-    ghost codec = { list_codec T.Ssz.codec L.LIMIT };
+    ghost codec = { fixed_size_list T.Ssz.codec L.LIMIT };
 
     fn field() -> Field {
         Field::Variable

@@ -3,7 +3,7 @@
 
 ghost use Rattle.std.specs.Prelude.{◌≡◌, ◌≤◌, ◌++◌, length, refl, IfOk, IsTrue, ◌↔◌};
 ghost use Rattle.ssz_codec.specs.Basic.{uint64};
-ghost use Rattle.ssz_codec.specs.Lists.{list_codec};
+ghost use Rattle.ssz_codec.specs.Lists.{fixed_size_list};
 ghost use Rattle.ssz_codec.specs.laws.Basic.{uint64_lawful, uint64_is_fixed};
 ghost use Rattle.ssz_codec.specs.laws.Lists.{list_lawful};
 
@@ -89,7 +89,7 @@ impl<L: ListLimit> NumberList<L> {
 }
 
 impl<L: ListLimit> Leaf for NumberList<L> {
-    ghost root_of = { (list_codec uint64 L.LIMIT).hash_tree_root };
+    ghost root_of = { (fixed_size_list uint64 L.LIMIT).hash_tree_root };
 
     fn root(&self) -> Root {
         let _low = L::LIMIT;
@@ -98,7 +98,7 @@ impl<L: ListLimit> Leaf for NumberList<L> {
 }
 
 impl<L: ListLimit> Ssz for NumberList<L> {
-    ghost codec = { list_codec uint64 L.LIMIT };
+    ghost codec = { fixed_size_list uint64 L.LIMIT };
 
     fn field() -> Field {
         Field::Variable

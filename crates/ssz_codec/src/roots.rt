@@ -4,7 +4,7 @@
 ghost use Rattle.std.specs.Prelude.{◌≡◌, ◌≤◌, ◌+◌, ◌*◌, ◌/◌, ◌^◌, length, map};
 ghost use Rattle.hash_tree.specs.Merkle.{merkleize, mix_in_length as mixed_in, chunk_count, u64_chunks};
 ghost use Rattle.ssz_codec.specs.Basic.{uint64};
-ghost use Rattle.ssz_codec.specs.Lists.{vector_codec, list_codec, variable_list_codec};
+ghost use Rattle.ssz_codec.specs.Lists.{vector_codec, fixed_size_list, variable_size_list};
 
 use crate::ssz::{FixedSsz, Ssz};
 use hash_tree::{Leaf, Root, depth_of, merkle_leaves, merkle_u64, mix_in_length};
@@ -52,7 +52,7 @@ pub fn vector_root<T: FixedSsz>(values: &[T], count: u64) -> Root
 pub fn list_root<T: FixedSsz>(values: &[T], limit: u64) -> Root
     requires low { limit ≤ 2 ^ 40 }
     requires fits { length values.now ≤ limit }
-    ensures { result ≡ (list_codec T.codec limit).hash_tree_root values.now }
+    ensures { result ≡ (fixed_size_list T.codec limit).hash_tree_root values.now }
 {
     mix_in_length(&leaves_root(values, limit), values.len() as u64)
 }
@@ -61,7 +61,7 @@ pub fn list_root<T: FixedSsz>(values: &[T], limit: u64) -> Root
 pub fn variable_list_root<T: Ssz>(values: &[T], limit: u64) -> Root
     requires low { limit ≤ 2 ^ 40 }
     requires fits { length values.now ≤ limit }
-    ensures { result ≡ (variable_list_codec T.codec limit).hash_tree_root values.now }
+    ensures { result ≡ (variable_size_list T.codec limit).hash_tree_root values.now }
 {
     mix_in_length(&leaves_root(values, limit), values.len() as u64)
 }
@@ -71,7 +71,7 @@ pub fn variable_list_root<T: Ssz>(values: &[T], limit: u64) -> Root
 pub fn number_list_root(numbers: &[u64], limit: u64) -> Root
     requires low { limit ≤ 2 ^ 40 }
     requires fits { length numbers.now ≤ limit }
-    ensures { result ≡ (list_codec uint64 limit).hash_tree_root numbers.now }
+    ensures { result ≡ (fixed_size_list uint64 limit).hash_tree_root numbers.now }
 {
     mix_in_length(&numbers_root(numbers, limit), numbers.len() as u64)
 }

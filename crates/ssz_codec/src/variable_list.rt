@@ -4,7 +4,7 @@
 ghost use Rattle.std.specs.Prelude.{◌≡◌, ◌≤◌, ◌*◌, ◌^◌, ◌++◌, length, map, replicate, take, refl, OnOk, OnErr, IfOk, IsTrue, ◌↔◌};
 ghost use Rattle.ssz_codec.specs.declared.layout.Field.TheVariants.{Variable};
 ghost use Rattle.ssz_codec.specs.Layout.{joined};
-ghost use Rattle.ssz_codec.specs.Lists.{variable_list_codec};
+ghost use Rattle.ssz_codec.specs.Lists.{variable_size_list};
 ghost use Rattle.ssz_codec.specs.laws.Lists.{variable_list_lawful};
 ghost use Rattle.ssz_codec.specs.inside.Halves.{with_variable_parts};
 
@@ -141,7 +141,7 @@ pub(crate) fn append_list<T: Ssz>(values: &[T], out: &mut Writer) -> Result<(), 
 }
 
 impl<T: VariableSsz, L: ListLimit> Leaf for VariableList<T, L> {
-    ghost root_of = { (variable_list_codec T.Ssz.codec L.LIMIT).hash_tree_root };
+    ghost root_of = { (variable_size_list T.Ssz.codec L.LIMIT).hash_tree_root };
 
     fn root(&self) -> Root {
         let _low = L::LIMIT;
@@ -150,7 +150,7 @@ impl<T: VariableSsz, L: ListLimit> Leaf for VariableList<T, L> {
 }
 
 impl<T: VariableSsz, L: ListLimit> Ssz for VariableList<T, L> {
-    ghost codec = { variable_list_codec T.Ssz.codec L.LIMIT };
+    ghost codec = { variable_size_list T.Ssz.codec L.LIMIT };
 
     fn field() -> Field {
         Field::Variable

@@ -3,7 +3,7 @@ use Rattle.std.proofs.Common.{◌≡◌, ℕ, Bool, List, [], ◌∷◌, length,
 use Rattle.ssz_codec.specs.Layout.{◌and_then◌}
 use Rattle.ssz_codec.specs.Containers.{all_read}
 use Rattle.ssz_codec.specs.Basic.{uint64, bytes32, bitvector}
-use Rattle.ssz_codec.specs.Lists.{vector_codec, list_codec, variable_list_codec}
+use Rattle.ssz_codec.specs.Lists.{vector_codec, list_codec}
 use Rattle.bc_preset.specs.declared.presets.Preset.{Preset}
 use Rattle.beacon_types.specs.Containers.{fork_codec, checkpoint_codec, validator_codec, eth1_data_codec, block_header_codec, pending_attestation_codec}
 use Rattle.beacon_types.specs.declared.fork.Fork.{Fork}
@@ -74,7 +74,7 @@ regroup p (Some x0) (Some x1) (Some x2) (Some x3) (Some x4) (Some x5) (Some x6) 
 
 explicit_groups : (p : Preset) (q0 q1 q2 q3 q4 q5 q6 q7 q8 q9 q10 q11 q12 q13 q14 q15 q16 q17 q18 q19 q20 : List ℕ) → (state_fields p).deserialize all_read (q0 ∷ q1 ∷ q2 ∷ q3 ∷ q4 ∷ q5 ∷ q6 ∷ q7 ∷ q8 ∷ q9 ∷ q10 ∷ q11 ∷ q12 ∷ q13 ∷ q14 ∷ q15 ∷ q16 ∷ q17 ∷ q18 ∷ q19 ∷ q20 ∷ []) ≡ read_groups p (q0 ∷ q1 ∷ q2 ∷ q3 ∷ q4 ∷ []) (q5 ∷ q6 ∷ q7 ∷ []) (q8 ∷ q9 ∷ q10 ∷ []) (q11 ∷ q12 ∷ q13 ∷ q14 ∷ []) (q15 ∷ q16 ∷ []) (q17 ∷ q18 ∷ q19 ∷ q20 ∷ [])
 unfolding state_fields read_groups clock_fields history_fields eth1_fields registry_fields pending_fields finality_fields
-explicit_groups p q0 q1 q2 q3 q4 q5 q6 q7 q8 q9 q10 q11 q12 q13 q14 q15 q16 q17 q18 q19 q20 = regroup p (uint64.deserialize q0) (bytes32.deserialize q1) (uint64.deserialize q2) (fork_codec.deserialize q3) (block_header_codec.deserialize q4) ((vector_codec bytes32 p.slots_per_historical_root).deserialize q5) ((vector_codec bytes32 p.slots_per_historical_root).deserialize q6) ((list_codec bytes32 p.historical_roots_limit).deserialize q7) (eth1_data_codec.deserialize q8) ((list_codec eth1_data_codec (votes_limit p)).deserialize q9) (uint64.deserialize q10) ((list_codec validator_codec p.validator_registry_limit).deserialize q11) ((list_codec uint64 p.validator_registry_limit).deserialize q12) ((vector_codec bytes32 p.epochs_per_historical_vector).deserialize q13) ((vector_codec uint64 p.epochs_per_slashings_vector).deserialize q14) ((variable_list_codec pending_attestation_codec (attestations_limit p)).deserialize q15) ((variable_list_codec pending_attestation_codec (attestations_limit p)).deserialize q16) ((bitvector 4).deserialize q17) (checkpoint_codec.deserialize q18) (checkpoint_codec.deserialize q19) (checkpoint_codec.deserialize q20)
+explicit_groups p q0 q1 q2 q3 q4 q5 q6 q7 q8 q9 q10 q11 q12 q13 q14 q15 q16 q17 q18 q19 q20 = regroup p (uint64.deserialize q0) (bytes32.deserialize q1) (uint64.deserialize q2) (fork_codec.deserialize q3) (block_header_codec.deserialize q4) ((vector_codec bytes32 p.slots_per_historical_root).deserialize q5) ((vector_codec bytes32 p.slots_per_historical_root).deserialize q6) ((list_codec bytes32 p.historical_roots_limit).deserialize q7) (eth1_data_codec.deserialize q8) ((list_codec eth1_data_codec (votes_limit p)).deserialize q9) (uint64.deserialize q10) ((list_codec validator_codec p.validator_registry_limit).deserialize q11) ((list_codec uint64 p.validator_registry_limit).deserialize q12) ((vector_codec bytes32 p.epochs_per_historical_vector).deserialize q13) ((vector_codec uint64 p.epochs_per_slashings_vector).deserialize q14) ((list_codec pending_attestation_codec (attestations_limit p)).deserialize q15) ((list_codec pending_attestation_codec (attestations_limit p)).deserialize q16) ((bitvector 4).deserialize q17) (checkpoint_codec.deserialize q18) (checkpoint_codec.deserialize q19) (checkpoint_codec.deserialize q20)
 
 -- the parts of each group, of 21
 pub groups_are_read : (p : Preset) (parts : List (List ℕ)) → length parts ≡ 21 → (state_fields p).deserialize all_read parts ≡ read_groups p (take 5 parts) (take 3 (drop 5 parts)) (take 3 (drop 3 (drop 5 parts)))

@@ -7,7 +7,7 @@ ghost use Rattle.std.specs.Prelude.{◌≡◌, ◌<◌, ◌≤◌, ◌^◌, [], 
 ghost use Rattle.std.specs.List.{AllByRecursion};
 ghost use Rattle.std.specs.Option.{option_map};
 ghost use Rattle.bc_words.specs.Outcome.{Pushes, Becomes, checked_push};
-ghost use Rattle.ssz_codec.specs.Lists.{vector_codec, list_codec, variable_list_codec};
+ghost use Rattle.ssz_codec.specs.Lists.{vector_codec, fixed_size_list, variable_size_list};
 ghost use Rattle.tree_nodes.specs.Changes.{AreChanges, changed};
 
 use crate::differences::differences;
@@ -215,7 +215,7 @@ impl<T: InRange> Values<T> {
 
     /// The root of the list of values of variable size (simple-serialize.md, "Merkleization"). It is kept.
     pub fn variable_list_root(&self) -> Root
-        ensures { result ≡ (variable_list_codec T.Ssz.codec self.now.limit).hash_tree_root self.now.items }
+        ensures { result ≡ (variable_size_list T.Ssz.codec self.now.limit).hash_tree_root self.now.items }
     {
         self.list.root()
     }
@@ -224,7 +224,7 @@ impl<T: InRange> Values<T> {
 impl<T: InRange + FixedSsz> Values<T> {
     /// The root of the list of values of fixed size (simple-serialize.md, "Merkleization"). It is kept.
     pub fn list_root(&self) -> Root
-        ensures { result ≡ (list_codec T.Ssz.codec self.now.limit).hash_tree_root self.now.items }
+        ensures { result ≡ (fixed_size_list T.Ssz.codec self.now.limit).hash_tree_root self.now.items }
     {
         self.list.root()
     }

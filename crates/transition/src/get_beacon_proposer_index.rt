@@ -1,9 +1,8 @@
 //! The proposer of a slot (beacon-chain.md, "get_beacon_proposer_index").
 
 ghost use Rattle.std.specs.Prelude.{◌≡◌, ◌++◌};
-ghost use Rattle.std.specs.Int.{w64, to_le_bytes};
 ghost use Rattle.bc_words.specs.Outcome.{Gives};
-ghost use Rattle.hash_tree.specs.Merkle.{hash};
+ghost use Rattle.hash_tree.specs.Merkle.{hash, uint_to_bytes};
 ghost use Rattle.spec_state.specs.Constants.{domain_beacon_proposer};
 ghost use Rattle.spec_state.specs.Accessors.{get_current_epoch, get_seed, get_beacon_proposer_index};
 
@@ -17,9 +16,9 @@ use sha2::{Digest, Sha256};
 use std::alloc::Global;
 
 /// The seed that the proposer of the state's slot is picked by.
-#[tactic(auto, unfolding(hash_tree::specs::Merkle::hash))]
+#[tactic(auto, unfolding(hash_tree::specs::Merkle::hash, hash_tree::specs::Merkle::uint_to_bytes))]
 fn proposer_seed(state: &State) -> Root
-    ensures { result ≡ hash (get_seed state.now (get_current_epoch state.now) domain_beacon_proposer ++ to_le_bytes w64 state.now.slot) }
+    ensures { result ≡ hash (get_seed state.now (get_current_epoch state.now) domain_beacon_proposer ++ uint_to_bytes state.now.slot) }
 {
     let seed = seed_of(state, current_epoch(state), DOMAIN_BEACON_PROPOSER);
     let mut hasher = Sha256::new();

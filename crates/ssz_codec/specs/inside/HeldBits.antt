@@ -1,7 +1,7 @@
 -- What a `BitList` holds. Not a definition of the format.
 use Rattle.std.specs.Prelude.{◌≡◌, List, Bool, length, take}
 use Rattle.ssz_codec.specs.declared.bit_list.BitList.TheInside.{Inside}
-use Rattle.ssz_codec.specs.BitLists.{bits_bytes}
+use Rattle.hash_tree.specs.Merkle.{bits_bytes}
 use Rattle.ssz_codec.specs.laws.BitLists.{whole_bits}
 
 -- so many of the bits of the bytes

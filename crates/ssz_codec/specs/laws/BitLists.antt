@@ -7,47 +7,15 @@ use Rattle.std.proofs.Math.Pow.{pow_pos}
 use Rattle.std.proofs.lemmas.List.{take_at, drop_at, take_all, take-append-drop, length-append, length-take-le, length-drop}
 use Rattle.ssz_codec.specs.Layout.{◌and_then◌}
 use Rattle.ssz_codec.specs.Basic.{number_bits}
-use Rattle.hash_tree.specs.Merkle.{bits_number}
-use Rattle.ssz_codec.specs.BitLists.{packed_bits, bits_bytes, bit_list_bytes, bits_below_top, bits_before_end, parse_bit_list, bitlist}
+use Rattle.hash_tree.specs.Merkle.{bits_number, bits_bytes}
+use Rattle.ssz_codec.specs.BitLists.{bit_list_bytes, bits_below_top, bits_before_end, parse_bit_list, bitlist}
 use Rattle.ssz_codec.specs.declared.fault.SszFault.{SszFault}
 use Rattle.ssz_codec.specs.declared.fault.SszFault.TheVariants.{NotAWriting, NoMemory}
 use Rattle.ssz_codec.specs.Reads.{ReadsAs, Reads}
 use Rattle.ssz_codec.specs.Lawful.{IsBytes, IsLawful}
 use Rattle.ssz_codec.specs.laws.Layout.{bind_some, some_is, unless_some}
-use Rattle.ssz_codec.specs.laws.Basic.{bits_of_number, number_bits_len, bits_again, first_bit, other_bits, halves, pow-step}
-
--- ---- bytes of bits
-
-packed_count : (count : ℕ) (bits : List Bool) → length (packed_bits count bits) ≡ count
-unfolding packed_bits
-packed_count zero bits = refl
-packed_count (suc count) bits = ap suc (packed_count count (drop 8 bits))
-
-pub bits_bytes_len : (bits : List Bool) → length (bits_bytes bits) ≡ (length bits + 7) / 8
-bits_bytes_len bits = packed_count ((length bits + 7) / 8) bits
-
-packed_step : (count more : ℕ) (front bits : List Bool) → count ≡ suc more → length front ≡ 8 → packed_bits count (front ++ bits) ≡ bits_number front ∷ packed_bits more bits
-unfolding packed_bits
-packed_step count more front bits e l = rw e (
-    ap (λ t. bits_number t ∷ packed_bits more (drop 8 (front ++ bits))) (take_at front bits 8 l)
-    ∙ ap (λ t. bits_number front ∷ packed_bits more t) (drop_at front bits 8 l))
-
--- a whole byte before the others
-pub bits_bytes_step : (front bits : List Bool) → length front ≡ 8 → bits_bytes (front ++ bits) ≡ bits_number front ∷ bits_bytes bits
-bits_bytes_step front bits l =
-    packed_step ((length (front ++ bits) + 7) / 8) ((length bits + 7) / 8) front bits (omega (arith, length-append front bits)) l
-
-packed_one : (count : ℕ) (bits : List Bool) → count ≡ 1 → length bits ≤ 8 → packed_bits count bits ≡ bits_number bits ∷ []
-unfolding packed_bits
-packed_one count bits e l = rw e (ap (λ t. bits_number t ∷ []) (take_all 8 bits l))
-
--- at most one byte
-pub bits_bytes_one : (bits : List Bool) → 0 < length bits → length bits ≤ 8 → bits_bytes bits ≡ bits_number bits ∷ []
-bits_bytes_one bits some l = packed_one ((length bits + 7) / 8) bits (omega arith) l
-
-pub bits_bytes_nil : bits_bytes [] ≡ []
-unfolding packed_bits
-bits_bytes_nil = refl
+use Rattle.ssz_codec.specs.laws.Basic.{bits_of_number, number_bits_len, bits_again, first_bit, other_bits, halves, pow-step, bits_bytes_len, bits_bytes_step, packed_fits}
+use Rattle.hash_tree.proofs.Bits.{bits_bytes_one}
 
 -- ---- the writing, byte by byte
 
@@ -189,11 +157,16 @@ bit_list_complete limit bits l =
     ap (λ o. o and_then λ all. cond (nat_lt limit (length all)) None (Some all)) (before_end_complete bits)
     ∙ ap (λ b. cond b None (Some bits)) (le-ltb _ _ l)
 
+list_fits : (bits : List Bool) → IsBytes (bit_list_bytes bits)
+unfolding bit_list_bytes
+list_fits bits = packed_fits ((length (bits ++ true ∷ []) + 7) / 8) (bits ++ true ∷ [])
+
 pub bitlist_lawful : (limit : ℕ) → IsLawful (bitlist limit)
 bitlist_lawful limit = record {
   sound = λ bytes bits fits e. bit_list_sound limit bytes bits fits e;
   complete = λ bits l. bit_list_complete limit bits l;
   size = λ bits l. tt;
+  bytes = λ bits l. list_fits bits;
 }
 
 pub reads_from_gives : (limit : ℕ) (bytes : List ℕ) (r : Result (List Bool) SszFault) → IsBytes bytes → ReadsAs r (parse_bit_list limit bytes) → Reads (bitlist limit) r bytes

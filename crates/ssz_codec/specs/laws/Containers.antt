@@ -8,7 +8,7 @@ use Rattle.ssz_codec.specs.Layout.{◌and_then◌, fixed_length, fixed_parts, va
 use Rattle.ssz_codec.specs.Codec.{Codec}
 use Rattle.ssz_codec.specs.Containers.{pair, Fields, fields_of, deserialize_next, ◌▹◌∶◌, ◌▹◌≔◌, and_fixed, field_of, all_read, container_of}
 use Rattle.ssz_codec.specs.Lawful.{IsBytes, HasSize, FitFields, IsLawful}
-use Rattle.ssz_codec.specs.laws.Layout.{bind_some, some_is, cut_is_joined, joined_is_cut, fixed_parts_is_long}
+use Rattle.ssz_codec.specs.laws.Layout.{bind_some, some_is, cut_is_joined, joined_is_cut, fixed_parts_is_long, joined_fits}
 
 -- what the fields took from the front of some parts, and what the rest was given
 pub record Taken {S B : Type 0} (q : Fields S B) (next : B → List (List ℕ) → Option S) (parts : List (List ℕ)) (s : S) : Type 0 where
@@ -23,12 +23,14 @@ pub record AreLawful {S B : Type 0} (q : Fields S B) : Type 0 where
   pub sound : (next : B → List (List ℕ) → Option S) (parts : List (List ℕ)) (s : S) → AllByRecursion IsBytes parts → q.deserialize next parts ≡ Some s → Taken q next parts s
   pub complete : (next : B → List (List ℕ) → Option S) (a : q.Values) (rest : List (List ℕ)) → q.Within a → q.deserialize next (q.parts a rest) ≡ next (q.make a) rest
   pub sizes : (a : q.Values) (fs : List Field) (rest : List (List ℕ)) → q.Within a → FitFields fs rest → FitFields (q.layout fs) (q.parts a rest)
+  pub bytes : (a : q.Values) (rest : List (List ℕ)) → q.Within a → AllByRecursion IsBytes rest → AllByRecursion IsBytes (q.parts a rest)
 
 pub start : {S B : Type 0} {make : B} → AreLawful (fields_of {S = S} make)
 start = record {
   sound = λ next parts s each e. record { value = tt; rest = parts; within = tt; whole = refl; each = each; after = e };
   complete = λ next a rest within. refl;
   sizes = λ a fs rest within fit. fit;
+  bytes = λ a rest within each. each;
 }
 
 next_taken : {S A B : Type 0} (q : Fields S (A → B)) (get : S → A) (c : Codec A) → IsLawful c → (next : B → List (List ℕ) → Option S) (parts : List (List ℕ)) (s : S)
@@ -57,6 +59,7 @@ pub ◌▸◌ : {S A B : Type 0} {q : Fields S (A → B)} {get : S → A} {c : C
       laws.complete (λ f. deserialize_next c (λ x. next (f x))) a.first (c.serialize a.rest ∷ rest) within.0
       ∙ ap (λ (o : Option A). o and_then λ x. next (q.make a.first x) rest) (law.complete a.rest within.1);
   sizes = λ a fs rest within fit. laws.sizes a.first (c.field ∷ fs) (c.serialize a.rest ∷ rest) within.0 (law.size a.rest within.1, fit);
+  bytes = λ a rest within each. laws.bytes a.first (c.serialize a.rest ∷ rest) within.0 (law.bytes a.rest within.1, each);
 }
 
 -- a field without a part
@@ -68,6 +71,7 @@ and_given {q = q} {x = x} laws = record {
   complete = λ next a rest within.
       laws.complete (λ f. next (f x)) a.first rest within.0 ∙ ap (λ y. next (q.make a.first y) rest) (sym within.1);
   sizes = λ a fs rest within fit. laws.sizes a.first fs rest within.0 fit;
+  bytes = λ a rest within each. laws.bytes a.first rest within.0 each;
 }
 
 -- ---- the container
@@ -121,4 +125,5 @@ container_of_lawful {S = S} q there back laws =
           ∙ laws.complete all_read (q.values s) [] within.0
           ∙ ap (λ (o : S). Some o) (there s);
       size = λ s within. parts_size fs (q.parts (q.values s) []) (laws.sizes (q.values s) [] [] within.0 tt);
+      bytes = λ s within. joined_fits fs (q.parts (q.values s) []) (laws.bytes (q.values s) [] within.0 tt);
     }

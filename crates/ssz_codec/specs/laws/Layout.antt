@@ -1,5 +1,5 @@
 -- The laws of a layout: what is cut is what was joined, and what was joined is cut again. Proofs, not definitions.
-use Rattle.std.proofs.Common.{◌≡◌, ℕ, ◌+◌, ◌-◌, ◌^◌, ◌<◌, ◌≤◌, Bool, true, false, cond, List, [], ◌∷◌, ◌++◌, length, take, drop, Option, Some, None, refl, sym, ap, subst, ◌∙◌, append_assoc, arith, inl, inr}
+use Rattle.std.proofs.Common.{◌≡◌, ℕ, zero, suc, ◌+◌, ◌-◌, ◌^◌, ◌<◌, ◌≤◌, Bool, true, false, cond, List, [], ◌∷◌, ◌++◌, length, take, drop, Option, Some, None, refl, sym, ap, subst, ◌∙◌, append_assoc, arith, inl, inr}
 use Rattle.std.specs.Prelude.{nat_lt, ◌==◌}
 use Rattle.std.specs.List.{AllByRecursion}
 use Rattle.std.proofs.lemmas.Bool.{cases_lt, ltb-false, le-ltb, eqb-true, eq-eqb}
@@ -10,6 +10,14 @@ use Rattle.ssz_codec.specs.declared.layout.Field.{Field}
 use Rattle.ssz_codec.specs.declared.layout.Field.TheVariants.{Fixed, Variable}
 use Rattle.ssz_codec.specs.Layout.{◌and_then◌, offset_bytes, offset_of, fixed_length, fixed_parts, variable_parts, joined, OffsetsFit, Cuts, cut_variable, cut_from, cut}
 use Rattle.ssz_codec.specs.Lawful.{IsBytes, FitFields}
+
+pub IsBytes-append : (xs ys : List ℕ) → IsBytes xs → IsBytes ys → IsBytes (xs ++ ys)
+IsBytes-append [] ys first second i = second i
+IsBytes-append (x ∷ xs) ys first second zero = first zero
+IsBytes-append (x ∷ xs) ys first second (suc i) = IsBytes-append xs ys (λ j. first (suc j)) second i
+
+pub IsBytes-nil : IsBytes []
+IsBytes-nil i = omega arith
 
 pub IsBytes-drop : (n : ℕ) (bytes : List ℕ) → IsBytes bytes → IsBytes (drop n bytes)
 IsBytes-drop n bytes h i = rw get_or-drop (h (n + i))
@@ -196,3 +204,32 @@ joined_is_cut fs parts fit offsets =
     ap (λ b. cond b None (cut_from fs bytes bytes and_then λ all. cond (all.start == n) (Some all.parts) None)) test
     ∙ ap (λ (o : Option Cuts). o and_then λ all. cond (all.start == n) (Some all.parts) None) h
     ∙ ap (λ b. cond b (Some parts) None) (eq-eqb n n refl)
+
+-- ---- what is joined of bytes is bytes
+
+offset_fits : (n : ℕ) → IsBytes (offset_bytes n)
+unfolding offset_bytes
+offset_fits n zero = omega arith
+offset_fits n (suc zero) = omega arith
+offset_fits n (suc (suc zero)) = omega arith
+offset_fits n (suc (suc (suc zero))) = omega arith
+offset_fits n (suc (suc (suc (suc i)))) = omega arith
+
+fixed_fits : (fs : List Field) (parts : List (List ℕ)) (s : ℕ) → AllByRecursion IsBytes parts → IsBytes (fixed_parts fs parts s)
+unfolding fixed_parts
+fixed_fits [] parts s each = IsBytes-nil
+fixed_fits (f ∷ fs) [] s each = IsBytes-nil
+fixed_fits (Fixed n ∷ fs) (p ∷ parts) s each = IsBytes-append p (fixed_parts fs parts s) each.0 (fixed_fits fs parts s each.1)
+fixed_fits (Variable ∷ fs) (p ∷ parts) s each = IsBytes-append (offset_bytes s) (fixed_parts fs parts (s + length p)) (offset_fits s) (fixed_fits fs parts (s + length p) each.1)
+
+variable_fits : (fs : List Field) (parts : List (List ℕ)) → AllByRecursion IsBytes parts → IsBytes (variable_parts fs parts)
+unfolding variable_parts
+variable_fits [] parts each = IsBytes-nil
+variable_fits (f ∷ fs) [] each = IsBytes-nil
+variable_fits (Fixed n ∷ fs) (p ∷ parts) each = variable_fits fs parts each.1
+variable_fits (Variable ∷ fs) (p ∷ parts) each = IsBytes-append p (variable_parts fs parts) each.0 (variable_fits fs parts each.1)
+
+pub joined_fits : (fs : List Field) (parts : List (List ℕ)) → AllByRecursion IsBytes parts → IsBytes (joined fs parts)
+unfolding joined
+joined_fits fs parts each =
+    IsBytes-append (fixed_parts fs parts (fixed_length fs)) (variable_parts fs parts) (fixed_fits fs parts (fixed_length fs) each) (variable_fits fs parts each)

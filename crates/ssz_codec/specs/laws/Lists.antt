@@ -10,9 +10,9 @@ use Rattle.ssz_codec.specs.declared.layout.Field.{Field}
 use Rattle.ssz_codec.specs.declared.layout.Field.TheVariants.{Fixed, Variable}
 use Rattle.ssz_codec.specs.Layout.{◌and_then◌, offset_bytes, offset_of, field_length, fixed_length, fixed_parts, variable_parts, joined, OffsetsFit, cut}
 use Rattle.ssz_codec.specs.Codec.{Codec}
-use Rattle.ssz_codec.specs.Lists.{parse_items, parse_parts, parse_list, parse_variable_list, vector_codec, list_codec, variable_list_codec}
+use Rattle.ssz_codec.specs.Lists.{parse_items, parse_parts, parse_list, parse_variable_list, vector_codec, fixed_size_list, variable_size_list}
 use Rattle.ssz_codec.specs.Lawful.{IsBytes, HasSize, FitFields, IsLawful, IsFixed}
-use Rattle.ssz_codec.specs.laws.Layout.{IsBytes-take, IsBytes-drop, bind_some, some_is, unless_some, when_some, offset_again, offset_len, cut_is_joined, joined_is_cut}
+use Rattle.ssz_codec.specs.laws.Layout.{IsBytes-nil, IsBytes-append, IsBytes-take, IsBytes-drop, joined_fits, bind_some, some_is, unless_some, when_some, offset_again, offset_len, cut_is_joined, joined_is_cut}
 
 sized : (f : Field) (bytes : List ℕ) → IsFixed f → HasSize f bytes → length bytes ≡ field_length f
 sized (Fixed n) bytes fixed h = h
@@ -69,6 +69,15 @@ items_len c law fixed (x ∷ xs) within =
     let step : suc (length xs) * field_length c.field ≡ field_length c.field + length xs * field_length c.field = grind arith in
     omega (arith, length-append (c.serialize x) (flat_map c.serialize xs))
 
+-- the writings of values are bytes
+pub items_fit : {A : Type 0} (c : Codec A) → IsLawful c → (xs : List A) → AllByRecursion c.Within xs → IsBytes (flat_map c.serialize xs)
+items_fit c law [] within = IsBytes-nil
+items_fit c law (x ∷ xs) within = IsBytes-append (c.serialize x) (flat_map c.serialize xs) (law.bytes x within.0) (items_fit c law xs within.1)
+
+parts_fit : {A : Type 0} (c : Codec A) → IsLawful c → (xs : List A) → AllByRecursion c.Within xs → AllByRecursion IsBytes (map c.serialize xs)
+parts_fit c law [] within = tt
+parts_fit c law (x ∷ xs) within = (law.bytes x within.0, parts_fit c law xs within.1)
+
 pub vector_lawful : {A : Type 0} (c : Codec A) (count : ℕ) → IsFixed c.field → IsLawful c → IsLawful (vector_codec c count)
 vector_lawful {A = A} c count fixed law = record {
   sound = λ bytes xs fits e.
@@ -77,9 +86,10 @@ vector_lawful {A = A} c count fixed law = record {
   complete = λ xs within.
       subst (λ n. parse_items c.deserialize (field_length c.field) n (flat_map c.serialize xs) ≡ Some xs) within.0 (items_again c law fixed xs within.1);
   size = λ xs within. items_len c law fixed xs within.1 ∙ ap (λ n. n * field_length c.field) within.0;
+  bytes = λ xs within. items_fit c law xs within.1;
 }
 
-pub list_lawful : {A : Type 0} (c : Codec A) (limit : ℕ) → IsFixed c.field → IsLawful c → IsLawful (list_codec c limit)
+pub list_lawful : {A : Type 0} (c : Codec A) (limit : ℕ) → IsFixed c.field → IsLawful c → IsLawful (fixed_size_list c limit)
 unfolding parse_list
 list_lawful {A = A} c limit fixed law =
     let size = field_length c.field in
@@ -98,6 +108,7 @@ list_lawful {A = A} c limit fixed law =
           ∙ ap (λ b. cond b None (parse_items c.deserialize size (length xs) bytes)) (le-ltb _ _ within.0)
           ∙ items_again c law fixed xs within.1;
       size = λ xs within. tt;
+      bytes = λ xs within. items_fit c law xs within.1;
     }
 
 -- ---- values of variable size
@@ -211,10 +222,11 @@ variable_again c law limit (x ∷ xs) le within fit =
     ∙ ap (λ (o : Option (List (List ℕ))). o and_then λ ps. parse_parts c.deserialize ps) cut-is
     ∙ parts_again c law (x ∷ xs) within
 
-pub variable_list_lawful : {A : Type 0} (c : Codec A) (limit : ℕ) → IsLawful c → IsLawful (variable_list_codec c limit)
+pub variable_list_lawful : {A : Type 0} (c : Codec A) (limit : ℕ) → IsLawful c → IsLawful (variable_size_list c limit)
 unfolding parse_variable_list
 variable_list_lawful c limit law = record {
   sound = λ bytes xs fits e. variable_sound c law limit bytes xs (length bytes == 0) refl fits e;
   complete = λ xs within. variable_again c law limit xs within.0 within.1 within.2;
   size = λ xs within. tt;
+  bytes = λ xs within. joined_fits (replicate (length xs) Variable) (map c.serialize xs) (parts_fit c law xs within.1);
 }

@@ -4,7 +4,7 @@ use Rattle.std.specs.Prelude.{ℕ, List, Option, Some}
 use Rattle.ssz_codec.specs.Layout.{◌and_then◌}
 use Rattle.ssz_codec.specs.Containers.{Fields, fields_of, ◌▹◌∶◌, all_read}
 use Rattle.ssz_codec.specs.Basic.{uint64, bytes32, bitvector}
-use Rattle.ssz_codec.specs.Lists.{vector_codec, list_codec, variable_list_codec}
+use Rattle.ssz_codec.specs.Lists.{vector_codec, list_codec}
 use Rattle.bc_preset.specs.declared.presets.Preset.{Preset}
 use Rattle.beacon_types.specs.Containers.{fork_codec, checkpoint_codec, validator_codec, eth1_data_codec, block_header_codec, pending_attestation_codec}
 use Rattle.spec_state.specs.declared.plain.PlainState.{PlainState}
@@ -17,7 +17,13 @@ use Rattle.state_parts.specs.declared.parts.Pending.{Pending}
 use Rattle.state_parts.specs.declared.parts.Finality.{Finality}
 
 unfoldable pub clock_fields : Fields Clock Clock
-clock_fields = fields_of (λ genesis_time genesis_validators_root slot fork latest_block_header. record { genesis_time = genesis_time; genesis_validators_root = genesis_validators_root; slot = slot; fork = fork; latest_block_header = latest_block_header })
+clock_fields = fields_of (λ genesis_time genesis_validators_root slot fork latest_block_header. record {
+  genesis_time = genesis_time;
+  genesis_validators_root = genesis_validators_root;
+  slot = slot;
+  fork = fork;
+  latest_block_header = latest_block_header;
+})
     ▹ (λ v. v.genesis_time) ∶ uint64
     ▹ (λ v. v.genesis_validators_root) ∶ bytes32
     ▹ (λ v. v.slot) ∶ uint64
@@ -25,31 +31,52 @@ clock_fields = fields_of (λ genesis_time genesis_validators_root slot fork late
     ▹ (λ v. v.latest_block_header) ∶ block_header_codec
 
 unfoldable pub history_fields : Preset → Fields History History
-history_fields p = fields_of (λ block_roots state_roots historical_roots. record { block_roots = block_roots; state_roots = state_roots; historical_roots = historical_roots })
+history_fields p = fields_of (λ block_roots state_roots historical_roots. record {
+  block_roots = block_roots;
+  state_roots = state_roots;
+  historical_roots = historical_roots;
+})
     ▹ (λ v. v.block_roots) ∶ vector_codec bytes32 p.slots_per_historical_root
     ▹ (λ v. v.state_roots) ∶ vector_codec bytes32 p.slots_per_historical_root
     ▹ (λ v. v.historical_roots) ∶ list_codec bytes32 p.historical_roots_limit
 
 unfoldable pub eth1_fields : Preset → Fields Eth1 Eth1
-eth1_fields p = fields_of (λ eth1_data eth1_data_votes eth1_deposit_index. record { eth1_data = eth1_data; eth1_data_votes = eth1_data_votes; eth1_deposit_index = eth1_deposit_index })
+eth1_fields p = fields_of (λ eth1_data eth1_data_votes eth1_deposit_index. record {
+  eth1_data = eth1_data;
+  eth1_data_votes = eth1_data_votes;
+  eth1_deposit_index = eth1_deposit_index;
+})
     ▹ (λ v. v.eth1_data) ∶ eth1_data_codec
     ▹ (λ v. v.eth1_data_votes) ∶ list_codec eth1_data_codec (votes_limit p)
     ▹ (λ v. v.eth1_deposit_index) ∶ uint64
 
 unfoldable pub registry_fields : Preset → Fields Registry Registry
-registry_fields p = fields_of (λ validators balances randao_mixes slashings. record { validators = validators; balances = balances; randao_mixes = randao_mixes; slashings = slashings })
+registry_fields p = fields_of (λ validators balances randao_mixes slashings. record {
+  validators = validators;
+  balances = balances;
+  randao_mixes = randao_mixes;
+  slashings = slashings;
+})
     ▹ (λ v. v.validators) ∶ list_codec validator_codec p.validator_registry_limit
     ▹ (λ v. v.balances) ∶ list_codec uint64 p.validator_registry_limit
     ▹ (λ v. v.randao_mixes) ∶ vector_codec bytes32 p.epochs_per_historical_vector
     ▹ (λ v. v.slashings) ∶ vector_codec uint64 p.epochs_per_slashings_vector
 
 unfoldable pub pending_fields : Preset → Fields Pending Pending
-pending_fields p = fields_of (λ previous_epoch_attestations current_epoch_attestations. record { previous_epoch_attestations = previous_epoch_attestations; current_epoch_attestations = current_epoch_attestations })
-    ▹ (λ v. v.previous_epoch_attestations) ∶ variable_list_codec pending_attestation_codec (attestations_limit p)
-    ▹ (λ v. v.current_epoch_attestations) ∶ variable_list_codec pending_attestation_codec (attestations_limit p)
+pending_fields p = fields_of (λ previous_epoch_attestations current_epoch_attestations. record {
+  previous_epoch_attestations = previous_epoch_attestations;
+  current_epoch_attestations = current_epoch_attestations;
+})
+    ▹ (λ v. v.previous_epoch_attestations) ∶ list_codec pending_attestation_codec (attestations_limit p)
+    ▹ (λ v. v.current_epoch_attestations) ∶ list_codec pending_attestation_codec (attestations_limit p)
 
 unfoldable pub finality_fields : Fields Finality Finality
-finality_fields = fields_of (λ justification_bits previous_justified_checkpoint current_justified_checkpoint finalized_checkpoint. record { justification_bits = justification_bits; previous_justified_checkpoint = previous_justified_checkpoint; current_justified_checkpoint = current_justified_checkpoint; finalized_checkpoint = finalized_checkpoint })
+finality_fields = fields_of (λ justification_bits previous_justified_checkpoint current_justified_checkpoint finalized_checkpoint. record {
+  justification_bits = justification_bits;
+  previous_justified_checkpoint = previous_justified_checkpoint;
+  current_justified_checkpoint = current_justified_checkpoint;
+  finalized_checkpoint = finalized_checkpoint;
+})
     ▹ (λ v. v.justification_bits) ∶ bitvector 4
     ▹ (λ v. v.previous_justified_checkpoint) ∶ checkpoint_codec
     ▹ (λ v. v.current_justified_checkpoint) ∶ checkpoint_codec

@@ -1,5 +1,5 @@
 use Rattle.std.proofs.Common.{◌≡◌, ◌+◌, ◌/◌, length, ap, ◌∙◌, sym, arith, slice_get}
-use Rattle.ssz_codec.specs.laws.BitLists.{bits_bytes_len}
+use Rattle.ssz_codec.specs.laws.Basic.{bits_bytes_len}
 use Rattle.ssz_codec.specs.inside.HeldBits.{held_bits, IsHeld}
 use Rattle.ssz_codec.specs.declared.bit_list.BitList.TheInside.{Inside}
 use Rattle.ssz_codec.proofs.HeldBits.{held_bit}

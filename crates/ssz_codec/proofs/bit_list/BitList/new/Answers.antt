@@ -1,6 +1,6 @@
 use Rattle.std.proofs.Common.{sym, ◌∙◌, refl}
 use Rattle.ssz_codec.specs.declared.bit_list.BitList.TheInside.{Inside}
-use Rattle.ssz_codec.specs.laws.BitLists.{bits_bytes_nil}
+use Rattle.ssz_codec.specs.laws.Basic.{bits_bytes_nil}
 use Rattle.ssz_codec.proofs.HeldBits.{is_held}
 use Rattle.std.specs.Prelude.{[]}
 use Rattle.ssz_codec.proofs.bit_list.BitList.new.Goals as goal

@@ -1,6 +1,6 @@
 use Rattle.std.proofs.Common.{◌≡◌, length, ap, sym, ◌∙◌, arith}
 use Rattle.hash_tree.specs.Merkle.{depth_of, merkle_root, merkleize, mix_in_length, byte_chunks, bit_chunk_count}
-use Rattle.ssz_codec.specs.BitLists.{bits_bytes}
+use Rattle.hash_tree.specs.Merkle.{bits_bytes}
 use Rattle.ssz_codec.proofs.HeldBits.{held_len}
 use Rattle.ssz_codec.proofs.bit_list.BitList.root.Goals as goal
 
