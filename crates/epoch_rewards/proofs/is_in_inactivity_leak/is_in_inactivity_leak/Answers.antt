@@ -3,11 +3,7 @@ use Rattle.std.proofs.Common.{ap, ◌∙◌, nat_lt, sym}
 use Rattle.bc_words.specs.Outcome.{bind, done}
 use Rattle.bc_preset.specs.declared.presets.Preset.{Preset}
 use Rattle.spec_epochs.specs.RewardHelpers.{is_in_inactivity_leak}
-<<<<<<<< HEAD:crates/epoch_rewards/proofs/is_in_inactivity_leak/is_in_inactivity_leak/Answers.antt
 use Rattle.epoch_rewards.proofs.is_in_inactivity_leak.is_in_inactivity_leak.Goals as goal
-========
-use Rattle.validator_rewards.proofs.leak.is_in_inactivity_leak.Goals as goal
->>>>>>>> d4cd0afde4158f123dd89f983f4f4e3bb729c391:crates/validator_rewards/proofs/leak/is_in_inactivity_leak/Answers.antt
 
 pub returns : goal.returns
 unfolding is_in_inactivity_leak
