@@ -1,11 +1,10 @@
 -- No step of a block changes the proposer of its slot: the steps leave who is active, the effective balances and the seed. So they
 -- may take the proposer as an argument.
 use Rattle.std.proofs.Common.{◌≡◌, ◌∙◌, ℕ, ◌*◌, ◌<◌, Bool, true, false, not, nat_lt, ◌==◌, List, ◌++◌, length, slice_index, if◌then◌else◌, refl, sym, ap, subst, arith, inl, inr}
-use Rattle.std.specs.Int.{w64, to_le_bytes}
 use Rattle.std.proofs.Math.Path.{fun_ext}
 use Rattle.std.proofs.lemmas.Bool.{cases_lt, eqb-false}
 use Rattle.std.proofs.lemmas.List.{get_or_past}
-use Rattle.hash_tree.specs.Merkle.{hash}
+use Rattle.hash_tree.specs.Merkle.{hash, uint_to_bytes}
 use Rattle.bc_words.specs.Outcome.{Outcome, done, refused, bind, checked_push}
 use Rattle.bc_words.specs.Searches.{first_from}
 use Rattle.bc_words.specs.declared.refusal.Refusal.TheVariants.{WrongProposer, ProposerSlashed, NoActive}
@@ -82,7 +81,7 @@ record HasProposerOf (s t : PlainState) : Type 0 where
   effective : (index : ℕ) → index < length s.validators → effective_balance t.validators index ≡ effective_balance s.validators index
 
 proposer_by : Preset → (ℕ → ℕ) → List ℕ → List ℕ → ℕ → Outcome ℕ
-proposer_by preset effective active seed slot = proposer_below preset effective active (hash (seed ++ to_le_bytes w64 slot)) max_proposer_candidates
+proposer_by preset effective active seed slot = proposer_below preset effective active (hash (seed ++ uint_to_bytes slot)) max_proposer_candidates
 
 proposer_in : PlainState → ℕ → Outcome ℕ
 proposer_in s epoch = proposer_by s.preset (effective_balance s.validators) (get_active_validator_indices s epoch) (get_seed s epoch domain_beacon_proposer) s.slot
@@ -105,7 +104,7 @@ in_epoch s t of =
     ∙ (ap (λ (indices : List ℕ). proposer_by s.preset f indices (get_seed t epoch domain_beacon_proposer) t.slot) of.active
     ∙ (ap (λ (seed : List ℕ). proposer_by s.preset f active seed t.slot) of.seed
     ∙ (ap (proposer_by s.preset f active (get_seed s epoch domain_beacon_proposer)) of.slot
-    ∙ proposer_same s.preset f (effective_balance s.validators) active (hash (get_seed s epoch domain_beacon_proposer ++ to_le_bytes w64 s.slot)) (length s.validators)
+    ∙ proposer_same s.preset f (effective_balance s.validators) active (hash (get_seed s epoch domain_beacon_proposer ++ uint_to_bytes s.slot)) (length s.validators)
     (active_below s epoch) of.effective max_proposer_candidates)))
 
 same_proposer : (s t : PlainState) → HasProposerOf s t → get_beacon_proposer_index t ≡ get_beacon_proposer_index s

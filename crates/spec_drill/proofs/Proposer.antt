@@ -3,13 +3,12 @@ use Rattle.std.proofs.Common.{◌≡◌, ◌⊎◌, ℕ, zero, suc, ◌+◌, ◌
 use Rattle.spec_blocks.specs.Gives.{Gives}
 use Rattle.spec_drill.specs.inside.Calm.{IsFullRegistry}
 use Rattle.std.specs.List.{range_with_len}
-use Rattle.std.specs.Int.{w64, to_le_bytes}
 use Rattle.bc_words.specs.Outcome.{Outcome, done, limited, bind, checked_mul}
 use Rattle.bc_words.specs.Searches.{first_from}
 use Rattle.bc_words.specs.declared.stop.Limit.TheVariants.{Proposer}
 use Rattle.bc_preset.specs.declared.presets.Preset.{Preset}
 use Rattle.bc_preset.specs.laws.Bounds.{HasPresetBounds}
-use Rattle.hash_tree.specs.Merkle.{hash}
+use Rattle.hash_tree.specs.Merkle.{hash, uint_to_bytes}
 use Rattle.shuffling.specs.Shuffling.{compute_shuffled_index}
 use Rattle.committees.specs.Proposers.{candidate, random_byte, weighs_enough, candidate_passes, candidate_found, proposer_below}
 use Rattle.spec_state.specs.declared.plain.PlainState.{PlainState}
@@ -28,8 +27,8 @@ pub record GivesOrLimit {A : Type 0} (P : A → Type 0) (o : Outcome A) : Type 0
 passes_give : (preset : Preset) (effective : ℕ → ℕ) (indices seed : List ℕ) (i : ℕ) → HasPresetBounds preset → ((k : ℕ) → effective k ≤ 32_000_000_000) → Gives (λ b. Unit {0}) (candidate_passes preset effective indices seed i)
 unfolding candidate_passes weighs_enough random_byte
 passes_give preset effective indices seed i bounds low =
-    let byte : ℕ = slice_index (hash (seed ++ to_le_bytes w64 (i / 32))) (i % 32) in
-    let byte_low : byte < 256 = index_or_zero IsByte (hash (seed ++ to_le_bytes w64 (i / 32))) (i % 32) (hash_bytes (seed ++ to_le_bytes w64 (i / 32))) (omega arith) in
+    let byte : ℕ = slice_index (hash (seed ++ uint_to_bytes (i / 32))) (i % 32) in
+    let byte_low : byte < 256 = index_or_zero IsByte (hash (seed ++ uint_to_bytes (i / 32))) (i % 32) (hash_bytes (seed ++ uint_to_bytes (i / 32))) (omega arith) in
     let balance = low (candidate preset indices seed i) in
     let product : preset.max_effective_balance * byte ≡ 32_000_000_000 * byte = ap (λ n. n * byte) bounds.max_effective_balance in
     gives_then (λ n. Unit {0}) (λ b. Unit {0}) (checked_mul (effective (candidate preset indices seed i)) 255) _ (gives_more (λ c. c ≡ effective (candidate preset indices seed i) * 255) (λ n. Unit {0}) _ (λ c h. tt) (mul_gives (effective (candidate preset indices seed i)) 255 (omega arith))) (λ weighed any.
@@ -65,6 +64,6 @@ below_gives preset effective seed bound bounds low =
 pub proposer_gives : (s : PlainState) → HasPresetBounds s.preset → IsFullRegistry s → get_current_epoch s < far_future_epoch → GivesOrLimit (λ i. i < 64) (get_beacon_proposer_index s)
 unfolding get_beacon_proposer_index
 proposer_gives s bounds full low =
-    let seed : List ℕ = hash (get_seed s (get_current_epoch s) domain_beacon_proposer ++ to_le_bytes w64 s.slot) in
+    let seed : List ℕ = hash (get_seed s (get_current_epoch s) domain_beacon_proposer ++ uint_to_bytes s.slot) in
     subst (λ indices. GivesOrLimit (λ i. i < 64) (proposer_below s.preset (effective_balance s.validators) indices seed max_proposer_candidates)) (sym (all_active s (get_current_epoch s) full low))
     (below_gives s.preset (effective_balance s.validators) seed max_proposer_candidates bounds (λ k. most_balance s.validators k full.all))

@@ -1,6 +1,6 @@
 -- The events of a made chain, slot by slot.
+use Rattle.hash_tree.specs.Merkle.{uint_to_bytes}
 use Rattle.std.specs.Prelude.{◌≡◌, ◌⊎◌, ℕ, zero, suc, ◌+◌, ◌*◌, List, [], ◌∷◌, ◌++◌, map, if◌then◌else◌}
-use Rattle.std.specs.Int.{w64, to_le_bytes}
 use Rattle.bc_words.specs.Outcome.{Outcome, done, refused, limited}
 use Rattle.bc_words.specs.declared.stop.Limit.TheVariants.{Proposer}
 use Rattle.beacon_body.specs.Containers.{signed_block_codec, attestation_codec}
@@ -77,7 +77,7 @@ kind_of (carried attestation) = 4
 
 -- and its payload: eight bytes of a time, or the SSZ of a signed block or an attestation
 unfoldable pub payload_of : MadeEvent → List ℕ
-payload_of (tick time) = to_le_bytes w64 time
+payload_of (tick time) = uint_to_bytes time
 payload_of (block signed) = signed_block_codec.serialize signed
 payload_of (wire attestation) = attestation_codec.serialize attestation
 payload_of (carried attestation) = attestation_codec.serialize attestation

@@ -1,7 +1,7 @@
 -- The genesis state of a made chain.
+use Rattle.hash_tree.specs.Merkle.{uint_to_bytes}
 use Rattle.std.specs.Prelude.{ℕ, false, List, [], ◌++◌, map, replicate}
 use Rattle.std.specs.List.{range_with_len}
-use Rattle.std.specs.Int.{w64, to_le_bytes}
 use Rattle.ssz_codec.specs.Lists.{list_codec}
 use Rattle.beacon_types.specs.declared.validator.Validator.{Validator}
 use Rattle.beacon_types.specs.declared.checkpoint.Checkpoint.{Checkpoint}
@@ -17,7 +17,7 @@ use Rattle.spec_drill.specs.Plan.{Plan, slot_digest}
 -- the validator with an index: its key is the index and the number, each as 8 bytes, and 32 zero bytes
 unfoldable pub made_validator : ℕ → ℕ → Validator
 made_validator number index = record {
-  pubkey = to_le_bytes w64 index ++ to_le_bytes w64 number ++ replicate 32 0;
+  pubkey = uint_to_bytes index ++ uint_to_bytes number ++ replicate 32 0;
   withdrawal_credentials = replicate 32 0;
   effective_balance = 32_000_000_000;
   slashed = false;

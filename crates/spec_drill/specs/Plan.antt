@@ -1,9 +1,8 @@
 -- What a chain is made by: a configuration and a number.
 use Rattle.std.specs.Prelude.{ℕ, ◌*◌, ◌%◌, ◌^◌, ◌<◌, Bool, false, ◌&&◌, not, ◌==◌, nat_lt, List, ◌++◌, replicate, slice_index, Option, Some, None, if◌then◌else◌}
-use Rattle.std.specs.Int.{w64, to_le_bytes}
 use Rattle.bc_preset.specs.declared.configuration.ConfigValues.{ConfigValues}
 use Rattle.bc_preset.specs.Configs.{IsConfig}
-use Rattle.hash_tree.specs.Merkle.{hash}
+use Rattle.hash_tree.specs.Merkle.{hash, uint_to_bytes}
 
 -- the configuration, the number by which the chain is made, and which of two chains it is where it is one of a split
 pub record Plan : Type 0 where
@@ -13,7 +12,7 @@ pub record Plan : Type 0 where
 
 -- hash(number as 8 bytes + slot as 8 bytes), from which everything is taken that is to look random at a slot of the number's chain
 unfoldable pub slot_digest : ℕ → ℕ → List ℕ
-slot_digest number slot = hash (to_le_bytes w64 number ++ to_le_bytes w64 slot)
+slot_digest number slot = hash (uint_to_bytes number ++ uint_to_bytes slot)
 
 -- how many epochs there are: 32, or 5 in a split
 abbrev pub epochs_of : Option ℕ → ℕ
