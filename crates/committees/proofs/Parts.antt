@@ -1,16 +1,17 @@
 -- The parts into which a list of members is cut.
-use Rattle.std.proofs.Common.{◌≡◌, ℕ, zero, suc, ◌+◌, ◌-◌, ◌*◌, ◌/◌, ◌<◌, ◌≤◌, List, [], length, drop, map, get_or, slice_index, slice_range, slice_get, Some, None, refl, ap, ◌∙◌, arith, inl, inr}
-use Rattle.std.specs.List.{range_with_len}
+use Rattle.std.proofs.Common.{◌≡◌, ℕ, zero, suc, ◌+◌, ◌-◌, ◌*◌, ◌/◌, ◌<◌, ◌≤◌, List, [], length, drop, map, get_or, slice_index, slice_range, slice_get, Some, None, refl, ap, ◌∙◌, subst, arith, inl, inr}
+use Rattle.std.specs.List.{range_with_len, sum_by}
 use Rattle.std.proofs.lemmas.Bool.{cases_lt}
 use Rattle.std.proofs.lemmas.Nat.{le-div}
 use Rattle.std.proofs.lemmas.Option.{slice_get-get_or, slice_get_past}
-use Rattle.std.proofs.lemmas.List.FromFn.{length-map-range_with_len, get_or-map-range_with_len, take-map-range_with_len, fill_by_all}
+use Rattle.std.proofs.lemmas.List.{length-take-le, length-drop}
+use Rattle.std.proofs.lemmas.List.FromFn.{length-map-range_with_len, get_or-map-range_with_len, take-map-range_with_len, sum_by-map-range_with_len_more, fill_by_all}
 use Rattle.std.proofs.Math.Nat.{div-mul-le_self, zero-div, mul-div_cancel, mul-le-mul_left, one-le-mul}
 use Rattle.bc_preset.specs.declared.presets.Preset.{Preset}
 use Rattle.bc_preset.specs.Presets.{IsPreset}
 use Rattle.bc_preset.proofs.Bounds.{preset_bounds}
 use Rattle.shuffling.specs.Shuffling.{compute_shuffled_index, shuffled_list}
-use Rattle.committees.specs.Committees.{Committees, committees_of, committee_count_per_slot, committee_start, compute_committee}
+use Rattle.committees.specs.Committees.{Committees, committees_of, committee_count_per_slot, committee_start, compute_committee, member_count}
 use Rattle.committees.specs.inside.Split.{split_evenly, split_committees}
 
 module _ (members count : ℕ) (some : 0 < count) where
@@ -113,3 +114,47 @@ module _ (members : List ℕ) (count : ℕ) where
 pub some_committees : (preset : Preset) (active : ℕ) → IsPreset preset → 0 < committee_count_per_slot preset active * preset.slots_per_epoch
 unfolding committee_count_per_slot
 some_committees preset active is = one-le-mul (omega arith) (omega (arith, (preset_bounds preset is).least_slots_per_epoch))
+
+-- ---- how many members parts have that follow one another
+
+module _ (first : ℕ → ℕ) (part : ℕ → List ℕ) (count : ℕ)
+    (ascend : (k : ℕ) → k < count → first k ≤ first (k + 1)) (length_is : (k : ℕ) → k < count → length (part k) ≡ first (k + 1) - first k) where
+  parts_have : (n : ℕ) → n ≤ count → first 0 + sum_by (λ members. length members) (map part (range_with_len 0 n)) ≡ first n
+  parts_have zero within = omega arith
+  parts_have (suc n) within =
+      let before = parts_have n (omega arith) in
+      let more = sum_by-map-range_with_len_more (λ members. length members) part 0 n n (omega arith) in
+      let e : n + 1 ≡ suc n = omega arith in
+      subst (λ j. first 0 + sum_by (λ members. length members) (map part (range_with_len 0 j)) ≡ first j) e
+      (omega (arith, before, more, length_is n (omega arith), ascend n (omega arith)))
+
+length_range : (members : List ℕ) (low high : ℕ) → low ≤ high → high ≤ length members → length (slice_range members low high) ≡ high - low
+length_range members low high order within = length-take-le (high - low) (drop low members) (omega (arith, length-drop low members))
+
+module _ (members count : ℕ) (some : 0 < count) where
+  whole_has : (part : ℕ → List ℕ) → ((k : ℕ) → k < count → length (part k) ≡ committee_start members count (k + 1) - committee_start members count k)
+      → sum_by (λ committee. length committee) (map part (range_with_len 0 count)) ≡ members
+  whole_has part length_is =
+      omega (
+        arith,
+        first_zero members count some,
+        first_all members count some,
+        parts_have (committee_start members count) part count (λ k less. first_monotone members count some k (k + 1) (omega arith)) length_is count (omega arith),
+      )
+
+-- the committees have as many members as the list of which they are parts
+pub cut_has : (members : List ℕ) (per_slot slots : ℕ) → 0 < per_slot * slots → member_count (split_committees per_slot slots members) ≡ length members
+unfolding member_count split_evenly
+cut_has members per_slot slots some =
+    let first = committee_start (length members) (per_slot * slots) in
+    whole_has (length members) (per_slot * slots) some (λ k. slice_range members (first k) (first (k + 1)))
+    (λ k less. length_range members (first k) (first (k + 1))
+    (first_monotone (length members) (per_slot * slots) some k (k + 1) (omega arith)) (first_within (length members) (per_slot * slots) some (k + 1) (omega arith)))
+
+-- and those of an epoch as many as validators are active
+pub active_are_members : (preset : Preset) (seed active : List ℕ) → IsPreset preset → member_count (committees_of preset seed active) ≡ length active
+unfolding member_count committees_of compute_committee
+active_are_members preset seed active is =
+    whole_has (length active) (committee_count_per_slot preset (length active) * preset.slots_per_epoch) (some_committees preset (length active) is)
+    (λ k. compute_committee preset.shuffle_round_count active seed k (committee_count_per_slot preset (length active) * preset.slots_per_epoch))
+    (λ k less. length-map-range_with_len _ _ _)
