@@ -8,9 +8,9 @@ use anyhow::Result;
 use bc_preset::Config;
 use beacon_body::BeaconBlock;
 use beacon_state::State;
-use block_operations::process_operations::process_operations;
 use hash_tree::Leaf;
 use std::time::CpuClock;
+use transition::process_operations::process_operations;
 
 /// Roots the block and the state, takes the operations, and prints both times.
 fn time_operations(

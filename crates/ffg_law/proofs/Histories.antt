@@ -6,10 +6,9 @@ use Rattle.std.proofs.lemmas.Bool.{leb-true}
 use Rattle.beacon_types.specs.declared.checkpoint.Checkpoint.{Checkpoint}
 use Rattle.spec_epochs.specs.declared.justification.Justification.{Justification}
 use Rattle.spec_epochs.specs.Weigh.{bit, shifted, justified_where, finalized_by, finalizing}
-use Rattle.ffg_law.specs.declared.link.EpochEnd.{EpochEnd}
 use Rattle.ffg_law.specs.Weights.{weight_of, among, IsTwoThirds}
 use Rattle.ffg_law.specs.Links.{Voted, links_of, IsOneOf, IsJustified, IsChain, Reaches, IsFinalized, HaveTwoThirds}
-use Rattle.ffg_law.specs.Histories.{genesis_checkpoint, nothing_justified, first_weighed, total_of, total_of_all, IsLarge, IsWeighed, IsHistoryFrom, last_from, previous_link, current_link, have_enough, with_link, made_from, HasLink, AreLinked, IsFinalLinked}
+use Rattle.ffg_law.specs.Histories.{EpochEnd, genesis_checkpoint, nothing_justified, first_weighed, total_of, total_of_all, IsLarge, IsWeighed, IsHistoryFrom, last_from, previous_link, current_link, have_enough, with_link, made_from, HasLink, AreLinked, IsFinalLinked, IsMadeAtEnd}
 use Rattle.ffg_law.proofs.Ends.{previous_point, current_point, weighed, final_is, bits_after}
 use Rattle.ffg_law.proofs.Finals.{source_justified, thirds_of}
 
@@ -213,7 +212,7 @@ module _ (weights : List ℕ) (votes : List Voted) (x : EpochEnd) (p c : Bool) (
       })
       (subst Final (sym (finalized_is p c x.before _ _)) (λ above. kept_final c (current_link x) one _ (kept_final p (previous_link x) votes _ (h.final above))))
 
-  end_holds : (p ≡ true → IsTwoThirds weights (among x.previous.now)) → (c ≡ true → IsTwoThirds weights (among x.current.now)) → Holds weights two (finalizing middle x.epoch x.before.previous x.before.current) (x.epoch + 1)
+  end_holds : (p ≡ true → IsTwoThirds weights (among x.previous)) → (c ≡ true → IsTwoThirds weights (among x.current)) → Holds weights two (finalizing middle x.epoch x.before.previous x.before.current) (x.epoch + 1)
   unfolding finalizing
   end_holds previous_thirds current_thirds =
       let late = h.late in
@@ -247,7 +246,7 @@ unfolding have_enough
 step increment weights votes x large is h =
     let w = weighed x.before x.epoch x.previous_root x.current_root _ _ _ x.after is in
     subst (λ (k : Justification). Holds weights (with_link increment weights (current_link x) (with_link increment weights (previous_link x) votes)) k (x.epoch + 1)) (sym w.after_is)
-    (end_holds weights votes x (have_enough increment weights x.previous.now) (have_enough increment weights x.current.now) h (thirds_where increment weights x.previous.now large) (thirds_where increment weights x.current.now large))
+    (end_holds weights votes x (have_enough increment weights x.previous) (have_enough increment weights x.current) h (thirds_where increment weights x.previous large) (thirds_where increment weights x.current large))
 
 -- at the beginning nothing is justified but genesis, and no link is made
 at_first : (weights : List ℕ) → Holds weights [] nothing_justified first_weighed
@@ -344,3 +343,36 @@ history_promises increment weights large xs history =
       linked = linked weights _ _ r.epoch r.holds;
       final = r.holds.final;
     }
+
+-- ---- the end that made a link
+
+one_or_before : (v u : Voted) (made : Bool) (votes : List Voted) → IsOneOf v (if made then u ∷ votes else votes) → ((made ≡ true) × (u ≡ v)) ⊎ IsOneOf v votes
+one_or_before v u true votes (inl is) = inl (refl, is)
+one_or_before v u true votes (inr before) = inr before
+one_or_before v u false votes before = inr before
+
+module _ (increment : ℕ) (weights : List ℕ) (v : Voted) where
+  at_later_end : (x : EpochEnd) (xs : List EpochEnd) → IsMadeAtEnd increment weights xs v → IsMadeAtEnd increment weights (x ∷ xs) v
+  at_later_end x xs made = record { end = made.end; listed = inr made.listed; link = made.link; enough = made.enough }
+
+  enough_of : (u : Voted) → u ≡ v → have_enough increment weights u.validators ≡ true → have_enough increment weights v.validators ≡ true
+  enough_of u is enough = ap (λ (w : Voted). have_enough increment weights w.validators) (sym is) ∙ enough
+
+  before_or_at_end : (xs : List EpochEnd) (votes : List Voted) → IsOneOf v (made_from increment weights votes xs) → IsOneOf v votes ⊎ IsMadeAtEnd increment weights xs v
+  before_or_at_end [] votes made = inl made
+  before_or_at_end (x ∷ xs) votes made = elim (before_or_at_end xs (with_link increment weights (current_link x) (with_link increment weights (previous_link x) votes)) made) [
+    | inr later ↦ inr (at_later_end x xs later)
+    | inl here ↦ elim (one_or_before v (current_link x) (have_enough increment weights x.current) (with_link increment weights (previous_link x) votes) here) [
+      | inl current ↦ inr (record { end = x; listed = inl refl; link = inr (sym current.1); enough = enough_of (current_link x) current.1 current.0 })
+      | inr before ↦ elim (one_or_before v (previous_link x) (have_enough increment weights x.previous) votes before) [
+        | inl previous ↦ inr (record { end = x; listed = inl refl; link = inl (sym previous.1); enough = enough_of (previous_link x) previous.1 previous.0 })
+        | inr earlier ↦ inl earlier
+      ]
+    ]
+  ]
+
+  pub made_at_end : (history : List EpochEnd) → IsOneOf v (made_from increment weights [] history) → IsMadeAtEnd increment weights history v
+  made_at_end history made = elim (before_or_at_end history [] made) [
+    | inl none ↦ absurd none
+    | inr at_end ↦ at_end
+  ]

@@ -1,14 +1,25 @@
 -- Histories of justification: what the end of each epoch, from epoch 2 on, made of bits and checkpoints, and the links
 -- that its attesters voted for. One list of weights stands for all epochs.
-use Rattle.std.specs.Prelude.{◌≡◌, ◌<◌, ◌≤◌, ℕ, ◌+◌, ◌*◌, max, Bool, false, List, [], ◌∷◌, sum, leb, if◌then◌else◌}
+use Rattle.std.specs.Prelude.{◌≡◌, ◌<◌, ◌≤◌, ◌⊎◌, ℕ, ◌+◌, ◌*◌, max, Bool, true, false, List, [], ◌∷◌, sum, leb, if◌then◌else◌}
 use Rattle.hash_tree.specs.Merkle.{zero_root}
 use Rattle.bc_words.specs.Outcome.{done}
 use Rattle.beacon_types.specs.declared.checkpoint.Checkpoint.{Checkpoint}
 use Rattle.spec_epochs.specs.declared.justification.Justification.{Justification}
 use Rattle.spec_epochs.specs.Weigh.{weigh, previous_of}
-use Rattle.ffg_law.specs.declared.link.EpochEnd.{EpochEnd}
 use Rattle.ffg_law.specs.Weights.{weight_of, among, IsTwoThirds}
 use Rattle.ffg_law.specs.Links.{Voted, links_of, IsOneOf, IsFinalized, IsJustified}
+
+-- What the end of an epoch made of justification and finalisation: bits and checkpoints before, the epoch that ended, the roots of
+-- the blocks at the beginning of the epoch before and of this one, the validators that attested each of both, and bits and
+-- checkpoints after
+pub record EpochEnd : Type 0 where
+  pub before : Justification
+  pub epoch : ℕ
+  pub previous_root : List ℕ
+  pub current_root : List ℕ
+  pub previous : List ℕ
+  pub current : List ℕ
+  pub after : Justification
 
 -- the checkpoint of genesis in a state: epoch 0 and the zero root
 abbrev pub genesis_checkpoint : Checkpoint
@@ -36,7 +47,7 @@ IsLarge increment weights = 2 * increment ≤ sum weights
 
 -- The end of an epoch is what weighing makes of it
 abbrev pub IsWeighed : ℕ → List ℕ → EpochEnd → Type 0
-IsWeighed increment weights x = weigh x.before x.epoch x.previous_root x.current_root (total_of_all increment weights) (total_of increment weights x.previous.now) (total_of increment weights x.current.now) ≡ done x.after
+IsWeighed increment weights x = weigh x.before x.epoch x.previous_root x.current_root (total_of_all increment weights) (total_of increment weights x.previous) (total_of increment weights x.current) ≡ done x.after
 
 -- Ends of epochs, one behind the other, from a record and an epoch on
 abbrev pub IsHistoryFrom : ℕ → List ℕ → Justification → ℕ → List EpochEnd → Type 0
@@ -59,10 +70,10 @@ finalized_of history = (last_from nothing_justified history).finalized
 -- Attesters of the previous epoch's block voted from what was justified while that epoch ran, those of the current
 -- epoch's from what was justified while this one ran
 abbrev pub previous_link : EpochEnd → Voted
-previous_link x = record { link = record { source = x.before.previous; target = record { epoch = previous_of x.epoch; root = x.previous_root } }; validators = x.previous.now }
+previous_link x = record { link = record { source = x.before.previous; target = record { epoch = previous_of x.epoch; root = x.previous_root } }; validators = x.previous }
 
 abbrev pub current_link : EpochEnd → Voted
-current_link x = record { link = record { source = x.before.current; target = record { epoch = x.epoch; root = x.current_root } }; validators = x.current.now }
+current_link x = record { link = record { source = x.before.current; target = record { epoch = x.epoch; root = x.current_root } }; validators = x.current }
 
 -- Validators have two thirds, as weighing has it
 unfoldable pub have_enough : ℕ → List ℕ → List ℕ → Bool
@@ -99,3 +110,11 @@ pub record AreLinked (weights : List ℕ) (votes : List Voted) (j : Justificatio
 -- The finalised checkpoint of a record, where it is above epoch 0, is finalised by links
 abbrev pub IsFinalLinked : List Voted → Justification → Type 0
 IsFinalLinked votes j = 0 < j.finalized.epoch → IsFinalized (links_of votes) j.finalized
+
+-- A link was made by one of the ends of a history: it is one of that end's two, and its validators have two thirds as weighing has
+-- it
+pub record IsMadeAtEnd (increment : ℕ) (weights : List ℕ) (history : List EpochEnd) (v : Voted) : Type 0 where
+  pub end : EpochEnd
+  pub listed : IsOneOf end history
+  pub link : (v ≡ previous_link end) ⊎ (v ≡ current_link end)
+  pub enough : have_enough increment weights v.validators ≡ true

@@ -1,3 +1,4 @@
 pub mod Weights
 pub mod Links
 pub mod Histories
+pub mod inside

@@ -1,34 +1,53 @@
 //! The steps of the argument, each a function whose condition and promise are the step.
 //!
-//! They do nothing when they run. A list of links has the latest first, and a set of validators is a list of indices.
+//! They do nothing when they run. A list of links has the latest first, and a set of validators is a list of indices. What is
+//! said of histories is said of all plain ones, so that a caller needs no slice of them.
 
-ghost use Rattle.std.specs.Prelude.{◌≡◌, ◌<◌, ◌⊎◌, ◌||◌, IsTrue, min};
+ghost use Rattle.std.specs.Prelude.{◌≡◌, ◌<◌, ◌⊎◌, ◌||◌, ℕ, List, IsTrue, min, slice_index};
+ghost use Rattle.bc_words.specs.Outcome.{done};
 ghost use Rattle.beacon_types.specs.Slashable.{is_slashable_attestation_data};
-ghost use Rattle.ffg_law.specs.Weights.{IsTwoThirds, IsThird, among, both};
-ghost use Rattle.ffg_law.specs.Links.{IsChain, IsFinalized, AreApart, Conflict, HaveTwoThirds, AThirdIsConvicted, IsSlashable, link_of, voted, links_of};
-ghost use Rattle.ffg_law.specs.Histories.{IsLarge, IsHistory, AreLinked, IsFinalLinked};
+ghost use Rattle.spec_state.specs.declared.plain.PlainState.{PlainState};
+ghost use Rattle.spec_state.specs.Misc.{effective_balance};
+ghost use Rattle.spec_state.specs.Accessors.{get_total_balance};
+ghost use Rattle.ffg_law.specs.Weights.{IsTwoThirds, IsThird, IsSet, among, both};
+ghost use Rattle.ffg_law.specs.Links.{Voted, IsOneOf, IsChain, IsFinalized, AreApart, Conflict, HaveTwoThirds, AThirdIsConvicted, IsSlashable, link_of, voted, links_of};
+ghost use Rattle.ffg_law.specs.Histories.{EpochEnd, IsLarge, IsHistory, AreLinked, IsFinalLinked, IsMadeAtEnd, total_of};
 ghost use Rattle.ffg_law.specs.Histories.{last_from, nothing_justified, genesis_checkpoint, finalized_of, made_by};
 
-use crate::link::{EpochEnd, Link, VotedLink};
+use crate::link::{Link, VotedLink};
 use beacon_types::{AttestationData, Checkpoint};
 
 /// Each justified checkpoint of a history, where it is above epoch 0, has a link from an earlier justified one by
 /// validators of at least two thirds, and all links are a chain from genesis. So it is at each end of an epoch, since
 /// what came before it is a history too.
-pub fn chain_links(history: &[EpochEnd], weights: &[u64], increment: u64)
-    requires large { IsLarge increment weights.now }
-    requires history { IsHistory increment weights.now history.now }
-    ensures chain { IsChain genesis_checkpoint (links_of (made_by increment weights.now history.now)) }
-    ensures thirds { HaveTwoThirds weights.now (made_by increment weights.now history.now) }
-    ensures linked { AreLinked weights.now (made_by increment weights.now history.now) (last_from nothing_justified history.now) }
+pub fn chain_links()
+    ensures chain { (increment : ℕ) (weights : List ℕ) (history : List EpochEnd) → IsLarge increment weights → IsHistory increment weights history
+        → IsChain genesis_checkpoint (links_of (made_by increment weights history)) }
+    ensures thirds { (increment : ℕ) (weights : List ℕ) (history : List EpochEnd) → IsLarge increment weights → IsHistory increment weights history
+        → HaveTwoThirds weights (made_by increment weights history) }
+    ensures linked { (increment : ℕ) (weights : List ℕ) (history : List EpochEnd) → IsLarge increment weights → IsHistory increment weights history
+        → AreLinked weights (made_by increment weights history) (last_from nothing_justified history) }
 {}
 
 /// What a history finalises above epoch 0, by whichever of the four cases, its links finalise: one of them goes from
 /// there to the next epoch, or to the one after it with the one between justified.
-pub fn finals_are_linked(history: &[EpochEnd], weights: &[u64], increment: u64)
-    requires large { IsLarge increment weights.now }
-    requires history { IsHistory increment weights.now history.now }
-    ensures { IsFinalLinked (made_by increment weights.now history.now) (last_from nothing_justified history.now) }
+pub fn finals_are_linked()
+    ensures { (increment : ℕ) (weights : List ℕ) (history : List EpochEnd) → IsLarge increment weights → IsHistory increment weights history
+        → IsFinalLinked (made_by increment weights history) (last_from nothing_justified history) }
+{}
+
+/// Each link of a history was made at one of its ends, by the attesters of that epoch's block or of the one before it.
+pub fn links_are_made_at_ends()
+    ensures { (increment : ℕ) (weights : List ℕ) (history : List EpochEnd) (v : Voted) → IsOneOf v (made_by increment weights history)
+        → IsMadeAtEnd increment weights history v }
+{}
+
+/// The total that a state gives of a set of validators is what the set weighs, by any weights that are the effective balances of
+/// those in the set.
+pub fn totals_are_weights()
+    ensures { (state : PlainState) (weights indices : List ℕ) (total : ℕ) → IsSet indices
+        → ((index : ℕ) → IsOneOf index indices → effective_balance state.validators index ≡ slice_index weights index)
+        → get_total_balance state indices ≡ done total → total ≡ total_of state.preset.effective_balance_increment weights indices }
 {}
 
 /// Two chains that finalise checkpoints, and share no target checkpoint from the lesser of these on, have two links
@@ -84,18 +103,10 @@ pub fn finals_convict(
 
 /// Accountable safety: two histories over one list of weights that finalise checkpoints above epoch 0, and whose links
 /// share no target checkpoint from the lesser of these on, convict validators of at least a third.
-pub fn a_third_is_convicted(
-    first: &[EpochEnd],
-    second: &[EpochEnd],
-    weights: &[u64],
-    increment: u64,
-)
-    requires large { IsLarge increment weights.now }
-    requires first_history { IsHistory increment weights.now first.now }
-    requires second_history { IsHistory increment weights.now second.now }
-    requires first_final { 0 < (finalized_of first.now).epoch }
-    requires second_final { 0 < (finalized_of second.now).epoch }
-    requires apart { let lower = min (finalized_of first.now).epoch (finalized_of second.now).epoch in
-        AreApart lower (links_of (made_by increment weights.now first.now)) (links_of (made_by increment weights.now second.now)) }
-    ensures { AThirdIsConvicted weights.now (made_by increment weights.now first.now) (made_by increment weights.now second.now) }
+pub fn a_third_is_convicted()
+    ensures { (increment : ℕ) (weights : List ℕ) (first second : List EpochEnd) → IsLarge increment weights
+        → IsHistory increment weights first → IsHistory increment weights second
+        → 0 < (finalized_of first).epoch → 0 < (finalized_of second).epoch
+        → AreApart (min (finalized_of first).epoch (finalized_of second).epoch) (links_of (made_by increment weights first)) (links_of (made_by increment weights second))
+        → AThirdIsConvicted weights (made_by increment weights first) (made_by increment weights second) }
 {}

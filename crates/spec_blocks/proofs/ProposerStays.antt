@@ -165,13 +165,15 @@ registry_proposed s x validators balances slashings deposits change proposed = r
   before = proposed.before;
 }
 
+with_pending_lists : (s : PlainState) (previous current : List PendingAttestation)
+    → get_beacon_proposer_index (record s { previous_epoch_attestations = previous; current_epoch_attestations = current }) ≡ get_beacon_proposer_index s
+unfolding get_active_validator_indices get_randao_mix
+with_pending_lists s previous current = same_proposer s _ (record { preset = refl; slot = refl; active = refl; seed = refl; effective = λ index inside. refl })
+
 pending_proposed : (s x : PlainState) (previous current : List PendingAttestation) → Proposed s x
     → Proposed s (record x { previous_epoch_attestations = previous; current_epoch_attestations = current })
-unfolding get_current_epoch get_active_validator_indices get_randao_mix
-pending_proposed s x previous current proposed = record {
-  same = same_proposer x _ (record { preset = refl; slot = refl; active = refl; seed = refl; effective = λ index inside. refl }) ∙ proposed.same;
-  before = proposed.before;
-}
+unfolding get_current_epoch
+pending_proposed s x previous current proposed = record { same = with_pending_lists x previous current ∙ proposed.same; before = proposed.before }
 
 pub proposer_slashing_keeps_proposer : (s t : PlainState) (slashing : ProposerSlashing) (proposer : ℕ) (config : ConfigValues) → process_proposer_slashing s slashing proposer config ≡ done t
     → get_current_epoch s < far_future_epoch → get_beacon_proposer_index t ≡ get_beacon_proposer_index s
@@ -183,10 +185,9 @@ pub attester_slashing_keeps_proposer : (s t : PlainState) (slashing : AttesterSl
 attester_slashing_keeps_proposer s t slashing proposer config is before =
     (attester_slashing_keeps (Proposed s) (registry_proposed s) proposer config s t slashing is (record { same = refl; before = before })).same
 
-pub attestation_keeps_proposer : (s t : PlainState) (attestation : Attestation) (proposer : ℕ) → process_attestation s attestation proposer ≡ done t
-    → get_current_epoch s < far_future_epoch → get_beacon_proposer_index t ≡ get_beacon_proposer_index s
-attestation_keeps_proposer s t attestation proposer is before =
-    (attestation_keeps (Proposed s) (pending_proposed s) proposer s t attestation is (record { same = refl; before = before })).same
+pub attestation_keeps_proposer : (s t : PlainState) (attestation : Attestation) (proposer : ℕ) → process_attestation s attestation proposer ≡ done t → get_beacon_proposer_index t ≡ get_beacon_proposer_index s
+attestation_keeps_proposer s t attestation proposer is =
+    attestation_keeps (λ (x : PlainState). get_beacon_proposer_index x ≡ get_beacon_proposer_index s) (λ x previous current same. with_pending_lists x previous current ∙ same) proposer s t attestation is refl
 
 pub deposit_keeps_proposer : (s t : PlainState) (deposit : Deposit) → process_deposit s deposit ≡ done t → get_current_epoch s < far_future_epoch → get_beacon_proposer_index t ≡ get_beacon_proposer_index s
 deposit_keeps_proposer s t deposit is before = (deposit_keeps (Proposed s) (registry_proposed s) s t deposit is (record { same = refl; before = before })).same

@@ -5,11 +5,12 @@ use Rattle.bc_words.specs.Outcome.{done}
 use Rattle.bc_preset.specs.declared.configuration.ConfigValues.{ConfigValues}
 use Rattle.bc_preset.specs.laws.Bounds.{HasPresetBounds}
 use Rattle.spec_state.specs.declared.plain.PlainState.{PlainState}
-use Rattle.spec_state.specs.Soundness.{IsSound}
+use Rattle.spec_state.specs.Soundness.{IsSound, IsSoundWithinEpoch}
 use Rattle.spec_blocks.proofs.Done.{on_the_way, chosen, same_value}
 use Rattle.spec_epochs.specs.ProcessEpoch.{process_epoch}
+use Rattle.spec_epochs.specs.ProcessParticipationRecordUpdates.{process_participation_record_updates}
 use Rattle.spec_epochs.proofs.Fixed.{SamePlace, epoch_fixed}
-use Rattle.spec_epochs.proofs.SoundEpoch.{epoch_sound, next_slot_sound}
+use Rattle.spec_epochs.proofs.SoundEpoch.{epoch_sound, next_slot_sound, rotation_sound}
 use Rattle.spec_transition.specs.ProcessSlot.{process_slot}
 use Rattle.spec_transition.specs.ProcessSlots.{Stepped, is_last_of_epoch, with_next_slot, end_epoch, next_slot}
 use Rattle.spec_transition.proofs.Sound.{slot_end_sound}
@@ -22,6 +23,11 @@ last_is s is = eqb-true _ _ is
 not_last : (s : PlainState) → is_last_of_epoch s ≡ false → (s.slot + 1) % s.preset.slots_per_epoch ≢ 0
 unfolding is_last_of_epoch
 not_last s is last = both_ways (nat_eq ((s.slot + 1) % s.preset.slots_per_epoch) 0) is (eq-eqb _ _ last)
+
+-- the rotation of the participation records at the epoch's end, and the next slot
+pub rotated_sound : (s : PlainState) → HasPresetBounds s.preset → is_last_of_epoch s ≡ true → IsSoundWithinEpoch s → IsSound (with_next_slot (process_participation_record_updates s))
+unfolding with_next_slot process_participation_record_updates
+rotated_sound s bounds last sound = rotation_sound s bounds (last_is s last) sound
 
 -- the epoch's end, where the slot is its last one, and the next slot
 end_sound : (config : ConfigValues) (s t : Stepped) → end_epoch config s ≡ done t → HasPresetBounds s.state.preset → s.state.slot < 2 ^ 64 → IsSound s.state → IsSound (with_next_slot t.state)

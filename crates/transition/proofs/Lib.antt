@@ -1,3 +1,4 @@
+pub mod Counted
 pub mod Loop
 pub mod Tests
 pub mod Blocks

@@ -1,3 +1,4 @@
+pub mod Operations
 pub mod Tests
 pub mod Epochs
 pub mod Visits

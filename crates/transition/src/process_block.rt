@@ -14,7 +14,7 @@ use beacon_state::State;
 use block_head::process_eth1_data::process_eth1_data;
 use block_head::process_header;
 use block_head::process_randao::process_randao;
-use block_operations::process_operations::process_operations;
+use crate::process_operations::process_operations;
 use std::alloc::Global;
 
 /// The steps of a block, one after another.

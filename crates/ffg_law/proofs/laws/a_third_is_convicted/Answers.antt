@@ -7,11 +7,11 @@ use Rattle.ffg_law.proofs.Histories.{history_promises}
 use Rattle.ffg_law.proofs.laws.a_third_is_convicted.Goals as goal
 
 pub returns : goal.returns
-returns c =
-    let first = history_promises c.args.increment c.args.weights.now c.requires.large c.args.first.now c.requires.first_history in
-    let second = history_promises c.args.increment c.args.weights.now c.requires.large c.args.second.now c.requires.second_history in
-    let made = made_by c.args.increment c.args.weights.now c.args.first.now in
-    let other = made_by c.args.increment c.args.weights.now c.args.second.now in
-    third_of_conflict c.args.weights.now made other first.thirds second.thirds
-    (finals_conflict_proof genesis_checkpoint (links_of made) (links_of other) (finalized_of c.args.first.now) (finalized_of c.args.second.now)
-    refl first.chain second.chain (first.final c.requires.first_final) (second.final c.requires.second_final) c.requires.apart)
+returns c increment weights first second large first_history second_history first_final second_final apart =
+    let one = history_promises increment weights large first first_history in
+    let two = history_promises increment weights large second second_history in
+    let made = made_by increment weights first in
+    let other = made_by increment weights second in
+    third_of_conflict weights made other one.thirds two.thirds
+    (finals_conflict_proof genesis_checkpoint (links_of made) (links_of other) (finalized_of first) (finalized_of second)
+    refl one.chain two.chain (one.final first_final) (two.final second_final) apart)

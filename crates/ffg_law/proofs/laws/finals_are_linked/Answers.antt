@@ -3,4 +3,4 @@ use Rattle.ffg_law.proofs.Histories.{history_promises}
 use Rattle.ffg_law.proofs.laws.finals_are_linked.Goals as goal
 
 pub returns : goal.returns
-returns c = (history_promises c.args.increment c.args.weights.now c.requires.large c.args.history.now c.requires.history).final
+returns c increment weights history large is = (history_promises increment weights large history is).final
