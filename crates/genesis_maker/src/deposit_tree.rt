@@ -13,8 +13,8 @@ use bc_words::{NoMemory, Steps};
 use hash_tree::{Root, mix_in_length};
 use std::alloc::Global;
 use std::array::from_fn;
-use std::marker::Model;
-use std::sync::ledger::Ledger;
+use std::marker::{Brand, Model};
+use std::sync::ledger::{Blank, Ledger};
 
 /// The tree of List[DepositData, 2^32]. Contracts see it as the list of its leaves.
 #[derive(Drop)]
@@ -31,6 +31,18 @@ impl Model for DepositTree {
     ghost view = { λ tree. leaves_of tree.layers };
 
     ghost invariant = { λ tree. IsTree tree.layers };
+}
+
+/// Puts one more leaf at the end of a tree, with a counter of its own.
+fn push_leaf<L: Ledger>(tree: &mut DepositTree, leaf: Root, blank: Blank) -> Result<(), NoMemory>
+    requires name { blank.name ≡ L.name }
+    requires parts { blank.parts ≡ L.parts }
+    requires some { 0 < blank.parts }
+    requires room { length tree.old < 2 ^ 32 }
+    ensures { Becomes result tree.old tree.new (tree.old ++ leaf ∷ []) }
+{
+    let mut steps = Steps::<L>::new(blank);
+    tree.push_counted(leaf, &mut steps)
 }
 
 impl DepositTree {
@@ -55,8 +67,20 @@ impl DepositTree {
         self.layers[0].len() as u64
     }
 
-    /// One leaf more, by at most 32 hashes. Where memory is refused, the tree is as before.
-    pub fn push<L: Ledger>(&mut self, leaf: Root, steps: &mut Steps<L>) -> Result<(), NoMemory>
+    /// One leaf more. Where memory is refused, the tree is as before.
+    pub fn push(&mut self, leaf: Root) -> Result<(), NoMemory>
+        requires { length self.old < 2 ^ 32 }
+        ensures { Becomes result self.old self.new (self.old ++ leaf ∷ []) }
+    {
+        push_leaf::<Brand>(self, leaf, Blank::new(1))
+    }
+
+    /// The same, where the hashes of nodes are counted: those of the leaf's path, 32 at most.
+    pub fn push_counted<L: Ledger>(
+        &mut self,
+        leaf: Root,
+        steps: &mut Steps<L>,
+    ) -> Result<(), NoMemory>
         requires { length self.old < 2 ^ 32 }
         ensures leaf { Becomes result self.old self.new (self.old ++ leaf ∷ []) }
         ensures steps { steps.new ≤ steps.old + 32 }

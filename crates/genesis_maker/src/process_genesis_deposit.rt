@@ -1,22 +1,20 @@
 //! A deposit of a genesis (beacon-chain.md, "Genesis"): its leaf joins the tree, the deposit root becomes the tree's, and it is
 //! processed with its branch in that tree.
 
-ghost use Rattle.std.specs.Prelude.{◌≡◌, ◌<◌, ◌≤◌, ◌+◌, ◌^◌, ◌++◌, ◌∷◌, [], length, IfOk, OnOk};
-ghost use Rattle.bc_words.specs.Outcome.{Becomes, Moves};
+ghost use Rattle.std.specs.Prelude.{◌≡◌, ◌<◌, ◌^◌, ◌++◌, ◌∷◌, [], length, IfOk, OnOk};
+ghost use Rattle.bc_words.specs.Outcome.{Moves};
 ghost use Rattle.beacon_types.specs.Containers.{deposit_data_codec};
 ghost use Rattle.deposit_ops.specs.Indexes.{Indexes};
 ghost use Rattle.genesis_maker.specs.inside.Making.{process_on_leaves, with_root};
 
 use crate::deposit_tree::DepositTree;
-use bc_words::{NoMemory, Steps, Stop};
+use bc_words::{NoMemory, Stop};
 use beacon_state::State;
 use beacon_types::{Deposit, DepositData, DepositProof};
 use deposit_ops::PubkeyIndex;
 use deposit_ops::process_deposit::process_deposit;
 use hash_tree::{Leaf, Root};
 use std::alloc::Global;
-use std::marker::Brand;
-use std::sync::ledger::{Blank, Ledger};
 
 /// What grows deposit by deposit.
 #[derive(Drop)]
@@ -27,18 +25,6 @@ pub(crate) struct Making {
     pub(crate) tree: DepositTree,
     /// The index of the state's keys.
     pub(crate) keys: PubkeyIndex,
-}
-
-/// Puts one more leaf at the end of a tree, with a counter of its own.
-fn push_leaf<L: Ledger>(tree: &mut DepositTree, leaf: Root, blank: Blank) -> Result<(), NoMemory>
-    requires name { blank.name ≡ L.name }
-    requires parts { blank.parts ≡ L.parts }
-    requires some { 0 < blank.parts }
-    requires room { length tree.old < 2 ^ 32 }
-    ensures { Becomes result tree.old tree.new (tree.old ++ leaf ∷ []) }
-{
-    let mut steps = Steps::<L>::new(blank);
-    tree.push(leaf, &mut steps)
 }
 
 /// Writes the deposit root.
@@ -74,7 +60,7 @@ pub(crate) fn process_genesis_deposit(
     ensures keys { OnOk result (Indexes making.new.keys making.new.state.validators) }
 {
     let index = making.tree.len();
-    push_leaf::<Brand>(&mut making.tree, deposit.root(), Blank::new(1))?;
+    making.tree.push(deposit.root())?;
     set_deposit_root(&mut making.state, making.tree.root());
     match making.tree.branch(index) {
         Some(branch) => {

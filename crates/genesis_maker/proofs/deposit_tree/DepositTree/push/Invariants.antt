@@ -1,4 +1,4 @@
-use Rattle.genesis_maker.proofs.process_genesis_deposit.process_genesis_deposit.Given as goal
+use Rattle.genesis_maker.proofs.deposit_tree.DepositTree.push.Given as goal
 
 -- the ledger is the one of the blank
 abbrev pub ghosts-push_leaf : goal.ghosts-push_leaf

@@ -2,7 +2,7 @@ use Rattle.std.proofs.Common.{◌∙◌, ◌++◌, ◌∷◌, [], ap, subst, len
 use Rattle.bc_words.specs.Outcome.{Becomes}
 use Rattle.genesis_maker.specs.inside.Trees.{leaves_of}
 use Rattle.genesis_maker.proofs.Trees.{have_places, tree_after, layer_nodes}
-use Rattle.genesis_maker.proofs.deposit_tree.DepositTree.push.Goals as goal
+use Rattle.genesis_maker.proofs.deposit_tree.DepositTree.push_counted.Goals as goal
 
 pub grow-requires-clause-places : goal.grow-requires-clause-places
 grow-requires-clause-places g c =
