@@ -73,11 +73,11 @@ preset_of : (p : Preset) (version eth1_hash : List ℕ) (time : ℕ) (count n : 
 unfolding with_activations state_before_deposits
 preset_of p version eth1_hash time count n t behind = ap (λ (x : PlainState). x.preset) behind.same
 
-written_if : (p : Preset) (end : Initialized) (u : PlainState) → ((t : PlainState) → end ≡ made t → IsWritten p (with_activations t)) → activated end ≡ made u → IsWritten p u
+made_if : (P : PlainState → Type 0) (end : Initialized) (u : PlainState) → ((t : PlainState) → end ≡ made t → P (with_activations t)) → activated end ≡ made u → P u
 unfolding made_of_end
-written_if p (made t) u each is = subst (IsWritten p) (ap (λ (e : Initialized). made_of_end e u) is) (each t cc)
-written_if p (refused_at i why) u each is = absurd cc
-written_if p (limited_at i bound) u each is = absurd cc
+made_if P (made t) u each is = subst P (ap (λ (e : Initialized). made_of_end e u) is) (each t cc)
+made_if P (refused_at i why) u each is = absurd cc
+made_if P (limited_at i bound) u each is = absurd cc
 
 -- where the deposits stand in one file, the made state has a writing
 pub made_is_written : (p : Preset) (version eth1_hash : List ℕ) (time : ℕ) (deposits : List DepositData) (u : PlainState) → IsPreset p → IsGiven version eth1_hash time (length deposits) → length deposits * 184 ≤ 2 ^ 30 → AllByRecursion deposit_data_codec.Within deposits
@@ -85,10 +85,19 @@ pub made_is_written : (p : Preset) (version eth1_hash : List ℕ) (time : ℕ) (
 unfolding initialize_beacon_state_from_eth1
 made_is_written p version eth1_hash time deposits u preset given short within is =
     let count : ℕ = length deposits in
-    written_if p (process_genesis_deposits (state_before_deposits p version eth1_hash time count) [] deposits) u
+    made_if (IsWritten p) (process_genesis_deposits (state_before_deposits p version eth1_hash time count) [] deposits) u
     (λ t ends.
       let behind = is_behind p version eth1_hash time deposits t preset given.few within ends in
       let genesis = made_genesis p version eth1_hash time count t preset given behind in
       let preset_is = preset_of p version eth1_hash time count count t behind in
       let read = made_is_read p version eth1_hash time count count t preset short behind genesis.is_state genesis.in_range genesis.no_fault in
       (preset_is, read.0, ap (λ (q : Preset). genesis_of p ((state_codec q).serialize (with_activations t))) preset_is ∙ read.1)) is
+
+-- the made state has the preset
+pub made_has_preset : (p : Preset) (version eth1_hash : List ℕ) (time : ℕ) (deposits : List DepositData) (u : PlainState) → IsPreset p → IsGiven version eth1_hash time (length deposits) → AllByRecursion deposit_data_codec.Within deposits
+    → initialize_beacon_state_from_eth1 p version eth1_hash time deposits ≡ made u → u.preset ≡ p
+unfolding initialize_beacon_state_from_eth1
+made_has_preset p version eth1_hash time deposits u preset given within is =
+    let count : ℕ = length deposits in
+    made_if (λ s. s.preset ≡ p) (process_genesis_deposits (state_before_deposits p version eth1_hash time count) [] deposits) u
+    (λ t ends. preset_of p version eth1_hash time count count t (is_behind p version eth1_hash time deposits t preset given.few within ends)) is

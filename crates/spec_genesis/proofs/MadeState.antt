@@ -163,10 +163,10 @@ data_within : (version : List ℕ) (eth1_hash root : List ℕ) (time : ℕ) (cou
 unfolding OffsetsFit
 data_within version eth1_hash root time count given long = ((((tt, long), omega (arith, given.few)), given.hash_long), tt)
 
-state_of : (p : Preset) (version eth1_hash : List ℕ) (time : ℕ) (count n : ℕ) (eth1_data : Eth1Data) (vs : List Validator) (bs : List ℕ) → IsPreset p → length bs ≡ length vs → length vs ≤ 2 ^ 32
-    → IsState (with_activations (behind_of p version eth1_hash time count eth1_data n vs bs))
-unfolding with_activations state_before_deposits
-state_of p version eth1_hash time count n eth1_data vs bs preset paired few =
+state_of : (p : Preset) (version eth1_hash : List ℕ) (time : ℕ) (count n : ℕ) (eth1_data : Eth1Data) (root : List ℕ) (vs : List Validator) (bs : List ℕ) → IsPreset p → length bs ≡ length vs → length vs ≤ 2 ^ 32
+    → IsState (record (behind_of p version eth1_hash time count eth1_data n vs bs) { genesis_validators_root = root })
+unfolding state_before_deposits
+state_of p version eth1_hash time count n eth1_data root vs bs preset paired few =
     let limit = (preset_bounds p preset).validator_registry_limit in
     record {
       preset_is = preset;
@@ -174,7 +174,7 @@ state_of p version eth1_hash time count n eth1_data vs bs preset paired few =
       state_roots_len = length-replicate p.slots_per_historical_root zero_root;
       historical_roots_len = omega arith;
       eth1_data_votes_len = omega arith;
-      validators_len = omega (arith, validators_count p vs bs);
+      validators_len = omega arith;
       balances_len = omega arith;
       randao_mixes_len = length-replicate p.epochs_per_historical_vector eth1_hash;
       slashings_len = length-replicate p.epochs_per_slashings_vector 0;
@@ -183,18 +183,21 @@ state_of p version eth1_hash time count n eth1_data vs bs preset paired few =
     }
 
 pub made_is_state : (p : Preset) (version eth1_hash : List ℕ) (time : ℕ) (count : ℕ) (n : ℕ) (t : PlainState) → IsPreset p → n ≤ 2 ^ 32 → IsBehind (state_before_deposits p version eth1_hash time count) n t → IsState (with_activations t)
+unfolding with_activations state_before_deposits
 made_is_state p version eth1_hash time count n t preset low behind =
     subst (λ (x : PlainState). IsState (with_activations x)) (sym behind.same)
-    (state_of p version eth1_hash time count n t.eth1_data t.validators t.balances preset behind.paired (let few = behind.few in omega arith))
+    (let long = validators_count p t.validators t.balances in
+    let few = behind.few in
+    let u : PlainState = with_activations (behind_of p version eth1_hash time count t.eth1_data n t.validators t.balances) in
+    state_of p version eth1_hash time count n t.eth1_data u.genesis_validators_root (genesis_validators p t.validators t.balances) t.balances preset (behind.paired ∙ sym long) (omega arith))
 
-range_of : (p : Preset) (version eth1_hash : List ℕ) (time : ℕ) (count n : ℕ) (eth1_data : Eth1Data) (vs : List Validator) (bs : List ℕ) → IsPreset p → IsGiven version eth1_hash time count → eth1_data_codec.Within eth1_data → n ≤ 2 ^ 32
-    → length bs ≡ length vs → AllByRecursion IsFresh vs → AllByRecursion uint64.Within bs → IsInRange (with_activations (behind_of p version eth1_hash time count eth1_data n vs bs))
-unfolding with_activations state_before_deposits mix_in_length hash OffsetsFit
-range_of p version eth1_hash time count n eth1_data vs bs preset given eth1 low paired fresh balances =
-    let most : p.max_effective_balance < 2 ^ 64 = let e = (preset_bounds p preset).max_effective_balance in omega arith in
+range_of : (p : Preset) (version eth1_hash : List ℕ) (time : ℕ) (count n : ℕ) (eth1_data : Eth1Data) (root : List ℕ) (vs : List Validator) (bs : List ℕ) → IsGiven version eth1_hash time count → eth1_data_codec.Within eth1_data → length root ≡ 32 → n ≤ 2 ^ 32
+    → AllByRecursion validator_codec.Within vs → AllByRecursion uint64.Within bs → IsInRange (record (behind_of p version eth1_hash time count eth1_data n vs bs) { genesis_validators_root = root })
+unfolding state_before_deposits OffsetsFit
+range_of p version eth1_hash time count n eth1_data root vs bs given eth1 long low validators balances =
     record {
       genesis_time = given.time_fits;
-      genesis_validators_root = length-sha256 _;
+      genesis_validators_root = long;
       slot = omega arith;
       fork = ((((tt, given.version_long), given.version_long), omega arith), tt);
       latest_block_header = header_within;
@@ -204,7 +207,7 @@ range_of p version eth1_hash time count n eth1_data vs bs preset given eth1 low 
       eth1_data = eth1;
       eth1_data_votes = tt;
       eth1_deposit_index = omega arith;
-      validators = validators_all validator_codec.Within p (λ v b is. validator_within p v b most is) vs bs paired fresh;
+      validators = validators;
       balances = balances;
       randao_mixes = all_same bytes32.Within p.epochs_per_historical_vector eth1_hash given.hash_long;
       slashings = all_same uint64.Within p.epochs_per_slashings_vector 0 (omega arith);
@@ -221,9 +224,13 @@ unfolding state_before_deposits
 data_of p version eth1_hash time count n t given behind = subst eth1_data_codec.Within (sym behind.eth1_data) (data_within version eth1_hash t.eth1_data.deposit_root time count given behind.root)
 
 pub made_is_in_range : (p : Preset) (version eth1_hash : List ℕ) (time : ℕ) (count : ℕ) (n : ℕ) (t : PlainState) → IsPreset p → IsGiven version eth1_hash time count → n ≤ 2 ^ 32 → IsBehind (state_before_deposits p version eth1_hash time count) n t → IsInRange (with_activations t)
+unfolding with_activations state_before_deposits mix_in_length hash
 made_is_in_range p version eth1_hash time count n t preset given low behind =
     subst (λ (x : PlainState). IsInRange (with_activations x)) (sym behind.same)
-    (range_of p version eth1_hash time count n t.eth1_data t.validators t.balances preset given (data_of p version eth1_hash time count n t given behind) low behind.paired behind.validators behind.balances)
+    (let most : p.max_effective_balance < 2 ^ 64 = (let e = (preset_bounds p preset).max_effective_balance in omega arith) in
+    let u : PlainState = with_activations (behind_of p version eth1_hash time count t.eth1_data n t.validators t.balances) in
+    range_of p version eth1_hash time count n t.eth1_data u.genesis_validators_root (genesis_validators p t.validators t.balances) t.balances given (data_of p version eth1_hash time count n t given behind) (length-sha256 _) low
+    (validators_all validator_codec.Within p (λ v b is. validator_within p v b most is) t.validators t.balances behind.paired behind.validators) behind.balances)
 
 -- the state before the deposits is behind none
 pub none_behind : (p : Preset) (version eth1_hash : List ℕ) (time : ℕ) (count : ℕ) → IsBehind (state_before_deposits p version eth1_hash time count) 0 (state_before_deposits p version eth1_hash time count)
@@ -233,3 +240,13 @@ none_behind p version eth1_hash time count = record { same = refl; eth1_data = r
 pub limit_of : (p : Preset) (version eth1_hash : List ℕ) (time : ℕ) (count : ℕ) → IsPreset p → 2 ^ 32 ≤ (state_before_deposits p version eth1_hash time count).preset.validator_registry_limit
 unfolding state_before_deposits
 limit_of p version eth1_hash time count preset = let e = (preset_bounds p preset).validator_registry_limit in omega arith
+
+-- and within the limits
+pub start_is_state : (p : Preset) (version eth1_hash : List ℕ) (time : ℕ) (count : ℕ) → IsPreset p → IsState (state_before_deposits p version eth1_hash time count)
+unfolding state_before_deposits
+start_is_state p version eth1_hash time count preset = state_of p version eth1_hash time count 0 (record { deposit_root = zero_root; deposit_count = count; block_hash = eth1_hash }) zero_root [] [] preset refl (omega arith)
+
+pub start_is_in_range : (p : Preset) (version eth1_hash : List ℕ) (time : ℕ) (count : ℕ) → IsGiven version eth1_hash time count → IsInRange (state_before_deposits p version eth1_hash time count)
+unfolding state_before_deposits
+start_is_in_range p version eth1_hash time count given =
+    range_of p version eth1_hash time count 0 (record { deposit_root = zero_root; deposit_count = count; block_hash = eth1_hash }) zero_root [] [] given (data_within version eth1_hash zero_root time count given refl) refl (omega arith) tt tt

@@ -32,13 +32,13 @@ pub(crate) fn update_latest_messages(
     ensures blocks { store.new.blocks ≡ store.old.blocks }
 {
     store.is_sound();
-    let voted = &attestation.content;
-    let Some(node) = node_number(store.blocks(), voted.beacon_block_root) else {
+    let content = &attestation.content;
+    let Some(node) = node_number(store.blocks(), content.beacon_block_root) else {
         unreachable!()
     };
     let places = places_for(attesting_indices)?;
     array.reserve(places as u64)?;
-    vote_all(array, attesting_indices, node, voted.target.epoch);
+    vote_all(array, attesting_indices, node, content.target.epoch);
     store.take_votes(array);
     Ok(())
 }

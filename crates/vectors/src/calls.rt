@@ -9,6 +9,7 @@
 mod answers;
 mod blocks;
 mod closing;
+mod deposit_trees;
 mod deposits;
 mod exits;
 mod finality;
@@ -82,6 +83,7 @@ fn answer_of(alloc: Global, given: &Given) -> Result<String> {
     match given.name.as_str() {
         "read_state" => states::answer(alloc, given),
         "read_block" => blocks::answer(alloc, given),
+        "deposit_tree" => deposit_trees::answer(alloc, given),
         _ => match State::read(alloc, &Preset::minimal(), given.state()?) {
             Ok(mut state) => answer_on(alloc, &mut state, given),
             Err(_) => bail!("the state doesn't read"),
