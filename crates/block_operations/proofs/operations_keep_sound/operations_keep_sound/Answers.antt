@@ -1,5 +1,4 @@
-use Rattle.spec_blocks.proofs.SoundExits.{exit_sound}
-use Rattle.spec_blocks.proofs.SoundOperations.{slash_sound, voluntary_exit_sound, proposer_slashing_sound, deposit_sound}
+use Rattle.spec_blocks.proofs.SoundOperations.{exit_sound, slash_sound, voluntary_exit_sound, proposer_slashing_sound, deposit_sound}
 use Rattle.spec_blocks.proofs.SoundAttestations.{attestation_sound}
 use Rattle.block_operations.proofs.operations_keep_sound.operations_keep_sound.Goals as goal
 
