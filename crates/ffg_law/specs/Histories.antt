@@ -1,6 +1,7 @@
 -- Histories of justification: what the end of each epoch, from epoch 2 on, made of bits and checkpoints, and the links
 -- that its attesters voted for. One list of weights stands for all epochs.
-use Rattle.std.specs.Prelude.{◌≡◌, ◌<◌, ◌≤◌, ℕ, ◌+◌, ◌*◌, max, Bool, false, List, [], ◌∷◌, sum, replicate, leb, if◌then◌else◌}
+use Rattle.std.specs.Prelude.{◌≡◌, ◌<◌, ◌≤◌, ℕ, ◌+◌, ◌*◌, max, Bool, false, List, [], ◌∷◌, sum, leb, if◌then◌else◌}
+use Rattle.hash_tree.specs.Merkle.{zero_root}
 use Rattle.bc_words.specs.Outcome.{done}
 use Rattle.beacon_types.specs.declared.checkpoint.Checkpoint.{Checkpoint}
 use Rattle.spec_epochs.specs.declared.justification.Justification.{Justification}
@@ -11,7 +12,7 @@ use Rattle.ffg_law.specs.Links.{Voted, links_of, IsOneOf, IsFinalized, IsJustifi
 
 -- the checkpoint of genesis in a state: epoch 0 and the zero root
 abbrev pub genesis_checkpoint : Checkpoint
-genesis_checkpoint = record { epoch = 0; root = replicate 32 0 }
+genesis_checkpoint = record { epoch = 0; root = zero_root }
 
 -- bits and checkpoints at the beginning
 abbrev pub nothing_justified : Justification
