@@ -22,7 +22,7 @@ use spec_epochs::Deltas;
 use ssz_codec::Items;
 use std::alloc::Global;
 use validator_rewards::eligible::counted;
-use validator_rewards::get_base_reward::{get_base_reward, divisor};
+use validator_rewards::get_base_reward::{divisor, get_base_reward};
 use validator_rewards::inclusion::{Included, include};
 use validator_rewards::stakes::{Stake, stakes};
 
