@@ -30,11 +30,11 @@ may_lack_lines statuses.WriteFault = true
 may_lack_lines statuses.NoMemory = true
 may_lack_lines _ = false
 
--- so many of the whole, or all of it unless there may be fewer
+-- so many of the whole: all of it, unless it may be cut short
 abbrev pub AllUnless : Bool → ℕ → ℕ → Type 0
 AllUnless cut_short n whole = (n ≤ whole) × (cut_short ≡ false → n ≡ whole)
 
--- The sink got these lines behind what it had: all of them, or a prefix of them where there may be fewer.
+-- The sink got these lines behind what it had: all of them, or a prefix of them where they may be cut short.
 pub record WritesLines (cut_short : Bool) (lines : List ℕ) (written written_then : List ℕ) : Type 0 where
   pub count : ℕ
   pub reaches : AllUnless cut_short count (length lines)

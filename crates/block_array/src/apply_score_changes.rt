@@ -12,9 +12,9 @@ ghost use Rattle.block_array.specs.GetLatestAttestingBalance.{get_latest_attesti
 ghost use Rattle.block_array.specs.inside.Counts.{own_at};
 ghost use Rattle.block_array.specs.inside.BestDescendants.{best_descendant_at, best_child, better_child, IsHeadFrom, IsCounted, AreBest, IsMade, IsWeighed, AreFresh, CanGive, given};
 
+use crate::best_descendant::{BestDescendant, best_descendant_at};
 use crate::inputs::Inputs;
 use crate::node::Node;
-use crate::best_descendant::{BestDescendant, best_descendant_at};
 use crate::tally::Tally;
 use bc_words::Steps;
 use beacon_types::same_checkpoint;
@@ -23,7 +23,12 @@ use std::sync::ledger::Ledger;
 
 /// Makes of a node what it is before its children are looked at. One visit.
 #[tactic(auto, using(crate::proofs::BestDescendants::setting_best))]
-fn begin_one<L: Ledger>(tally: &Tally, bests: &mut Vec<BestDescendant>, number: usize, steps: &mut Steps<L>)
+fn begin_one<L: Ledger>(
+    tally: &Tally,
+    bests: &mut Vec<BestDescendant>,
+    number: usize,
+    steps: &mut Steps<L>,
+)
     requires inside { number < length bests.old.items }
     requires node { number < tally.now.nodes }
     requires few { number < 2 ^ 32 }
@@ -42,7 +47,12 @@ fn begin_one<L: Ledger>(tally: &Tally, bests: &mut Vec<BestDescendant>, number: 
 
 /// Makes of each node from a first one on what it is before its children are looked at. One visit of each.
 #[tactic(auto, using(crate::proofs::BestDescendants::beginning))]
-fn begin<L: Ledger>(tally: &Tally, bests: &mut Vec<BestDescendant>, first: usize, steps: &mut Steps<L>)
+fn begin<L: Ledger>(
+    tally: &Tally,
+    bests: &mut Vec<BestDescendant>,
+    first: usize,
+    steps: &mut Steps<L>,
+)
     requires nodes { length bests.old.items ≡ tally.now.nodes }
     requires few { length bests.old.items < 2 ^ 32 }
     requires first { first ≤ length bests.old.items }

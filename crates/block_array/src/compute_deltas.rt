@@ -21,7 +21,12 @@ const MARKS_A_DELTA: usize = 32;
 
 /// Counts what is due of a validator. One delta.
 #[tactic(auto, unfolding(crate::specs::inside::Held::due, crate::specs::PlainArray::message_of))]
-fn compute_delta<L: Ledger>(inputs: &Inputs, tally: &mut Tally, validator: u64, steps: &mut Steps<L>)
+fn compute_delta<L: Ledger>(
+    inputs: &Inputs,
+    tally: &mut Tally,
+    validator: u64,
+    steps: &mut Steps<L>,
+)
     requires inside { validator < length tally.old.validators }
     requires nodes { tally.old.nodes ≡ length inputs.now.array.nodes }
     ensures counted { tally.new ≡ record tally.old { validators = slice_set tally.old.validators validator (due inputs.now.array validator) } }

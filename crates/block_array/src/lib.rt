@@ -5,17 +5,17 @@
 //! to the justified one makes weights and the head.
 #![tactic(auto)]
 
+mod apply_score_changes;
+mod best_descendant;
 mod block_array;
+mod compute_deltas;
 mod facts;
 mod get_ancestor;
 mod inputs;
 mod list;
 mod node;
 mod note;
-mod best_descendant;
-mod compute_deltas;
 mod room;
-mod apply_score_changes;
 mod tally;
 mod weight;
 

@@ -2,9 +2,9 @@
 
 ghost use Rattle.std.specs.Prelude.{◌≡◌, ◌+◌, ◌<◌, ◌≤◌, ◌^◌, length, vec_capacity, OnOk, IsOk};
 
+use crate::best_descendant::BestDescendant;
 use crate::inputs::Inputs;
 use crate::list::make_room;
-use crate::best_descendant::BestDescendant;
 use crate::tally::Tally;
 use bc_words::NoMemory;
 

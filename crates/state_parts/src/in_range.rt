@@ -2,7 +2,8 @@
 //! copied and compared.
 
 ghost use Rattle.std.specs.Prelude.{◌≡◌, IfOk, IsTrue};
-ghost use Rattle.ssz_codec.specs.Basic.{bytes32, bitvector};
+ghost use Rattle.ssz_codec.specs.Basic.{bytes_codec, bytes32, bitvector};
+ghost use Rattle.ssz_codec.specs.Lawful.{IsBytes};
 ghost use Rattle.beacon_types.specs.Containers.{fork_codec, block_header_codec, eth1_data_codec, validator_codec, attestation_data_codec, checkpoint_codec, pending_attestation_codec};
 
 use bc_words::NoMemory;
@@ -29,7 +30,7 @@ pub trait InRange: Ssz {
 
 impl InRange for Root {
     fn in_range(&self) {
-        let _root = *self;
+        bytes_in_range(self);
     }
 
     fn copied(&self) -> Result<Root, NoMemory> {
@@ -83,21 +84,34 @@ impl InRange for PendingAttestation {
     }
 }
 
+/// Bytes are below 256.
+fn are_bytes(bytes: &[u8])
+    ensures { IsBytes bytes.now }
+{}
+
+/// A vector of bytes.
+fn bytes_in_range<const N: usize>(bytes: &[u8; N])
+    ensures { (bytes_codec N).Within bytes.now }
+{
+    let _bytes = *bytes;
+    are_bytes(bytes);
+}
+
 #[tactic(auto, unfolding(ssz_codec::specs::Layout::OffsetsFit))]
 pub fn eth1_data_in_range(eth1: &Eth1Data)
     ensures { eth1_data_codec.Within eth1.now }
 {
-    let _root = eth1.deposit_root;
+    bytes_in_range(&eth1.deposit_root);
     let _count = eth1.deposit_count;
-    let _hash = eth1.block_hash;
+    bytes_in_range(&eth1.block_hash);
 }
 
 #[tactic(auto, unfolding(ssz_codec::specs::Layout::OffsetsFit))]
 fn validator_in_range(validator: &Validator)
     ensures { validator_codec.Within validator.now }
 {
-    let _key = validator.pubkey;
-    let _credentials = validator.withdrawal_credentials;
+    bytes_in_range(&validator.pubkey);
+    bytes_in_range(&validator.withdrawal_credentials);
     let _balance = validator.effective_balance;
     let _eligible = validator.activation_eligibility_epoch;
     let _active = validator.activation_epoch;
@@ -110,7 +124,7 @@ pub fn checkpoint_in_range(checkpoint: &Checkpoint)
     ensures { checkpoint_codec.Within checkpoint.now }
 {
     let _epoch = checkpoint.epoch;
-    let _root = checkpoint.root;
+    bytes_in_range(&checkpoint.root);
 }
 
 #[tactic(auto, unfolding(ssz_codec::specs::Layout::OffsetsFit))]
@@ -119,7 +133,7 @@ fn attestation_data_in_range(content: &AttestationData)
 {
     let _slot = content.slot;
     let _index = content.index;
-    let _root = content.beacon_block_root;
+    bytes_in_range(&content.beacon_block_root);
     checkpoint_in_range(&content.source);
     checkpoint_in_range(&content.target);
 }
@@ -138,8 +152,8 @@ fn attestation_in_range(attestation: &PendingAttestation)
 pub fn fork_in_range(fork: &Fork)
     ensures { fork_codec.Within fork.now }
 {
-    let _previous = fork.previous_version;
-    let _current = fork.current_version;
+    bytes_in_range(&fork.previous_version);
+    bytes_in_range(&fork.current_version);
     let _epoch = fork.epoch;
 }
 
@@ -149,15 +163,15 @@ pub fn header_in_range(header: &BeaconBlockHeader)
 {
     let _slot = header.slot;
     let _proposer = header.proposer_index;
-    let _parent = header.parent_root;
-    let _state = header.state_root;
-    let _body = header.body_root;
+    bytes_in_range(&header.parent_root);
+    bytes_in_range(&header.state_root);
+    bytes_in_range(&header.body_root);
 }
 
 pub fn root_in_range(root: &Root)
     ensures { bytes32.Within root.now }
 {
-    let _root = *root;
+    bytes_in_range(root);
 }
 
 pub fn bits_in_range(bits: &[bool; 4])

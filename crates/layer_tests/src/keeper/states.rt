@@ -103,7 +103,13 @@ fn add_blocks<L: Ledger>(
     ensures { OnOk result (length keeper.new.blocks ≡ 54) }
 {
     for number in 1..BLOCKS {
-        extend(alloc, keeper, parent_number(number), added_by(number), steps)?;
+        extend(
+            alloc,
+            keeper,
+            parent_number(number),
+            added_by(number),
+            steps,
+        )?;
     }
     Ok(())
 }

@@ -209,16 +209,14 @@ byte_before count n bytes b some below long e =
           let bits-are : number_bits (first_bits count) n ++ b ≡ number_bits count n = ap (λ k. number_bits k n ++ b) k-is ∙ ap (λ (l : List Bool). number_bits count n ++ l) none ∙ append-nil (number_bits count n) in
           let len : length (number_bits count n) ≡ count = number_bits_len count n in
           let low : n < 2 ^ count = subst (λ k. n < 2 ^ k) k-is below in
-          let bytes-are : bytes ≡ [] = e ∙ ap bits_bytes none ∙ bits_bytes_nil in
-          (
+          let bytes-are : bytes ≡ [] = e ∙ ap bits_bytes none ∙ bits_bytes_nil in (
             ap length bits-are ∙ len,
             ap (λ (l : List ℕ). n ∷ l) bytes-are ∙ ap (λ k. k ∷ []) (sym (bits_of_number count n low)) ∙ sym (bits_bytes_one (number_bits count n) (omega arith) (omega arith)) ∙ ap bits_bytes (sym bits-are),
           )
       | inr more ↦
           let k-is = first_eight count more in
           let low : n < 2 ^ 8 = subst (λ k. n < 2 ^ k) k-is below in
-          let bits-are : number_bits (first_bits count) n ++ b ≡ number_bits 8 n ++ b = ap (λ k. number_bits k n ++ b) k-is in
-          (
+          let bits-are : number_bits (first_bits count) n ++ b ≡ number_bits 8 n ++ b = ap (λ k. number_bits k n ++ b) k-is in (
             ap length bits-are ∙ omega (arith, length-append (number_bits 8 n) b, number_bits_len 8 n),
             ap (λ (l : List ℕ). n ∷ l) e ∙ ap (λ k. k ∷ bits_bytes b) (sym (bits_of_number 8 n low)) ∙ sym (bits_bytes_step (number_bits 8 n) b (number_bits_len 8 n)) ∙ ap bits_bytes (sym bits-are),
           )
