@@ -1,5 +1,5 @@
 -- What a state sums is what sets weigh: a checked sum over ascending indices is the weight of the set that they name.
-use Rattle.std.proofs.Common.{◌≡◌, ◌∙◌, ℕ, zero, suc, ◌+◌, ◌-◌, ◌<◌, ◌≤◌, inl, inr, max, Bool, true, false, if◌then◌else◌, List, [], ◌∷◌, slice_index, refl, sym, ap, subst, arith}
+use Rattle.std.proofs.Common.{◌≡◌, ◌∙◌, ℕ, suc, ◌+◌, ◌-◌, ◌<◌, ◌≤◌, inl, inr, max, Bool, true, if◌then◌else◌, List, [], ◌∷◌, slice_index, refl, sym, ap, subst, arith}
 use Rattle.std.proofs.lemmas.Bool.{cases_order, ne_eqb, eq-eqb}
 use Rattle.bc_words.specs.Outcome.{done, checked_add, checked_sum_from, checked_sum_by}
 use Rattle.spec_state.specs.declared.plain.PlainState.{PlainState}

@@ -135,7 +135,7 @@ validator_joins s new balance later = record {
 
 module _ (P : PlainState → Type 0)
     (of_registry : (s : PlainState) (validators : List Validator) (balances slashings : List ℕ) (deposits : ℕ) → RegistryChange s validators balances
-        → P s → P (record s { validators = validators; balances = balances; slashings = slashings; eth1_deposit_index = deposits })) where
+    → P s → P (record s { validators = validators; balances = balances; slashings = slashings; eth1_deposit_index = deposits })) where
   -- the exit of a validator
   pub exit_keeps : (s t : PlainState) (index : ℕ) (config : ConfigValues) → initiate_validator_exit s index config ≡ done t → P s → P t
   unfolding initiate_validator_exit

@@ -97,4 +97,3 @@ vote_blocks old new attestation from_block is =
     let somebody = on_the_way (check (not (length attesting == 0)) FcEmpty) _ new committee.then_done in
     ap (λ (s : Store). s.blocks) (sym (same_value (update_latest_messages old attesting attestation) new somebody.then_done))
     ∙ messages_blocks old (record { epoch = attestation.content.target.epoch; root = attestation.content.beacon_block_root }) attesting
-

@@ -28,7 +28,7 @@ use Rattle.spec_blocks.proofs.Pending.{attestation_keeps}
 -- a part of a state that is neither of the registry nor of the pending attestations
 module _ {X : Type 0} (part : PlainState → X)
     (of_registry : (s : PlainState) (validators : List Validator) (balances slashings : List ℕ) (deposits : ℕ)
-        → part (record s { validators = validators; balances = balances; slashings = slashings; eth1_deposit_index = deposits }) ≡ part s)
+    → part (record s { validators = validators; balances = balances; slashings = slashings; eth1_deposit_index = deposits }) ≡ part s)
     (of_pending : (s : PlainState) (previous current : List PendingAttestation) → part (record s { previous_epoch_attestations = previous; current_epoch_attestations = current }) ≡ part s) where
   registry_stays : (x s : PlainState) (validators : List Validator) (balances slashings : List ℕ) (deposits : ℕ) → RegistryChange s validators balances → part s ≡ part x
       → part (record s { validators = validators; balances = balances; slashings = slashings; eth1_deposit_index = deposits }) ≡ part x

@@ -6,6 +6,7 @@ ghost use Rattle.spec_state.specs.Soundness.{IsSound};
 ghost use Rattle.spec_blocks.specs.ProcessBlock.{process_block};
 
 use crate::get_beacon_proposer_index::get_beacon_proposer_index;
+use crate::process_operations::process_operations;
 use balance_totals::current_epoch;
 use bc_preset::Config;
 use bc_words::Stop;
@@ -14,7 +15,6 @@ use beacon_state::State;
 use block_head::process_eth1_data::process_eth1_data;
 use block_head::process_header;
 use block_head::process_randao::process_randao;
-use crate::process_operations::process_operations;
 use std::alloc::Global;
 
 /// The steps of a block, one after another.

@@ -137,7 +137,8 @@ pub fn visit_slots<V: Visitor>(
     go_to(alloc, state, slot, config, visitor)
 }
 
-/// The same, with the states on which epoch processing was entered for clauses alone: none is kept.
+/// Takes the sound state through all slots up to this one (beacon-chain.md, `process_slots`), as `visit_slots` does. The step tells
+/// clauses the states on which epoch processing was entered; none is kept.
 #[tactic(auto, using(crate::proofs::Visits::stops_shown))]
 pub fn process_slots(alloc: Global, state: &State, slot: u64, config: &Config) -> Result<Step, Stop>
     requires sound { IsSound state.now }

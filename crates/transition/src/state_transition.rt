@@ -87,7 +87,8 @@ pub fn visit_transition<V: Visitor>(
     take_block(alloc, state, block, config, visitor)
 }
 
-/// The same, with the states on which epoch processing was entered for clauses alone: none is kept.
+/// Takes the sound state through the slots up to the block's, and then through the block (beacon-chain.md, `state_transition`), as
+/// `visit_transition` does. The step tells clauses the states on which epoch processing was entered; none is kept.
 #[tactic(auto, using(crate::proofs::Visits::stops_shown))]
 pub fn state_transition(
     alloc: Global,

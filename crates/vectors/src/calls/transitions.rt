@@ -38,11 +38,7 @@ fn step_lines(alloc: Global, state: &State, entered: &States) -> Result<String> 
 }
 
 /// The lines of a step or of its stop.
-fn lines_of(
-    alloc: Global,
-    outcome: &Result<State, Stop>,
-    entered: &States,
-) -> Result<String> {
+fn lines_of(alloc: Global, outcome: &Result<State, Stop>, entered: &States) -> Result<String> {
     match outcome {
         Ok(state) => step_lines(alloc, state, entered),
         Err(stop) => stop_line(alloc, *stop),

@@ -1,5 +1,5 @@
 -- Each record is what weighing makes of the one before, by computing it; no link of one chain has a target of the other's.
-use Rattle.std.proofs.Common.{◌≡◌, ◌∙◌, ℕ, ◌≤◌, inl, inr, refl, sym, ap, arith}
+use Rattle.std.proofs.Common.{◌≡◌, ◌∙◌, inl, inr, refl, sym, ap, arith}
 use Rattle.bc_words.specs.Outcome.{checked_mul}
 use Rattle.spec_epochs.specs.Weigh.{weigh, reaches_two_thirds, shifted, justified_where, finalized_by, finalizing}
 use Rattle.ffg_law.specs.Weights.{weight_from, among}
