@@ -3,7 +3,6 @@ use Rattle.std.proofs.Common.{◌≡◌, ◌∙◌, ℕ, ◌*◌, ◌≤◌, ◌
 use Rattle.std.specs.Prelude.{IfOk}
 use Rattle.std.specs.List.{AllByRecursion}
 use Rattle.bc_words.specs.declared.refusal.Refusal.{Refusal}
-use Rattle.bc_words.specs.declared.refusal.Refusal.TheVariants.{Overflow}
 use Rattle.bc_preset.specs.declared.presets.Preset.{Preset}
 use Rattle.bc_preset.specs.Presets.{IsPreset}
 use Rattle.beacon_types.specs.declared.deposit_data.DepositData.{DepositData}

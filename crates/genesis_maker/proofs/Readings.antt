@@ -1,5 +1,5 @@
 -- Deposits that are read one by one from the writing of their list.
-use Rattle.std.proofs.Common.{◌≡◌, ◌∙◌, ◌⊎◌, inl, inr, ℕ, zero, suc, ◌+◌, ◌-◌, ◌*◌, ◌/◌, ◌%◌, ◌^◌, ◌<◌, ◌≤◌, Bool, true, false, cond, ltb, List, [], ◌∷◌, length, take, drop, Option, Some, None, Result, Ok, Err, refl, sym, ap, subst, arith}
+use Rattle.std.proofs.Common.{◌≡◌, ◌∙◌, ◌⊎◌, inl, inr, ℕ, suc, ◌-◌, ◌*◌, ◌/◌, ◌%◌, ◌^◌, ◌<◌, ◌≤◌, Bool, cond, List, ◌∷◌, length, take, drop, Option, Some, None, Result, Err, refl, sym, ap, subst, arith}
 use Rattle.std.specs.List.{AllByRecursion}
 use Rattle.std.proofs.lemmas.Bool.{le-ltb, lt-ltb}
 use Rattle.std.proofs.lemmas.List.{length-drop}
@@ -80,14 +80,16 @@ first_of_all bytes are some =
     let number : length bytes / 184 ≡ suc count = omega arith in
     let behind : length (drop 184 bytes) / 184 ≡ count = omega (arith, length-drop 184 bytes) in
     let items = first_by _ _ (deposits_in bytes)
-      (sym (items_are count bytes (omega arith)) ∙ ap (λ (n : ℕ). parse_items deposit_data_codec.deserialize 184 n bytes) (sym number) ∙ sym (list_is bytes (omega arith)) ∙ are.reads) in
+    (sym (items_are count bytes (omega arith)) ∙ ap (λ (n : ℕ). parse_items deposit_data_codec.deserialize 184 n bytes) (sym number) ∙ sym (list_is bytes (omega arith)) ∙ are.reads) in
     let rest : deposits_codec.deserialize (drop 184 bytes) ≡ Some items.1 =
-      list_is (drop 184 bytes) (omega arith) ∙ ap (λ (n : ℕ). parse_items deposit_data_codec.deserialize 184 n (drop 184 bytes)) behind ∙ items.3 in
-    (items.0, record {
-      read = items.2;
-      others = deposits_are (drop 184 bytes) items.1 (IsBytes-drop 184 bytes are.bytes_are) rest;
-      all = items.4 ∙ ap (λ (ds : List DepositData). items.0 ∷ ds) (sym (ap or_none rest));
-    })
+    list_is (drop 184 bytes) (omega arith) ∙ ap (λ (n : ℕ). parse_items deposit_data_codec.deserialize 184 n (drop 184 bytes)) behind ∙ items.3 in (
+      items.0,
+      record {
+        read = items.2;
+        others = deposits_are (drop 184 bytes) items.1 (IsBytes-drop 184 bytes are.bytes_are) rest;
+        all = items.4 ∙ ap (λ (ds : List DepositData). items.0 ∷ ds) (sym (ap or_none rest));
+      },
+    )
 
 -- the bytes of the first are a deposit's
 pub no_fault : (bytes part : List ℕ) (r : Result DepositData SszFault) → AreDeposits bytes → 0 < length (deposits_in bytes) → part ≡ take 184 bytes → r ≡ Err NotAWriting → ReadsAs r (deposit_data_codec.deserialize part) → ⊥

@@ -1,15 +1,15 @@
 -- The loop over the deposits: those that were taken, and those that are to come.
-use Rattle.std.proofs.Common.{◌≡◌, ◌∙◌, ℕ, zero, suc, ◌+◌, ◌<◌, List, [], ◌∷◌, ◌++◌, length, take, drop, map, Result, Ok, Err, refl, sym, ap, ap₂, subst, arith}
+use Rattle.std.proofs.Common.{◌≡◌, ◌∙◌, ℕ, zero, suc, ◌+◌, List, [], ◌∷◌, ◌++◌, length, take, drop, sym, ap, ap₂, subst, arith}
 use Rattle.std.proofs.lemmas.List.{length-map, map_push}
 use Rattle.hash_tree.specs.Merkle.{merkle_root, mix_in_length}
-use Rattle.bc_words.specs.Outcome.{Outcome, done, refused, limited, Stops}
+use Rattle.bc_words.specs.Outcome.{Outcome, done, Stops}
 use Rattle.bc_words.specs.declared.stop.Stop.{Stop}
 use Rattle.bc_words.specs.declared.stop.Stop.TheVariants as stops
 use Rattle.beacon_types.specs.declared.deposit_data.DepositData.{DepositData}
 use Rattle.beacon_types.specs.Containers.{deposit_contract_tree_depth, deposit_data_codec}
 use Rattle.spec_state.specs.declared.plain.PlainState.{PlainState}
 use Rattle.spec_blocks.specs.ProcessDeposit.{process_deposit}
-use Rattle.spec_genesis.specs.Branches.{deposits_codec, deposit_leaves, branch_of}
+use Rattle.spec_genesis.specs.Branches.{deposit_leaves, branch_of}
 use Rattle.spec_genesis.specs.InitializeBeaconStateFromEth1.{Initialized, made, deposit_then, process_genesis_deposit, process_genesis_deposits}
 use Rattle.spec_genesis.proofs.Deposits.{deposits_root_is}
 use Rattle.genesis_maker.specs.inside.Making.{with_root, process_on_leaves, StopsAt}

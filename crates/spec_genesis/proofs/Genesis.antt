@@ -1,6 +1,6 @@
 -- The genesis of deposits: it is made exactly where no amount overflows the balance of its key, and where the deposits stand in
 -- one file it has a writing, which is read as this state.
-use Rattle.std.proofs.Common.{◌≡◌, ◌∙◌, ◌⊎◌, inl, inr, ℕ, ◌*◌, ◌^◌, ◌<◌, ◌≤◌, List, [], length, Option, Some, None, Ok, sym, ap, subst, arith}
+use Rattle.std.proofs.Common.{◌≡◌, ◌∙◌, inl, inr, ℕ, ◌*◌, ◌^◌, ◌≤◌, List, [], length, Option, Some, None, Ok, sym, ap, subst, arith}
 use Rattle.std.specs.List.{AllByRecursion}
 use Rattle.bc_words.specs.declared.refusal.Refusal.TheVariants.{Overflow}
 use Rattle.bc_preset.specs.declared.presets.Preset.{Preset}
@@ -8,9 +8,8 @@ use Rattle.bc_preset.specs.Presets.{IsPreset}
 use Rattle.beacon_types.specs.declared.deposit_data.DepositData.{DepositData}
 use Rattle.beacon_types.specs.Containers.{deposit_data_codec}
 use Rattle.spec_state.specs.declared.plain.PlainState.{PlainState}
-use Rattle.spec_state.specs.Limits.{IsState, IsInRange}
 use Rattle.spec_state.specs.Writing.{HasWriting}
-use Rattle.spec_state.specs.Genesis.{genesis_fault, genesis_of}
+use Rattle.spec_state.specs.Genesis.{genesis_of}
 use Rattle.spec_state.specs.States.{state_codec}
 use Rattle.spec_state.proofs.Genesis.{genesis_sound}
 use Rattle.spec_genesis.specs.InitializeBeaconStateFromEth1.{Initialized, made, refused_at, limited_at, activated, process_genesis_deposits, state_before_deposits, with_activations, initialize_beacon_state_from_eth1}
@@ -87,11 +86,11 @@ made_is_written p version eth1_hash time deposits u preset given short within is
     let count : ℕ = length deposits in
     made_if (IsWritten p) (process_genesis_deposits (state_before_deposits p version eth1_hash time count) [] deposits) u
     (λ t ends.
-      let behind = is_behind p version eth1_hash time deposits t preset given.few within ends in
-      let genesis = made_genesis p version eth1_hash time count t preset given behind in
-      let preset_is = preset_of p version eth1_hash time count count t behind in
-      let read = made_is_read p version eth1_hash time count count t preset short behind genesis.is_state genesis.in_range genesis.no_fault in
-      (preset_is, read.0, ap (λ (q : Preset). genesis_of p ((state_codec q).serialize (with_activations t))) preset_is ∙ read.1)) is
+    let behind = is_behind p version eth1_hash time deposits t preset given.few within ends in
+    let genesis = made_genesis p version eth1_hash time count t preset given behind in
+    let preset_is = preset_of p version eth1_hash time count count t behind in
+    let read = made_is_read p version eth1_hash time count count t preset short behind genesis.is_state genesis.in_range genesis.no_fault in
+    (preset_is, read.0, ap (λ (q : Preset). genesis_of p ((state_codec q).serialize (with_activations t))) preset_is ∙ read.1)) is
 
 -- the made state has the preset
 pub made_has_preset : (p : Preset) (version eth1_hash : List ℕ) (time : ℕ) (deposits : List DepositData) (u : PlainState) → IsPreset p → IsGiven version eth1_hash time (length deposits) → AllByRecursion deposit_data_codec.Within deposits

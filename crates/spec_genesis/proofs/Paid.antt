@@ -1,13 +1,12 @@
 -- The balance of a key is what its deposits paid, so that the making stops exactly at the first deposit that doesn't fit.
 use Rattle.std.proofs.Common.{◌≡◌, ◌∙◌, ◌⊎◌, inl, inr, ℕ, ◌+◌, ◌^◌, ◌<◌, ◌≤◌, Bool, true, false, cond, ltb, List, [], ◌∷◌, ◌++◌, length, get_or, Option, Some, None, slice_get, slice_set, refl, sym, ap, subst, arith}
-use Rattle.std.specs.List.{AllByRecursion, position, position_from}
+use Rattle.std.specs.List.{AllByRecursion}
 use Rattle.std.specs.Option.{option_or}
 use Rattle.std.specs.Cmp.{unsigned_Decides}
 use Rattle.std.specs.Cmp.Lexicographic.{pointwise_decides}
 use Rattle.std.proofs.lemmas.Bool.{lt-ltb, le-ltb, ltb-true, ltb-false}
 use Rattle.std.proofs.lemmas.List.{length_push, get_or_push, get_or_append_left, get_or-set_same, get_or-set_other}
 use Rattle.std.proofs.lemmas.List.Quantifiers.{position-Some}
-use Rattle.std.proofs.lemmas.Iterator.Adapters.{position_from-zero}
 use Rattle.std.proofs.lemmas.Option.{slice_get-get_or}
 use Rattle.bc_words.specs.Outcome.{Outcome, done, refused}
 use Rattle.bc_words.specs.declared.refusal.Refusal.TheVariants.{Overflow}
@@ -18,7 +17,7 @@ use Rattle.spec_state.specs.declared.plain.PlainState.{PlainState}
 use Rattle.spec_blocks.specs.GetValidatorFromDeposit.{get_validator_from_deposit}
 use Rattle.spec_blocks.specs.ProcessDeposit.{same_pubkey, index_of_pubkey, credit_deposit}
 use Rattle.spec_blocks.proofs.Pubkeys.{index-push}
-use Rattle.spec_genesis.specs.InitializeBeaconStateFromEth1.{Initialized, made, refused_at, limited_at, deposit_then, process_genesis_deposit, process_genesis_deposits, activated, state_before_deposits, initialize_beacon_state_from_eth1}
+use Rattle.spec_genesis.specs.InitializeBeaconStateFromEth1.{Initialized, made, refused_at, limited_at, deposit_then, process_genesis_deposit, process_genesis_deposits, state_before_deposits}
 use Rattle.bc_preset.specs.declared.presets.Preset.{Preset}
 use Rattle.bc_preset.specs.Presets.{IsPreset}
 use Rattle.spec_genesis.proofs.MadeState.{limit_of, none_behind}

@@ -4,25 +4,23 @@ use Rattle.std.specs.List.{AllByRecursion, flat_map}
 use Rattle.std.proofs.lemmas.Bool.{le-ltb}
 use Rattle.std.proofs.lemmas.List.{length-append}
 use Rattle.ssz_codec.specs.Codec.{Codec}
-use Rattle.ssz_codec.specs.Basic.{uint64, bytes32}
+use Rattle.ssz_codec.specs.Basic.{uint64}
 use Rattle.ssz_codec.specs.Layout.{fixed_length, fixed_parts, variable_parts, joined, OffsetsFit}
 use Rattle.ssz_codec.specs.Containers.{layout_of, parts_of}
 use Rattle.ssz_codec.specs.Lawful.{FitFields}
-use Rattle.ssz_codec.specs.laws.Basic.{uint64_lawful, bytes32_lawful, bitvector_lawful}
-use Rattle.ssz_codec.specs.laws.Lists.{vector_lawful, list_lawful, variable_list_lawful}
+use Rattle.ssz_codec.specs.laws.Basic.{uint64_lawful}
 use Rattle.ssz_codec.specs.laws.Layout.{fixed_parts_is_long}
-use Rattle.ssz_codec.specs.laws.Containers.{AreLawful, start, ◌▸◌, and_given}
 use Rattle.bc_preset.specs.declared.presets.Preset.{Preset}
 use Rattle.bc_preset.specs.Presets.{IsPreset}
 use Rattle.bc_preset.specs.laws.Bounds.{HasPresetBounds}
 use Rattle.bc_preset.proofs.Bounds.{preset_bounds}
 use Rattle.beacon_types.specs.declared.eth1_data.Eth1Data.{Eth1Data}
 use Rattle.beacon_types.specs.declared.validator.Validator.{Validator}
-use Rattle.beacon_types.specs.Containers.{validator_codec, eth1_data_codec, pending_attestation_codec}
-use Rattle.beacon_types.specs.laws.Containers.{fork_lawful, checkpoint_lawful, validator_lawful, validator_fixed, eth1_data_lawful, eth1_data_fixed, block_header_lawful, pending_attestation_lawful}
+use Rattle.beacon_types.specs.Containers.{validator_codec}
+use Rattle.beacon_types.specs.laws.Containers.{validator_lawful}
 use Rattle.spec_state.specs.declared.plain.PlainState.{PlainState}
 use Rattle.spec_state.specs.declared.fault.GenesisFault.TheVariants as parts
-use Rattle.spec_state.specs.States.{votes_limit, attestations_limit, state_fields, state_codec}
+use Rattle.spec_state.specs.States.{state_fields, state_codec}
 use Rattle.spec_state.specs.Limits.{IsState, IsInRange}
 use Rattle.spec_state.specs.Genesis.{genesis_fault, genesis_of, checked_genesis, sound_genesis}
 use Rattle.spec_state.proofs.StateLaws.{state_fields_lawful, state_lawful}

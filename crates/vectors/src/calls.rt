@@ -13,6 +13,7 @@ mod deposit_trees;
 mod deposits;
 mod exits;
 mod finality;
+mod genesis_files;
 mod given;
 mod heads;
 mod registry;
@@ -83,6 +84,7 @@ fn answer_of(alloc: Global, given: &Given) -> Result<String> {
     match given.name.as_str() {
         "read_state" => states::answer(alloc, given),
         "read_block" => blocks::answer(alloc, given),
+        "genesis_of_file" => genesis_files::answer(alloc, given),
         "deposit_tree" => deposit_trees::answer(alloc, given),
         _ => match State::read(alloc, &Preset::minimal(), given.state()?) {
             Ok(mut state) => answer_on(alloc, &mut state, given),

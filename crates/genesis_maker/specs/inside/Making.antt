@@ -7,16 +7,12 @@ use Rattle.bc_words.specs.declared.stop.Stop.{Stop}
 use Rattle.bc_words.specs.declared.stop.Stop.TheVariants as stops
 use Rattle.beacon_types.specs.declared.deposit_data.DepositData.{DepositData}
 use Rattle.beacon_types.specs.Containers.{deposit_contract_tree_depth, deposit_data_codec}
-use Rattle.bc_preset.specs.declared.presets.Preset.{Preset}
 use Rattle.spec_state.specs.declared.plain.PlainState.{PlainState}
 use Rattle.spec_state.specs.States.{state_codec}
-use Rattle.spec_state.specs.Writing.{HasWriting}
 use Rattle.spec_blocks.specs.ProcessDeposit.{process_deposit}
 use Rattle.spec_genesis.specs.Branches.{branch_of}
 use Rattle.spec_genesis.specs.InitializeBeaconStateFromEth1.{Initialized, made, refused_at, limited_at}
-use Rattle.spec_genesis.specs.MadeGenesis.{IsGenesis}
 use Rattle.spec_genesis.specs.declared.fault.DepositsFault.{DepositsFault}
-use Rattle.spec_genesis.specs.declared.fault.DepositsFault.TheVariants as faults
 use Rattle.spec_genesis.specs.DepositsFile as plain
 use Rattle.genesis_maker.specs.declared.deposits_file.DepositsFile as code
 use Rattle.genesis_maker.specs.declared.stops.StoppedAt.{StoppedAt}

@@ -1,4 +1,4 @@
-use Rattle.std.proofs.Common.{◌∙◌, Ok, sym, ap, subst, arith}
+use Rattle.std.proofs.Common.{sym, ap, subst, arith}
 use Rattle.spec_genesis.specs.DepositsFile.{made_of, genesis_file_of}
 use Rattle.spec_genesis.proofs.File.{file_is, makes_genesis}
 use Rattle.genesis_maker.specs.inside.Making.{GivesFile}

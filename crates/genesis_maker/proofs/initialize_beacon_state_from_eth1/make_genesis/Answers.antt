@@ -1,4 +1,3 @@
-use Rattle.std.proofs.Common.{sym, subst, length, arith, ◌≤◌, ◌^◌}
 use Rattle.genesis_maker.proofs.Made.{is_made}
 use Rattle.genesis_maker.proofs.initialize_beacon_state_from_eth1.make_genesis.Goals as goal
 

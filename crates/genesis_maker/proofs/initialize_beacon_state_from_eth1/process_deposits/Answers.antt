@@ -1,5 +1,5 @@
 -- One deposit more is processed, one of them stops the making, or all are processed.
-use Rattle.std.proofs.Common.{◌≡◌, ◌∙◌, ◌++◌, ◌∷◌, [], length, take, drop, sym, ap, subst, arith}
+use Rattle.std.proofs.Common.{◌≡◌, ◌∙◌, ◌++◌, ◌∷◌, [], length, take, sym, ap, subst, arith}
 use Rattle.std.proofs.lemmas.List.{length-take, drop_all, map_push}
 use Rattle.bc_words.specs.Outcome.{Stops, done}
 use Rattle.beacon_types.specs.Containers.{deposit_data_codec}

@@ -1,4 +1,4 @@
-use Rattle.std.proofs.Common.{subst, sym, arith}
+use Rattle.std.proofs.Common.{subst, sym}
 use Rattle.spec_state.specs.Limits.{IsState, IsInRange}
 use Rattle.spec_genesis.proofs.MadeState.{start_is_state, start_is_in_range}
 use Rattle.genesis_maker.proofs.state_before_deposits.state_before_deposits.Goals as goal
