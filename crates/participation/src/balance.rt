@@ -74,7 +74,7 @@ pub fn vote_balance(
 /// The total effective balance of those whose flag is set and who aren't slashed, in Gwei: at least one increment
 /// (beacon-chain.md, `get_attesting_balance`). Refused exactly where the sum does not fit.
 #[tactic(auto, unfolding(spec_state::specs::Accessors::get_total_balance))]
-pub fn attesting_balance(state: &State, flags: &[bool]) -> Result<u64, Stop>
+fn attesting_balance(state: &State, flags: &[bool]) -> Result<u64, Stop>
     ensures { GivesExactly result (get_total_balance state.now (flagged state.now flags.now)) }
 {
     let sum = sum_flagged(state, flags)?;

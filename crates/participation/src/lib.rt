@@ -12,7 +12,7 @@ mod matching;
 mod pending;
 
 pub use attesters::attested;
-pub use balance::{attesting_balance, flag_at, vote_balance};
+pub use balance::{flag_at, vote_balance};
 pub use get_matching_attestations::{matching_head, matching_target};
 pub use inclusions::{Inclusion, earliest_inclusions, inclusion_at};
 pub use matching::Vote;
