@@ -14,7 +14,7 @@ ghost use Rattle.epoch_rewards.specs.inside.Divisor.{divisor_of};
 
 use crate::amounts::{Amounts, all_amounts};
 use crate::attested::{previous_attesters, previous_inclusions};
-use crate::get_base_reward::{get_base_reward, divisor};
+use crate::get_base_reward::{divisor, get_base_reward};
 use crate::get_eligible_validator_indices::{counted, is_attester};
 use crate::get_proposer_reward::get_proposer_reward;
 use crate::numbers::{number_at, zeros};
