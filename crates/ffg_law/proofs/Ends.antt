@@ -1,9 +1,10 @@
 -- What weighing makes of the end of an epoch, taken apart.
 use Rattle.std.proofs.Common.{◌≡◌, ℕ, ◌+◌, ◌*◌, ◌^◌, Bool, true, false, ◌&&◌, ◌||◌, ◌==◌, if◌then◌else◌, nat_lt, leb, List, [], ◌∷◌, refl, sym, subst}
 use Rattle.std.proofs.lemmas.Bool.{eqb-true}
-use Rattle.bc_words.specs.Outcome.{Outcome, done, refused, limited, bind, checked_mul}
+use Rattle.bc_words.specs.Outcome.{done, refused, bind, checked_mul}
 use Rattle.bc_words.specs.declared.refusal.Refusal.TheVariants.{Overflow}
 use Rattle.beacon_types.specs.declared.checkpoint.Checkpoint.{Checkpoint}
+use Rattle.spec_blocks.proofs.Done.{on_the_way, same_value}
 use Rattle.spec_epochs.specs.declared.justification.Justification.{Justification}
 use Rattle.spec_epochs.specs.Weigh.{weigh, reaches_two_thirds, bit, shifted, justified_where, finalized_by, finalizing, previous_of}
 
@@ -21,19 +22,6 @@ reached : (part total : ℕ) (b : Bool) → reaches_two_thirds part total ≡ do
 unfolding reaches_two_thirds checked_mul
 reached part total b e = products (nat_lt (part * 3) (2 ^ 64)) (nat_lt (total * 2) (2 ^ 64)) (part * 3) (total * 2) b e
 
-record Done {A B : Type 0} (o : Outcome A) (next : A → Outcome B) (b : B) : Type 0 where
-  value : A
-  is : o ≡ done value
-  follows : next value ≡ done b
-
-done_of : {A B : Type 0} (o : Outcome A) (next : A → Outcome B) (b : B) → bind o next ≡ done b → Done o next b
-done_of (done x) next b e = record { value = x; is = refl; follows = e }
-done_of (refused why) next b e = absurd (cc)
-done_of (limited bound) next b e = absurd (cc)
-
-done_is : {A : Type 0} (a b : A) → done a ≡ done b → a ≡ b
-done_is a b e = cc
-
 -- the checkpoints that may be justified
 abbrev pub previous_point : ℕ → List ℕ → Checkpoint
 previous_point epoch root = record { epoch = previous_of epoch; root = root }
@@ -48,11 +36,11 @@ pub record Weighed (j : Justification) (epoch : ℕ) (previous_root current_root
 pub weighed : (j : Justification) (epoch : ℕ) (previous_root current_root : List ℕ) (total previous current : ℕ) (after : Justification) → weigh j epoch previous_root current_root total previous current ≡ done after → Weighed j epoch previous_root current_root total previous current after
 unfolding weigh
 weighed j epoch previous_root current_root total previous current after e =
-    let first = done_of (reaches_two_thirds previous total) _ after e in
-    let second = done_of (reaches_two_thirds current total) _ after first.follows in
-    let p = reached previous total first.value first.is in
-    let c = reached current total second.value second.is in
-    let is : finalizing (justified_where second.value (justified_where first.value (shifted j) 1 (previous_point epoch previous_root)) 0 (current_point epoch current_root)) epoch j.previous j.current ≡ after = done_is _ _ second.follows in
+    let first = on_the_way (reaches_two_thirds previous total) _ after e in
+    let second = on_the_way (reaches_two_thirds current total) _ after first.then_done in
+    let p = reached previous total first.value first.first in
+    let c = reached current total second.value second.first in
+    let is : finalizing (justified_where second.value (justified_where first.value (shifted j) 1 (previous_point epoch previous_root)) 0 (current_point epoch current_root)) epoch j.previous j.current ≡ after = same_value _ _ second.then_done in
     record {
       after_is = sym (subst (λ (x : Bool). finalizing (justified_where x (justified_where (leb (total * 2) (previous * 3)) (shifted j) 1 (previous_point epoch previous_root)) 0 (current_point epoch current_root)) epoch j.previous j.current ≡ after) c
           (subst (λ (x : Bool). finalizing (justified_where second.value (justified_where x (shifted j) 1 (previous_point epoch previous_root)) 0 (current_point epoch current_root)) epoch j.previous j.current ≡ after) p is));

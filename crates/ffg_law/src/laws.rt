@@ -10,7 +10,8 @@ ghost use Rattle.spec_state.specs.declared.plain.PlainState.{PlainState};
 ghost use Rattle.spec_state.specs.Misc.{effective_balance};
 ghost use Rattle.spec_state.specs.Accessors.{get_total_balance};
 ghost use Rattle.ffg_law.specs.Weights.{IsTwoThirds, IsThird, IsSet, among, both};
-ghost use Rattle.ffg_law.specs.Links.{Voted, IsOneOf, IsChain, IsFinalized, AreApart, Conflict, HaveTwoThirds, AThirdIsConvicted, IsSlashable, link_of, voted, links_of};
+ghost use Rattle.ffg_law.specs.Links.{Voted, IsOneOf, IsChain, IsFinalized, AreApart, Conflict, IsSlashable, link_of};
+ghost use Rattle.ffg_law.specs.Links.{HaveTwoThirds, AThirdIsConvicted, voted, links_of};
 ghost use Rattle.ffg_law.specs.Histories.{EpochEnd, IsLarge, IsHistory, AreLinked, IsFinalLinked, IsMadeAtEnd, total_of};
 ghost use Rattle.ffg_law.specs.Histories.{last_from, nothing_justified, genesis_checkpoint, finalized_of, made_by};
 
@@ -107,6 +108,7 @@ pub fn a_third_is_convicted()
     ensures { (increment : ℕ) (weights : List ℕ) (first second : List EpochEnd) → IsLarge increment weights
         → IsHistory increment weights first → IsHistory increment weights second
         → 0 < (finalized_of first).epoch → 0 < (finalized_of second).epoch
-        → AreApart (min (finalized_of first).epoch (finalized_of second).epoch) (links_of (made_by increment weights first)) (links_of (made_by increment weights second))
+        → AreApart (min (finalized_of first).epoch (finalized_of second).epoch)
+        (links_of (made_by increment weights first)) (links_of (made_by increment weights second))
         → AThirdIsConvicted weights (made_by increment weights first) (made_by increment weights second) }
 {}
