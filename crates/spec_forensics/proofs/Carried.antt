@@ -1,5 +1,5 @@
 -- Both votes of an offence are among the votes, of its validator, and slashable.
-use Rattle.std.proofs.Common.{◌≡◌, ◌∙◌, ℕ, zero, suc, ◌+◌, ◌<◌, inl, inr, Bool, true, false, cond, ◌==◌, ◌||◌, List, [], ◌∷◌, ◌++◌, length, Option, Some, None, refl, sym, ap, subst, arith}
+use Rattle.std.proofs.Common.{◌≡◌, ℕ, zero, suc, inl, inr, Bool, true, false, cond, ◌==◌, List, [], ◌∷◌, Option, Some, None, refl, sym, subst, arith}
 use Rattle.std.specs.List.{All, Contains, filter}
 use Rattle.std.specs.Option.{option_map}
 use Rattle.std.proofs.lemmas.Bool.{eqb-true, or_cases, or_left, or_right}
@@ -7,7 +7,6 @@ use Rattle.std.proofs.lemmas.List.Elements.{All-append, All-cons, All-nil, All-t
 use Rattle.beacon_types.specs.declared.attestation_data.AttestationData.{AttestationData}
 use Rattle.beacon_types.specs.Slashable.{is_slashable_attestation_data}
 use Rattle.spec_forensics.specs.declared.vote.Vote.{Vote}
-use Rattle.spec_forensics.specs.declared.offence.Offence.{Offence}
 use Rattle.spec_forensics.specs.FirstPair.{first_pair}
 use Rattle.spec_forensics.specs.Offences.{are_slashable, slashable_pair, kind_of, surrounds, offence_by, offence_of, listed, offences_below, IsCarried}
 use Rattle.spec_forensics.proofs.Pairs.{IsPair, is_pair}

@@ -1,8 +1,8 @@
 -- The first pair of a list: its items are of the list, and it is that of the list's images.
-use Rattle.std.proofs.Common.{◌≡◌, ◌∙◌, ℕ, zero, suc, ◌+◌, ◌<◌, ◌≤◌, inl, inr, Bool, true, false, cond, ◌==◌, List, [], ◌∷◌, ◌++◌, map, length, get_or, Option, Some, None, refl, sym, ap, subst, arith, append_assoc}
-use Rattle.std.specs.List.{All, Contains, find, filter}
+use Rattle.std.proofs.Common.{◌≡◌, ◌∙◌, Bool, true, false, cond, List, [], ◌∷◌, ◌++◌, map, Option, Some, None, refl, ap, subst, arith}
+use Rattle.std.specs.List.{All, find}
 use Rattle.std.specs.Option.{option_map}
-use Rattle.std.proofs.lemmas.List.Elements.{All-cons, All-nil, All-push, All-tail, All-append, All-weaker, Contains-push, Contains-append_left}
+use Rattle.std.proofs.lemmas.List.Elements.{All-push, All-tail}
 use Rattle.spec_forensics.specs.FirstPair.{pair_or, first_pair}
 
 -- ---- what both items of a pair are

@@ -1,8 +1,8 @@
 -- The operations of a block other than attestations change the registry alone, and leave who is active in the current and the
 -- previous epoch: what such a change keeps, they keep.
-use Rattle.std.proofs.Common.{◌≡◌, ◌∙◌, ℕ, ◌+◌, ◌-◌, ◌<◌, ◌≤◌, ◌%◌, ◌/◌, Bool, true, false, max, not, ◌==◌, leb, nat_lt, List, [], ◌∷◌, ◌++◌, Option, Some, None, slice_get, slice_set, refl, sym, ap₂, subst, arith, inl, inr}
+use Rattle.std.proofs.Common.{◌≡◌, ◌∙◌, ℕ, ◌+◌, ◌-◌, ◌<◌, ◌≤◌, ◌%◌, ◌/◌, true, false, max, not, ◌==◌, leb, List, [], ◌∷◌, ◌++◌, Option, Some, None, slice_get, slice_set, refl, sym, ap₂, subst, arith, inl, inr}
 use Rattle.std.proofs.lemmas.Bool.{eqb-true, not-false}
-use Rattle.bc_words.specs.Outcome.{Outcome, done, checked_add, checked_sub, checked_push}
+use Rattle.bc_words.specs.Outcome.{done, checked_add, checked_sub, checked_push}
 use Rattle.bc_words.specs.declared.refusal.Refusal.TheVariants.{ExInactive, ExLeaving, ExEarly, ExYoung, PsSlots, PsProposers, PsSame, NotSlashable, AsData, AsNone, DpBranch}
 use Rattle.bc_preset.specs.declared.configuration.ConfigValues.{ConfigValues}
 use Rattle.beacon_types.specs.Slashable.{is_slashable_attestation_data}

@@ -1,15 +1,13 @@
 -- Spans without votes, and what the spans of a validator name.
-use Rattle.std.proofs.Common.{◌≡◌, ◌∙◌, ℕ, zero, suc, ◌+◌, ◌<◌, ◌≤◌, List, [], ◌∷◌, ◌++◌, length, get_or, Option, None, Result, Ok, Err, IfOk, refl, sym, ap, subst, arith, add-one}
+use Rattle.std.proofs.Common.{◌≡◌, ◌∙◌, ℕ, ◌<◌, List, [], ◌∷◌, ◌++◌, length, get_or, None, refl, sym, ap, subst}
 use Rattle.std.specs.List.{All}
-use Rattle.std.proofs.lemmas.List.{get_or_read}
 use Rattle.std.proofs.lemmas.List.Elements.{All-push, All-nil}
 use Rattle.beacon_types.specs.declared.attestation_data.AttestationData.{AttestationData}
-use Rattle.bc_words.specs.declared.stop.NoMemory.{NoMemory}
 use Rattle.vote_spans.specs.Pairs.{first_slashable}
 use Rattle.vote_spans.specs.Spans.{HeldSpans, PlainSpans}
 use Rattle.vote_spans.specs.Standing.{StandsFor}
 use Rattle.vote_spans.proofs.Standing.{stands_first}
-use Rattle.vote_spans.specs.AllSpans.{PlainAllSpans, votes_of, votes_from, AreSpansOf, AreSorted, nothing_held}
+use Rattle.vote_spans.specs.AllSpans.{PlainAllSpans, votes_of, votes_from, AreSpansOf, AreSorted}
 
 abbrev pub nothing_yet : PlainSpans
 nothing_yet = record { votes = []; offence = None }

@@ -1,5 +1,5 @@
 -- How the plain program walks over all pairs.
-use Rattle.std.proofs.Common.{◌≡◌, ◌∙◌, ℕ, zero, suc, ◌+◌, ◌<◌, ◌≤◌, Bool, true, false, cond, List, [], ◌∷◌, ◌++◌, length, get_or, take, drop, Option, Some, None, refl, sym, ap, subst, arith, add-one, drop-cons}
+use Rattle.std.proofs.Common.{◌≡◌, ◌∙◌, ℕ, zero, suc, ◌+◌, ◌<◌, ◌≤◌, Bool, true, false, cond, List, [], ◌∷◌, length, get_or, take, drop, Some, None, refl, sym, ap, arith, add-one, drop-cons}
 use Rattle.std.specs.List.{find}
 use Rattle.std.proofs.Math.Seq.{take-suc}
 use Rattle.spec_forensics.specs.FirstPair.{pair_or, first_pair}

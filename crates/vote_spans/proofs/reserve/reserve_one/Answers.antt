@@ -1,4 +1,3 @@
-use Rattle.std.proofs.Common.{Result, Ok, Err}
 use Rattle.vote_spans.proofs.Reserved.{reserved_by}
 use Rattle.vote_spans.proofs.reserve.reserve_one.Goals as goal
 
