@@ -1,6 +1,6 @@
 //! Attestations, from the wire or from a block (fork-choice.md, "on_attestation").
 
-ghost use Rattle.std.specs.Prelude.{◌≡◌};
+ghost use Rattle.std.specs.Prelude.{◌≡◌, IfErr};
 ghost use Rattle.bc_words.specs.Events.{StoreChanges};
 ghost use Rattle.spec_fork_choice.specs.OnAttestation.{on_attestation};
 ghost use Rattle.store_parts.specs.inside.Votes.{event_of};
@@ -16,8 +16,8 @@ impl Store {
     /// checked.
     ///
     /// Refused, in this order: as `validate_on_attestation` has it; as the slots up to the target's first one are, with their
-    /// limit; `FcCommittee`, `FcBitsShort`, `FcEmpty`. After a stop the store is as before. It never clashes, and gives the array
-    /// no balances.
+    /// limit; `FcCommittee`, `FcBitsShort`, `FcEmpty`. After a stop all is as before. It never clashes, and gives the array no
+    /// balances.
     pub fn on_attestation(
         &mut self,
         alloc: Global,
@@ -26,6 +26,8 @@ impl Store {
     ) -> Result<(), StoreStop>
         ensures exact { StoreChanges result self.old.plain self.new.plain (event_of (on_attestation self.old.plain attestation.now from_block)) }
         ensures unset { self.new.array.balances_set ≡ self.old.array.balances_set }
+        ensures stays { IfErr result (λ _. self.new ≡ self.old) }
+        ensures keeper { self.new.keeper ≡ self.old.keeper }
     {
         on_attestation(
             alloc,

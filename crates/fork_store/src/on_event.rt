@@ -2,12 +2,13 @@
 //!
 //! The payload's bytes come from a record; the store changes, and what an accepted block leaves goes to the event's line.
 
-ghost use Rattle.std.specs.Prelude.{◌<◌, ◌-◌, ◌^◌, Some, length};
+ghost use Rattle.std.specs.Prelude.{◌≡◌, ◌<◌, ◌-◌, ◌^◌, Some, length, IfErr};
 ghost use Rattle.beacon_body.specs.Containers.{signed_block_codec, attestation_codec};
 ghost use Rattle.spec_fork_choice.specs.OnTick.{on_tick};
 ghost use Rattle.spec_fork_choice.specs.OnAttestation.{on_attestation};
 ghost use Rattle.spec_fork_choice.specs.OnEvent.{without_block, handle_tick, handle_block, handle_attestation, on_event};
 ghost use Rattle.fork_store.specs.inside.Events.{AcceptsBy, accepted_of};
+ghost use Rattle.fork_store.specs.inside.Seen.{StoreStays};
 
 use crate::store::Store;
 use bc_words::{Refusal, StoreStop};
@@ -28,7 +29,9 @@ pub enum Accepted {
 /// Takes the time of a tick.
 #[tactic(auto, using(store_parts::proofs::Events::ticking))]
 fn take_tick(store: &mut Store, time: u64) -> Result<Accepted, StoreStop>
-    ensures { AcceptsBy accepted_of result store.old.plain store.new.plain (without_block (on_tick store.old.plain time)) }
+    ensures exact { AcceptsBy accepted_of result store.old.plain store.new.plain (without_block (on_tick store.old.plain time)) }
+    ensures unset { store.new.plain.justified_checkpoint ≡ store.old.plain.justified_checkpoint → store.new.array.balances_set ≡ store.old.array.balances_set }
+    ensures stays { IfErr result (λ _. StoreStays store.old store.new) }
 {
     match store.on_tick(time) {
         Ok(()) => Ok(Accepted::Other),
@@ -37,9 +40,11 @@ fn take_tick(store: &mut Store, time: u64) -> Result<Accepted, StoreStop>
 }
 
 /// Takes a tick, whose payload is its time in 8 bytes, low byte first.
-#[tactic(auto, unfolding(spec_fork_choice::specs::OnEvent::handle_tick))]
+#[tactic(auto, unfolding(spec_fork_choice::specs::OnEvent::handle_tick), using(crate::proofs::Stays::unchanged))]
 fn handle_tick(store: &mut Store, payload: &[u8]) -> Result<Accepted, StoreStop>
-    ensures { AcceptsBy accepted_of result store.old.plain store.new.plain (handle_tick store.old.plain payload.now) }
+    ensures exact { AcceptsBy accepted_of result store.old.plain store.new.plain (handle_tick store.old.plain payload.now) }
+    ensures unset { store.new.plain.justified_checkpoint ≡ store.old.plain.justified_checkpoint → store.new.array.balances_set ≡ store.old.array.balances_set }
+    ensures stays { IfErr result (λ _. StoreStays store.old store.new) }
 {
     match payload {
         [a, b, c, d, e, f, g, h] => {
@@ -57,16 +62,20 @@ fn take_block(
     block: &SignedBeaconBlock,
 ) -> Result<Accepted, StoreStop>
     requires few { length store.old.plain.blocks < 2 ^ 32 - 1 }
-    ensures { AcceptsBy accepted_of result store.old.plain store.new.plain (handle_block store.old.plain (Some block.now)) }
+    ensures exact { AcceptsBy accepted_of result store.old.plain store.new.plain (handle_block store.old.plain (Some block.now)) }
+    ensures unset { store.new.plain.justified_checkpoint ≡ store.old.plain.justified_checkpoint → store.new.array.balances_set ≡ store.old.array.balances_set }
+    ensures stays { IfErr result (λ _. StoreStays store.old store.new) }
 {
     Ok(Accepted::Block(store.on_block(alloc, block)?))
 }
 
 /// Takes a signed block, whose payload is its writing.
-#[tactic(auto, unfolding(spec_fork_choice::specs::OnEvent::handle_block))]
+#[tactic(auto, unfolding(spec_fork_choice::specs::OnEvent::handle_block), using(crate::proofs::Stays::unchanged))]
 fn handle_block(alloc: Global, store: &mut Store, payload: &[u8]) -> Result<Accepted, StoreStop>
     requires few { length store.old.plain.blocks < 2 ^ 32 - 1 }
-    ensures { AcceptsBy accepted_of result store.old.plain store.new.plain (handle_block store.old.plain (signed_block_codec.deserialize payload.now)) }
+    ensures exact { AcceptsBy accepted_of result store.old.plain store.new.plain (handle_block store.old.plain (signed_block_codec.deserialize payload.now)) }
+    ensures unset { store.new.plain.justified_checkpoint ≡ store.old.plain.justified_checkpoint → store.new.array.balances_set ≡ store.old.array.balances_set }
+    ensures stays { IfErr result (λ _. StoreStays store.old store.new) }
 {
     match SignedBeaconBlock::read(alloc, payload) {
         Ok(block) => take_block(alloc, store, &block),
@@ -83,7 +92,9 @@ fn take_attestation(
     attestation: &Attestation,
     from_block: bool,
 ) -> Result<Accepted, StoreStop>
-    ensures { AcceptsBy accepted_of result store.old.plain store.new.plain (without_block (on_attestation store.old.plain attestation.now from_block)) }
+    ensures exact { AcceptsBy accepted_of result store.old.plain store.new.plain (without_block (on_attestation store.old.plain attestation.now from_block)) }
+    ensures unset { store.new.plain.justified_checkpoint ≡ store.old.plain.justified_checkpoint → store.new.array.balances_set ≡ store.old.array.balances_set }
+    ensures stays { IfErr result (λ _. StoreStays store.old store.new) }
 {
     match store.on_attestation(alloc, attestation, from_block) {
         Ok(()) => Ok(Accepted::Other),
@@ -92,14 +103,16 @@ fn take_attestation(
 }
 
 /// Takes an attestation from the wire or from a block, whose payload is its writing.
-#[tactic(auto, unfolding(spec_fork_choice::specs::OnEvent::handle_attestation))]
+#[tactic(auto, unfolding(spec_fork_choice::specs::OnEvent::handle_attestation), using(crate::proofs::Stays::unchanged))]
 fn handle_attestation(
     alloc: Global,
     store: &mut Store,
     payload: &[u8],
     from_block: bool,
 ) -> Result<Accepted, StoreStop>
-    ensures { AcceptsBy accepted_of result store.old.plain store.new.plain (handle_attestation store.old.plain from_block (attestation_codec.deserialize payload.now)) }
+    ensures exact { AcceptsBy accepted_of result store.old.plain store.new.plain (handle_attestation store.old.plain from_block (attestation_codec.deserialize payload.now)) }
+    ensures unset { store.new.plain.justified_checkpoint ≡ store.old.plain.justified_checkpoint → store.new.array.balances_set ≡ store.old.array.balances_set }
+    ensures stays { IfErr result (λ _. StoreStays store.old store.new) }
 {
     match Attestation::read(alloc, payload) {
         Ok(attestation) => take_attestation(alloc, store, &attestation, from_block),
@@ -114,7 +127,8 @@ impl Store {
     /// others.
     ///
     /// Refused as `Malformed` where the payload isn't the writing of such an event, and refused, limited and clashing as its
-    /// handler is. After a stop the store is as before.
+    /// handler is. After a stop all is as before but for room that was made. Where the justified checkpoint stays, the array is given no
+    /// balances.
     #[tactic(auto, unfolding(spec_fork_choice::specs::OnEvent::on_event))]
     pub fn on_event(
         &mut self,
@@ -123,7 +137,9 @@ impl Store {
         payload: &[u8],
     ) -> Result<Accepted, StoreStop>
         requires few { length self.old.plain.blocks < 2 ^ 32 - 1 }
-        ensures { AcceptsBy accepted_of result self.old.plain self.new.plain (on_event self.old.plain kind payload.now) }
+        ensures exact { AcceptsBy accepted_of result self.old.plain self.new.plain (on_event self.old.plain kind payload.now) }
+        ensures unset { self.new.plain.justified_checkpoint ≡ self.old.plain.justified_checkpoint → self.new.array.balances_set ≡ self.old.array.balances_set }
+        ensures stays { IfErr result (λ _. StoreStays self.old self.new) }
     {
         if kind == 1 {
             handle_tick(self, payload)

@@ -3,10 +3,11 @@
 //! Beside its fields it keeps the array of nodes, by which blocks are weighed, and the keeper of the states behind them, and holds
 //! ready the balances of the best justified checkpoint, so that neither a tick nor the head takes memory.
 
-ghost use Rattle.std.specs.Prelude.{◌≡◌, true, IfOk};
+ghost use Rattle.std.specs.Prelude.{◌≡◌, ◌<◌, ℕ, true, length, IfOk};
 ghost use Rattle.std.specs.Option.{option_map};
 ghost use Rattle.spec_fork_choice.specs.Store.{block_of, is_kept};
 ghost use Rattle.spec_fork_choice.specs.StoreTargetCheckpointState.{store_target_checkpoint_state};
+ghost use Rattle.store_parts.specs.KeptSteps.{IsStepOfParent};
 ghost use Rattle.store_parts.specs.inside.Arrays.{IsArrayOf};
 ghost use Rattle.store_parts.specs.inside.Chains.{IsDone};
 ghost use Rattle.store_parts.specs.inside.Keepers.{IsKeeperOf};
@@ -89,6 +90,16 @@ impl Store {
         ensures done { IsDone (store_target_checkpoint_state self.now.plain self.now.plain.justified_checkpoint) }
     {
         let _store = &self.fields;
+    }
+
+    /// The law that each kept block but that of genesis is the keeper's of its number, behind its parent's, and that the state behind it is
+    /// the step of its parent's state by it. Where it comes again, the states that it leaves are those that this step entered. It does
+    /// nothing when it runs.
+    pub fn steps_were_taken(&self)
+        ensures { (number : ℕ) → 0 < number → number < length self.now.plain.blocks → IsStepOfParent self.now.plain self.now.keeper number }
+    {
+        self.fields.is_sound();
+        self.keeper.steps_were_taken();
     }
 
     /// The justified checkpoint.

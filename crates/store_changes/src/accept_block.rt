@@ -1,7 +1,7 @@
 //! The way of a valid block into the store (fork-choice.md, "on_block"): it is kept, a timely one has the boost, and the
 //! store's checkpoints follow its state's.
 
-ghost use Rattle.std.specs.Prelude.{◌≡◌, ◌<◌, ◌-◌, ◌^◌, ◌++◌, ◌∷◌, [], true, false, length, IfOk};
+ghost use Rattle.std.specs.Prelude.{◌≡◌, ◌<◌, ◌-◌, ◌^◌, ◌++◌, ◌∷◌, [], true, false, length, IfErr, IfOk};
 ghost use Rattle.beacon_types.specs.Equality.{same_root};
 ghost use Rattle.spec_state.specs.Genesis.{zero_root};
 ghost use Rattle.spec_state.specs.Soundness.{IsSound};
@@ -11,6 +11,7 @@ ghost use Rattle.store_parts.specs.inside.Wholes.{IsWhole, IsReady};
 ghost use Rattle.store_parts.specs.inside.Chains.{IsLinked};
 ghost use Rattle.store_parts.specs.inside.Following.{may_move, AreGiven};
 ghost use Rattle.store_parts.specs.inside.Keepers.{IsKeeperOf, IsStepOn};
+ghost use Rattle.store_parts.specs.inside.Rooms.{ArrayStays, KeeperStays};
 ghost use Rattle.bc_words.specs.Outcome.{Becomes};
 ghost use Rattle.store_parts.specs.inside.Stores.{IsKept};
 ghost use Rattle.store_parts.specs.inside.Trees.{HasParent};
@@ -120,7 +121,8 @@ fn prepare(
     })
 }
 
-/// Keeps a block that isn't kept yet with its state, and adds its node to the array. All room is made first.
+/// Keeps a block that isn't kept yet with its state, and adds its node to the array. Where memory is refused, all is as before but
+/// for room that was made: it is made first.
 fn add_block(
     alloc: Global,
     store: &mut StoreFields,
@@ -144,6 +146,8 @@ fn add_block(
     ensures keeper { IsKeeperOf store.new keeper.new }
     ensures stays { store.new.justified_checkpoint ≡ store.old.justified_checkpoint }
     ensures unset { array.new.balances_set ≡ array.old.balances_set }
+    ensures array_stays { IfErr result (λ _. ArrayStays array.old array.new) }
+    ensures keeper_stays { IfErr result (λ _. KeeperStays keeper.old keeper.new) }
 {
     store.is_sound();
     let facts = facts_of(&state);
@@ -157,7 +161,7 @@ fn add_block(
     Ok(())
 }
 
-/// Keeps the block with its state, unless it is kept already. Where memory is refused, the store is as before.
+/// Keeps the block with its state, unless it is kept already. Where memory is refused, all is as before but for room.
 #[tactic(auto, using(store_parts::proofs::Adding::keeping), unfolding(spec_fork_choice::specs::OnBlock::with_block, spec_fork_choice::specs::Store::is_kept))]
 fn keep_block(
     alloc: Global,
@@ -181,6 +185,8 @@ fn keep_block(
     ensures keeper { IsKeeperOf store.new keeper.new }
     ensures stays { store.new.justified_checkpoint ≡ store.old.justified_checkpoint }
     ensures unset { array.new.balances_set ≡ array.old.balances_set }
+    ensures array_stays { IfErr result (λ _. ArrayStays array.old array.new) }
+    ensures keeper_stays { IfErr result (λ _. KeeperStays keeper.old keeper.new) }
 {
     if store.is_kept(root) {
         return Ok(());
@@ -217,7 +223,7 @@ fn settle_whole(
     follow(store, array, &before);
 }
 
-/// Takes a valid block into the store. Where memory is refused, the store is as before: all room is made first.
+/// Takes a valid block into the store. Where memory is refused, all is as before but for room that was made: it is made first.
 #[tactic(auto, using(store_parts::proofs::AcceptedBlocks::mid_low, store_parts::proofs::Numbers::justified_is_low))]
 pub(crate) fn accept(
     alloc: Global,
@@ -242,6 +248,8 @@ pub(crate) fn accept(
     ensures whole { IsWhole store.new array.new ready.new }
     ensures keeper { IsKeeperOf store.new keeper.new }
     ensures unset { store.new.justified_checkpoint ≡ store.old.justified_checkpoint → array.new.balances_set ≡ array.old.balances_set }
+    ensures array_stays { IfErr result (λ _. ArrayStays array.old array.new) }
+    ensures keeper_stays { IfErr result (λ _. KeeperStays keeper.old keeper.new) }
 {
     let _slot = state.slot();
     let facts = facts_of(&state);

@@ -2,7 +2,7 @@
 //!
 //! They come from `fork_store`. The committees are those of the target's state, and what changes is the latest votes.
 
-ghost use Rattle.std.specs.Prelude.{◌≡◌};
+ghost use Rattle.std.specs.Prelude.{◌≡◌, IfErr};
 ghost use Rattle.bc_words.specs.Outcome.{GivesBy};
 ghost use Rattle.bc_words.specs.Events.{StoreChanges};
 ghost use Rattle.spec_state.specs.Misc.{compute_epoch_at_slot};
@@ -107,6 +107,8 @@ pub fn on_attestation(
     ensures whole { IsWhole store.new array.new ready.now }
     ensures keeper { IsKeeperOf store.new keeper.new }
     ensures unset { array.new.balances_set ≡ array.old.balances_set }
+    ensures same { keeper.new ≡ keeper.old }
+    ensures stays { IfErr result (λ _. array.new ≡ array.old) }
 {
     let indices = judge(alloc, store, keeper, array, attestation, is_from_block)?;
     update_latest_messages(store, array, ready, &indices, attestation)?;

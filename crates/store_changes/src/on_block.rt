@@ -2,7 +2,7 @@
 //!
 //! They come from `fork_store`, and what an accepted one leaves goes back to it.
 
-ghost use Rattle.std.specs.Prelude.{◌≡◌, ◌<◌, ◌-◌, ◌^◌, length, IfOk};
+ghost use Rattle.std.specs.Prelude.{◌≡◌, ◌<◌, ◌-◌, ◌^◌, length, IfErr, IfOk};
 ghost use Rattle.bc_words.specs.Outcome.{Gives};
 ghost use Rattle.store_parts.specs.inside.Stores.{IsRootOf, IsBehind};
 ghost use Rattle.store_parts.specs.inside.Trees.{HasParent};
@@ -14,6 +14,7 @@ ghost use Rattle.store_parts.specs.inside.Arrays.{AreNodesOf};
 ghost use Rattle.store_parts.specs.inside.Wholes.{IsWhole};
 ghost use Rattle.store_parts.specs.inside.Chains.{IsChained, IsDone, IsLinked};
 ghost use Rattle.store_parts.specs.inside.Keepers.{IsKeeperOf, IsStateBehind, IsStepOn};
+ghost use Rattle.store_parts.specs.inside.Rooms.{ArrayStays, KeeperStays};
 
 use crate::accept_block::{accept, keep_justified};
 use crate::kept_state::kept_state;
@@ -111,6 +112,8 @@ fn accept_unless(
     ensures whole { IsWhole store.new array.new ready.new }
     ensures keeper { IsKeeperOf store.new keeper.new }
     ensures unset { store.new.justified_checkpoint ≡ store.old.justified_checkpoint → array.new.balances_set ≡ array.old.balances_set }
+    ensures array_stays { IfErr result (λ _. ArrayStays array.old array.new) }
+    ensures keeper_stays { IfErr result (λ _. KeeperStays keeper.old keeper.new) }
 {
     let _slot = block.message.slot;
     match clash_of(store.blocks(), keeper, root, &block.message) {
@@ -129,7 +132,8 @@ fn accept_unless(
 }
 
 /// Takes a block into a store (fork-choice.md, `on_block`): it is checked, its parent's state is taken through it, and it is kept.
-/// The signature isn't checked. The store, its array and its keeper are as before wherever the block isn't accepted.
+/// The signature isn't checked. Wherever the block isn't accepted, the store, its array and its keeper are as before, but for room that
+/// was made.
 ///
 /// Refused, in this order: as `ParentUnknown`, `FutureBlock`, `BeforeFinalized`, `NotOnFinalized`, and as the state transition is.
 /// Limited as that is too. A clash comes last, where the block's root or state root is zero or another block of its root is kept.
@@ -150,6 +154,8 @@ pub fn on_block(
     ensures whole { IsWhole store.new array.new ready.new }
     ensures keeper { IsKeeperOf store.new keeper.new }
     ensures unset { store.new.justified_checkpoint ≡ store.old.justified_checkpoint → array.new.balances_set ≡ array.old.balances_set }
+    ensures array_stays { IfErr result (λ _. ArrayStays array.old array.new) }
+    ensures keeper_stays { IfErr result (λ _. KeeperStays keeper.old keeper.new) }
 {
     let step = block_step(alloc, store, keeper, array, block)?;
     // the header behind the block is the block's, so the body isn't hashed once more

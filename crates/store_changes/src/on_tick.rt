@@ -2,7 +2,7 @@
 //!
 //! The time comes from `fork_store`; the checkpoints and the boost of a store follow it, and the array follows these.
 
-ghost use Rattle.std.specs.Prelude.{◌≡◌, ◌⊎◌};
+ghost use Rattle.std.specs.Prelude.{◌≡◌, ◌⊎◌, IfErr};
 ghost use Rattle.bc_words.specs.Outcome.{ChangesOrRefuses};
 ghost use Rattle.spec_fork_choice.specs.OnTick.{is_better_justified, in_new_epoch, in_new_slot, on_tick};
 ghost use Rattle.store_parts.specs.inside.Arrays.{AreNodesOf, IsArrayOf};
@@ -113,6 +113,7 @@ pub fn on_tick(
     ensures config { store.new.config ≡ store.old.config }
     ensures blocks { store.new.blocks ≡ store.old.blocks }
     ensures unset { store.new.justified_checkpoint ≡ store.old.justified_checkpoint → array.new.balances_set ≡ array.old.balances_set }
+    ensures stays { IfErr result (λ _. array.new ≡ array.old) }
 {
     let before = told_of(store);
     tick(store, array, time)?;

@@ -1,6 +1,6 @@
 //! The votes of an attestation (fork-choice.md, "update_latest_messages").
 
-ghost use Rattle.std.specs.Prelude.{◌≡◌, true};
+ghost use Rattle.std.specs.Prelude.{◌≡◌, true, IfErr};
 ghost use Rattle.bc_words.specs.Outcome.{Becomes};
 ghost use Rattle.spec_fork_choice.specs.Store.{is_kept};
 ghost use Rattle.spec_fork_choice.specs.UpdateLatestMessages.{update_latest_messages};
@@ -14,8 +14,8 @@ use store_parts::ready_balances::ReadyBalances;
 use store_parts::store_fields::StoreFields;
 use store_parts::vote_all::{places_for, vote_all};
 
-/// Takes the attestation's vote for each of these validators to whom it is news. Where memory is refused, the store is as
-/// before: all room is made first.
+/// Takes the attestation's vote for each of these validators to whom it is news. Where memory is refused, the store and its array
+/// are as before: all room is made first.
 pub(crate) fn update_latest_messages(
     store: &mut StoreFields,
     array: &mut BlockArray,
@@ -30,6 +30,7 @@ pub(crate) fn update_latest_messages(
     ensures unset { array.new.balances_set ≡ array.old.balances_set }
     ensures config { store.new.config ≡ store.old.config }
     ensures blocks { store.new.blocks ≡ store.old.blocks }
+    ensures stays { IfErr result (λ _. array.new ≡ array.old) }
 {
     store.is_sound();
     let voted = &attestation.content;

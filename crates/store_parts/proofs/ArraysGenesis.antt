@@ -9,7 +9,7 @@ use Rattle.block_array.specs.Calls.{new_array, with_balances}
 use Rattle.spec_state.specs.declared.plain.PlainState.{PlainState}
 use Rattle.spec_state.specs.Genesis.{zero_root}
 use Rattle.spec_fork_choice.specs.Store.{KeptBlock, block_of, is_kept}
-use Rattle.spec_fork_choice.specs.Clash.{place_of, clash_of}
+use Rattle.spec_fork_choice.specs.Clash.{place_of, clash_with, clash_of}
 use Rattle.spec_fork_choice.specs.GetForkchoiceStore.{genesis_block, get_forkchoice_store}
 use Rattle.spec_fork_choice.specs.OnEvent.{genesis_clash}
 use Rattle.spec_fork_choice.specs.StoreTargetCheckpointState.{store_target_checkpoint_state}
@@ -23,7 +23,7 @@ unclashed_by false rest kind h = refl
 
 pub unclashed_root : (blocks : List KeptBlock) (root state_root : List ℕ) (block : BeaconBlock) → clash_of blocks root state_root block ≡ None
     → same_root root zero_root ≡ false
-unfolding clash_of
+unfolding clash_of clash_with
 unclashed_root blocks root state_root block h = unclashed_by (same_root root zero_root) _ _ h
 
 one_number : (kept : KeptBlock) → number_of (kept ∷ []) kept.root ≡ Some 0

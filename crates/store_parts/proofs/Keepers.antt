@@ -21,7 +21,7 @@ use Rattle.spec_state.specs.Soundness.{IsSound}
 use Rattle.spec_transition.specs.ProcessSlots.{Stepped}
 use Rattle.spec_transition.specs.StateTransition.{IsLatest, state_transition}
 use Rattle.spec_fork_choice.specs.Store.{KeptBlock, Store, block_of, is_kept, slot_of}
-use Rattle.spec_fork_choice.specs.Clash.{place_of, clash_of}
+use Rattle.spec_fork_choice.specs.Clash.{place_of, clash_with, clash_of}
 use Rattle.spec_fork_choice.specs.Slots.{start_slot_of}
 use Rattle.spec_fork_choice.specs.GetForkchoiceStore.{genesis_block, get_forkchoice_store}
 use Rattle.spec_fork_choice.specs.OnEvent.{genesis_clash}
@@ -30,7 +30,7 @@ use Rattle.state_keeper.specs.Chain.{ChainBlock, Kept, HasState}
 use Rattle.store_parts.specs.ChainStep.{CanStep, chain_step}
 use Rattle.store_parts.specs.inside.Accepted.{kept_of, settled}
 use Rattle.store_parts.specs.inside.Arrays.{number_of}
-use Rattle.store_parts.specs.inside.Keepers.{kept_block, kept_blocks, IsKeeperOf, IsStateBehind, IsStepOn, clash_with}
+use Rattle.store_parts.specs.inside.Keepers.{kept_block, kept_blocks, IsKeeperOf, IsStateBehind, IsStepOn}
 use Rattle.store_parts.specs.inside.Roots.{roots_of}
 use Rattle.store_parts.specs.inside.Stores.{IsRootOf, IsKept, HasPreset}
 use Rattle.store_parts.proofs.ChainBlocks.{found_root}
@@ -45,7 +45,7 @@ some_mapped f None y is = absurd (none-some y is)
 some_mapped f (Some x) y is = (x, refl, same_Some (f x) y is)
 
 module _ (ks : List (ChainBlock SignedBeaconBlock)) (blocks : List KeptBlock) (same : kept_blocks ks ≡ blocks) where
-  length_held : length ks ≡ length blocks
+  pub length_held : length ks ≡ length blocks
   unfolding kept_blocks
   length_held = sym (length-map ks kept_block) ∙ ap length same
 
@@ -104,7 +104,7 @@ slot_unread blocks root is = ap (λ (o : Option KeptBlock). option_map_or (λ k.
 pub ruleset slotting = (slot_read, slot_unread)
 
 pub clash_is : (blocks : List KeptBlock) (root state_root : List ℕ) (block : BeaconBlock) (kept : Option BeaconBlock) (place : ℕ) → kept ≡ option_map (λ (k : KeptBlock). k.block) (block_of blocks root) → place ≡ place_of blocks root → clash_with kept place root state_root block ≡ clash_of blocks root state_root block
-unfolding clash_with clash_of
+unfolding clash_of
 clash_is blocks root state_root block kept place is at =
     ap (λ (o : Option BeaconBlock). clash_with o place root state_root block) is
     ∙ ap (λ n. clash_with (option_map (λ (k : KeptBlock). k.block) (block_of blocks root)) n root state_root block) at

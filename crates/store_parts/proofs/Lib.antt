@@ -37,3 +37,4 @@ pub mod CheckpointStates
 pub mod Keepers
 pub mod Stepping
 pub mod Again
+pub mod Rooms

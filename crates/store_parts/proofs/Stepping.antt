@@ -36,7 +36,7 @@ module _ (store : Store) (block : SignedBeaconBlock) where
   finalized_slot = start_slot_of store store.finalized_checkpoint
 
   -- by a parent that is found
-  on_parent : (kept : KeptBlock) → block_of store.blocks block.message.parent_root ≡ Some kept → bind (check_block store block.message) (λ _. state_transition kept.state block store.config) ≡ block_step store block
+  pub on_parent : (kept : KeptBlock) → block_of store.blocks block.message.parent_root ≡ Some kept → bind (check_block store block.message) (λ _. state_transition kept.state block store.config) ≡ block_step store block
   unfolding check_block block_step kept_or
   on_parent kept is =
       let step : Unit {0} → Outcome Stepped = λ _. state_transition kept.state block store.config in

@@ -21,7 +21,7 @@ use Rattle.spec_blocks.proofs.Done.{on_the_way, check_holds, same_value}
 use Rattle.spec_transition.specs.ProcessSlots.{Stepped, process_slots}
 use Rattle.spec_transition.specs.StateTransition.{IsLatest, state_transition}
 use Rattle.spec_fork_choice.specs.Store.{KeptBlock}
-use Rattle.spec_fork_choice.specs.Clash.{clash_of}
+use Rattle.spec_fork_choice.specs.Clash.{clash_with, clash_of}
 use Rattle.spec_fork_choice.specs.GetForkchoiceStore.{genesis_block}
 use Rattle.spec_fork_choice.specs.OnEvent.{genesis_clash}
 use Rattle.transition.proofs.Genesis.{genesis_sound}
@@ -47,7 +47,7 @@ other false first rest h = (refl, h)
 
 -- where nothing clashes, the state root isn't zero
 no_clash : (blocks : List KeptBlock) (root state_root : List ℕ) (block : BeaconBlock) → clash_of blocks root state_root block ≡ None → same_root state_root zero_root ≡ false
-unfolding clash_of
+unfolding clash_of clash_with
 no_clash blocks root state_root block none = (other (same_root state_root zero_root) _ _ (other (same_root root zero_root) _ _ none).1).0
 
 -- so that the state behind a block may be kept with it
@@ -100,8 +100,3 @@ genesis_is_kept s root good none is =
       low = omega arith;
       some = no_clash [] _ _ _ none;
     }
-
--- nor is the block's root
-pub is_named : (blocks : List KeptBlock) (root state_root : List ℕ) (block : BeaconBlock) → clash_of blocks root state_root block ≡ None → same_root root zero_root ≡ false
-unfolding clash_of
-is_named blocks root state_root block none = (other (same_root root zero_root) _ _ none).0

@@ -1,2 +1,3 @@
 pub mod ChainStep
+pub mod KeptSteps
 pub mod inside

@@ -16,3 +16,4 @@ pub mod Wholes
 pub mod Following
 pub mod CheckpointStates
 pub mod Keepers
+pub mod Rooms

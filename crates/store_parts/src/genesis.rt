@@ -9,9 +9,9 @@ ghost use Rattle.store_parts.specs.inside.Keepers.{kept_blocks};
 ghost use Rattle.store_parts.specs.inside.Stores.{IsRootOf};
 
 use crate::chain_stepper::ChainStepper;
-use crate::clash_of::clash_with;
 use crate::copies::default_block_body;
 use crate::kept_blocks::KeptBlocks;
+use crate::root_clash::clash_with;
 use crate::store_fields::StoreFields;
 use bc_preset::Config;
 use bc_words::{ClashKind, NoMemory};
@@ -46,7 +46,7 @@ pub fn genesis_clash(genesis: &State, block: &BeaconBlock, root: Root) -> Option
     ensures { result ≡ genesis_clash genesis.now }
 {
     let _state = genesis;
-    clash_with(None, 0, root, block)
+    clash_with(None, 0, root, block.state_root, block)
 }
 
 /// The keeper whose one block is that of genesis. Nobody signed it, so that its signature is all zero.

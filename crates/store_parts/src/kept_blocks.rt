@@ -2,7 +2,7 @@
 //!
 //! Blocks come from the handlers of the store, and go with their states to the keeper; a root is looked up here.
 
-ghost use Rattle.std.specs.Prelude.{◌≡◌, ◌<◌, ◌≤◌, ◌-◌, ◌^◌, ◌∷◌, ◌++◌, [], false, length, Some, IfOk, OnOk};
+ghost use Rattle.std.specs.Prelude.{◌≡◌, ◌<◌, ◌≤◌, ◌-◌, ◌^◌, ◌∷◌, ◌++◌, [], false, length, Some, IfErr, IfOk, OnOk};
 ghost use Rattle.std.specs.List.{AllByRecursion};
 ghost use Rattle.bc_words.specs.Outcome.{Becomes};
 ghost use Rattle.indexmap.specs.IndexSet.{spare, IsUnchanged};
@@ -129,6 +129,7 @@ impl KeptBlocks {
         ensures blocks { Becomes result self.old self.new (self.old ++ kept_of root block.message state ∷ []) }
         ensures keeper { kept_blocks keeper.new.blocks ≡ self.new }
         ensures stepper { keeper.new.stepper ≡ keeper.old.stepper }
+        ensures stays { IfErr result (λ _. keeper.new.blocks ≡ keeper.old.blocks) }
     {
         make_room(&mut self.roots, keeper)?;
         let _number = keeper.add(parent, block, state);

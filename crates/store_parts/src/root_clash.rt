@@ -4,8 +4,9 @@
 ghost use Rattle.std.specs.Prelude.{◌≡◌, option_map};
 ghost use Rattle.std.specs.Bool.{Decides};
 ghost use Rattle.spec_fork_choice.specs.SameBlock.{same_block as same_blocks};
-ghost use Rattle.spec_fork_choice.specs.Clash.{clashes, is_another as another};
+ghost use Rattle.spec_fork_choice.specs.Clash.{clash_with, clashes, is_another as another};
 
+use bc_words::ClashKind;
 use beacon_body::BeaconBlock;
 use hash_tree::Root;
 
@@ -15,12 +16,36 @@ use hash_tree::Root;
 pub fn clash(root: Root, state_root: Root, kept: Option<&BeaconBlock>, new: &BeaconBlock) -> bool
     ensures { result ≡ clashes root state_root (option_map (λ b. b.now) kept.entry) new.now }
 {
-    root == [0; 32] || state_root == [0; 32] || is_another(kept, new)
+    clash_with(kept, 0, root, state_root, new).is_some()
+}
+
+/// How a block with these roots clashes with the kept block of its root, whose place this is, if it does: its root is zero, or else
+/// its state root is, or else the kept block is another one.
+#[tactic(auto, unfolding(spec_fork_choice::specs::Clash::clash_with))]
+pub fn clash_with(
+    kept: Option<&BeaconBlock>,
+    place: u32,
+    root: Root,
+    state_root: Root,
+    new: &BeaconBlock,
+) -> Option<ClashKind>
+    ensures { result ≡ clash_with (option_map (λ b. b.now) kept.entry) place root state_root new.now }
+{
+    if root == [0; 32] {
+        return Some(ClashKind::ZeroBlock);
+    }
+    if state_root == [0; 32] {
+        return Some(ClashKind::ZeroState);
+    }
+    if is_another(kept, new) {
+        return Some(ClashKind::Kept(place));
+    }
+    None
 }
 
 /// Whether a kept block is there and is another one.
 #[tactic(auto, unfolding(spec_fork_choice::specs::Clash::is_another))]
-pub fn is_another(kept: Option<&BeaconBlock>, new: &BeaconBlock) -> bool
+fn is_another(kept: Option<&BeaconBlock>, new: &BeaconBlock) -> bool
     ensures { result ≡ another (option_map (λ b. b.now) kept.entry) new.now }
 {
     match kept {

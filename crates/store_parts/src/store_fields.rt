@@ -2,12 +2,13 @@
 //!
 //! They come from genesis, and the handlers of events change them.
 
-ghost use Rattle.std.specs.Prelude.{◌≡◌, ◌∷◌, ◌++◌, ◌≤◌, ◌<◌, ◌-◌, ◌^◌, [], length, Some, IfSome};
+ghost use Rattle.std.specs.Prelude.{◌≡◌, ◌∷◌, ◌++◌, ◌≤◌, ◌<◌, ◌-◌, ◌^◌, [], length, Some, IfErr, IfSome};
 ghost use Rattle.bc_words.specs.Outcome.{Becomes};
 ghost use Rattle.std.specs.List.{AllByRecursion};
 ghost use Rattle.bc_preset.specs.Presets.{IsPreset};
 ghost use Rattle.store_parts.specs.inside.Accepted.{kept_of};
 ghost use Rattle.store_parts.specs.inside.Keepers.{IsKeeperOf, IsStepOn};
+ghost use Rattle.store_parts.specs.inside.Rooms.{KeeperStays};
 ghost use Rattle.store_parts.specs.inside.Stores.{HasPreset, IsKept, IsStore};
 ghost use Rattle.store_parts.specs.inside.Trees.{Follows, IsTree};
 ghost use Rattle.spec_fork_choice.specs.Store.{is_kept};
@@ -234,7 +235,8 @@ impl StoreFields {
         self.boost_root = root;
     }
 
-    /// Keeps a block behind the others, in the keeper of these blocks. Where memory is refused, the store is as before.
+    /// Keeps a block behind the others, in the keeper of these blocks. Where memory is refused, the store is as before, and the keeper
+    /// but for its room.
     pub fn keep(
         &mut self,
         keeper: &mut Keeper<ChainStepper>,
@@ -252,6 +254,7 @@ impl StoreFields {
         requires step { IsStepOn self.old.config self.old.blocks block state }
         ensures kept { Becomes result self.old self.new (record self.old { blocks = self.old.blocks ++ kept_of root block.message state ∷ [] }) }
         ensures keeper { IsKeeperOf self.new keeper.new }
+        ensures stays { IfErr result (λ _. KeeperStays keeper.old keeper.new) }
     {
         self.blocks.push(keeper, parent, root, block, state)
     }

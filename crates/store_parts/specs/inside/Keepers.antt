@@ -1,17 +1,11 @@
 -- The keeper of a store's states: its blocks are the kept ones, in order.
-use Rattle.std.specs.Prelude.{◌≡◌, ℕ, ◌<◌, ◌^◌, List, length, map, Option, Some, None, if◌then◌else◌}
+use Rattle.std.specs.Prelude.{◌≡◌, ℕ, ◌<◌, ◌^◌, List, length, map, Some}
 use Rattle.bc_words.specs.Outcome.{done}
-use Rattle.bc_words.specs.declared.store_stop.ClashKind.{ClashKind}
-use Rattle.bc_words.specs.declared.store_stop.ClashKind.TheVariants.{ZeroBlock, ZeroState, Kept as KeptClash}
 use Rattle.bc_preset.specs.declared.configuration.ConfigValues.{ConfigValues}
-use Rattle.beacon_types.specs.Equality.{same_root}
 use Rattle.beacon_body.specs.Containers.{block_codec}
-use Rattle.beacon_body.specs.declared.block.BeaconBlock.{BeaconBlock}
 use Rattle.beacon_body.specs.declared.signed_block.SignedBeaconBlock.{SignedBeaconBlock}
 use Rattle.spec_state.specs.declared.plain.PlainState.{PlainState}
-use Rattle.spec_state.specs.Genesis.{zero_root}
 use Rattle.spec_fork_choice.specs.Store.{KeptBlock, Store, block_of}
-use Rattle.spec_fork_choice.specs.Clash.{is_another}
 use Rattle.state_keeper.specs.Chain.{ChainBlock, Kept}
 use Rattle.store_parts.specs.ChainStep.{CanStep, chain_step}
 use Rattle.store_parts.specs.inside.Stores.{IsKept}
@@ -42,11 +36,3 @@ pub record IsStepOn (config : ConfigValues) (blocks : List KeptBlock) (block : S
   pub found : block_of blocks block.message.parent_root ≡ Some parent
   pub can : CanStep config parent.state block
   pub step : chain_step config parent.state block ≡ done state
-
--- how a block with these roots clashes with the kept block of its root, whose place among the kept ones this is, if it does
-unfoldable pub clash_with : Option BeaconBlock → ℕ → List ℕ → List ℕ → BeaconBlock → Option ClashKind
-clash_with kept place root state_root block =
-    if same_root root zero_root then Some ZeroBlock
-    else if same_root state_root zero_root then Some ZeroState
-    else if is_another kept block then Some (KeptClash place)
-    else None

@@ -1,4 +1,4 @@
-use Rattle.std.proofs.Common.{◌≡◌, ◌∙◌, ℕ, ◌<◌, ◌^◌, sym, subst}
+use Rattle.std.proofs.Common.{◌≡◌, ◌∙◌, ℕ, ◌<◌, ◌^◌, refl, sym, subst}
 use Rattle.block_array.specs.declared.facts.Facts.{Facts}
 use Rattle.spec_fork_choice.specs.Slots.{start_slot_of}
 use Rattle.spec_fork_choice.specs.Store.{KeptBlock}
@@ -7,6 +7,7 @@ use Rattle.store_parts.specs.inside.Following.{AreGiven}
 use Rattle.store_parts.proofs.Keepers.{keeper_same, keeper_settled}
 use Rattle.store_parts.proofs.AcceptedBlocks.{settled_is_accepted, accepted_whole, again_whole, mid_few, mid_given, mid_kept, mid_known, mid_low, mid_ready}
 use Rattle.store_parts.proofs.Numbers.{justified_is_low}
+use Rattle.store_parts.proofs.Rooms.{keeper_behind, keeper_unchanged, stop_leaves}
 use Rattle.store_changes.proofs.accept_block.accept.Goals as goal
 
 pub returns-clause-exact : goal.returns-clause-exact
@@ -81,3 +82,16 @@ returns-in_err-keep_block-clause-keeper c = c.in_err-keep_block.ensures.keeper
 
 pub returns-in_err-keep_block-clause-unset : goal.returns-in_err-keep_block-clause-unset
 returns-in_err-keep_block-clause-unset c = λ _. c.in_err-keep_block.ensures.unset
+
+pub returns-in_err-given-clause-array_stays : goal.returns-in_err-given-clause-array_stays
+returns-in_err-given-clause-array_stays c = stop_leaves _ refl
+
+pub returns-in_err-given-clause-keeper_stays : goal.returns-in_err-given-clause-keeper_stays
+returns-in_err-given-clause-keeper_stays c = stop_leaves _ (keeper_unchanged c.args.keeper.now c.prepare.new.keeper c.in_err-given.ensures.same)
+
+pub returns-in_err-keep_block-clause-array_stays : goal.returns-in_err-keep_block-clause-array_stays
+returns-in_err-keep_block-clause-array_stays c = stop_leaves _ c.in_err-keep_block.ensures.array_stays
+
+pub returns-in_err-keep_block-clause-keeper_stays : goal.returns-in_err-keep_block-clause-keeper_stays
+returns-in_err-keep_block-clause-keeper_stays c =
+    stop_leaves _ (keeper_behind c.args.keeper.now c.prepare.new.keeper c.keep_block.new.keeper c.in_ok-given.ensures.same c.in_err-keep_block.ensures.keeper_stays)

@@ -11,6 +11,7 @@ use Rattle.store_parts.specs.inside.Stores.{IsKept}
 use Rattle.store_parts.specs.inside.Trees.{Follows}
 use Rattle.store_parts.proofs.Trees.{follows}
 use Rattle.store_parts.proofs.Adding.{few_nodes, parent_earlier, parent_numbered, parent_fits, node_added, spare_array, block_array, array_same}
+use Rattle.store_parts.proofs.Rooms.{array_spared, array_unchanged, stop_leaves}
 use Rattle.state_keeper.proofs.Made.{refused_as_before}
 use Rattle.store_changes.proofs.accept_block.add_block.Goals as goal
 
@@ -108,3 +109,21 @@ returns-in_err-keep-clause-exact c = refused_as_before c.from_residual-in_err-ke
 
 pub returns-clause-keeper : goal.returns-clause-keeper
 returns-clause-keeper c = c.keep.ensures.keeper
+
+pub returns-in_err-reserve-clause-array_stays : goal.returns-in_err-reserve-clause-array_stays
+returns-in_err-reserve-clause-array_stays c = stop_leaves _ (array_unchanged c.args.array.now c.reserve.new.self c.in_err-reserve.ensures)
+
+pub returns-in_err-copy-clause-array_stays : goal.returns-in_err-copy-clause-array_stays
+returns-in_err-copy-clause-array_stays c = stop_leaves _ (array_spared c.args.array.now c.reserve.new.self 0 c.in_ok-reserve.ensures)
+
+pub returns-in_err-keep-clause-array_stays : goal.returns-in_err-keep-clause-array_stays
+returns-in_err-keep-clause-array_stays c = stop_leaves _ (array_spared c.args.array.now c.reserve.new.self 0 c.in_ok-reserve.ensures)
+
+pub returns-in_err-reserve-clause-keeper_stays : goal.returns-in_err-reserve-clause-keeper_stays
+returns-in_err-reserve-clause-keeper_stays c = stop_leaves _ refl
+
+pub returns-in_err-copy-clause-keeper_stays : goal.returns-in_err-copy-clause-keeper_stays
+returns-in_err-copy-clause-keeper_stays c = stop_leaves _ refl
+
+pub returns-in_err-keep-clause-keeper_stays : goal.returns-in_err-keep-clause-keeper_stays
+returns-in_err-keep-clause-keeper_stays c = stop_leaves _ c.in_err-keep.ensures.stays

@@ -1,9 +1,10 @@
-use Rattle.std.proofs.Common.{◌≡◌, ◌∙◌, true, ap, rules, subst, sym}
+use Rattle.std.proofs.Common.{◌≡◌, ◌∙◌, true, ap, refl, rules, subst, sym}
 use Rattle.spec_fork_choice.specs.Store.{Store, is_kept}
 use Rattle.spec_fork_choice.specs.UpdateLatestMessages.{update_latest_messages}
 use Rattle.store_parts.specs.inside.Keepers.{IsKeeperOf}
 use Rattle.store_parts.specs.inside.Wholes.{IsWhole}
 use Rattle.store_parts.proofs.Keepers.{keeper_same, keeper_stays}
+use Rattle.store_parts.proofs.Rooms.{stop_leaves}
 use Rattle.store_parts.proofs.Votes.{attestation_done, voted_is_kept}
 use Rattle.store_parts.proofs.Walks.{whole_nodes}
 use Rattle.store_changes.proofs.on_attestation.on_attestation.Goals as goal
@@ -61,3 +62,18 @@ returns-in_err-update_latest_messages-clause-keeper c =
 
 pub returns-in_err-update_latest_messages-clause-unset : goal.returns-in_err-update_latest_messages-clause-unset
 returns-in_err-update_latest_messages-clause-unset c = c.in_err-update_latest_messages.ensures.unset
+
+pub returns-in_err-indices-clause-stays : goal.returns-in_err-indices-clause-stays
+returns-in_err-indices-clause-stays c = stop_leaves _ refl
+
+pub returns-in_err-update_latest_messages-clause-stays : goal.returns-in_err-update_latest_messages-clause-stays
+returns-in_err-update_latest_messages-clause-stays c = stop_leaves _ c.in_err-update_latest_messages.ensures.stays
+
+pub returns-in_err-indices-clause-same : goal.returns-in_err-indices-clause-same
+returns-in_err-indices-clause-same c = c.in_err-indices.ensures.keeper
+
+pub returns-in_err-update_latest_messages-clause-same : goal.returns-in_err-update_latest_messages-clause-same
+returns-in_err-update_latest_messages-clause-same c = c.in_ok-indices.ensures.keeper
+
+pub returns-clause-same : goal.returns-clause-same
+returns-clause-same c = c.in_ok-indices.ensures.keeper

@@ -14,7 +14,8 @@ use Rattle.store_parts.specs.inside.Stores.{IsBehind}
 use Rattle.store_parts.specs.inside.Trees.{HasParent}
 use Rattle.store_parts.specs.inside.Wholes.{IsWhole}
 use Rattle.store_parts.proofs.Keepers.{keeper_same}
-use Rattle.store_parts.proofs.Steps.{is_named}
+use Rattle.store_parts.proofs.ArraysGenesis.{unclashed_root}
+use Rattle.store_parts.proofs.Rooms.{keeper_behind, keeper_unchanged, stop_leaves}
 use Rattle.store_changes.proofs.on_block.accept_unless.Goals as goal
 
 pub accept-requires-clause-whole : goal.accept-requires-clause-whole
@@ -60,7 +61,7 @@ accept-requires-clause-preset c =
 
 pub accept-requires-clause-named : goal.accept-requires-clause-named
 accept-requires-clause-named c =
-    is_named c.args.store.now.blocks c.args.root c.args.block.now.message.state_root c.args.block.now.message
+    unclashed_root c.args.store.now.blocks c.args.root c.args.block.now.message.state_root c.args.block.now.message
     (sym (subst (λ (b : List KeptBlock). None ≡ clash_of b c.args.root c.args.block.now.message.state_root c.args.block.now.message) c.blocks-2.ensures c.in-None.ensures))
 
 pub returns-in_err-keep_justified-in-None-clause-whole : goal.returns-in_err-keep_justified-in-None-clause-whole
@@ -98,3 +99,23 @@ returns-in-Some-clause-exact c = (
   clash_is c.args.store.now c.args.block.now.message c.args.root c.args.step _ c.in-Some.kind
       (sym (subst (λ (b : List KeptBlock). Some c.in-Some.kind ≡ clash_of b c.args.root c.args.block.now.message.state_root c.args.block.now.message) c.blocks-2.ensures c.in-Some.ensures)),
 )
+
+pub returns-in_err-keep_justified-in-None-clause-array_stays : goal.returns-in_err-keep_justified-in-None-clause-array_stays
+returns-in_err-keep_justified-in-None-clause-array_stays c = stop_leaves _ refl
+
+pub returns-in_err-keep_justified-in-None-clause-keeper_stays : goal.returns-in_err-keep_justified-in-None-clause-keeper_stays
+returns-in_err-keep_justified-in-None-clause-keeper_stays c =
+    stop_leaves _ (keeper_unchanged c.args.keeper.now c.keep_justified.new.keeper c.in_err-keep_justified-in-None.ensures.keeper)
+
+pub returns-in_err-accept-in-None-clause-array_stays : goal.returns-in_err-accept-in-None-clause-array_stays
+returns-in_err-accept-in-None-clause-array_stays c = stop_leaves _ c.in_err-accept-in-None.ensures.array_stays
+
+pub returns-in_err-accept-in-None-clause-keeper_stays : goal.returns-in_err-accept-in-None-clause-keeper_stays
+returns-in_err-accept-in-None-clause-keeper_stays c =
+    stop_leaves _ (keeper_behind c.args.keeper.now c.keep_justified.new.keeper c.accept.new.keeper c.in_ok-keep_justified-in-None.ensures.keeper c.in_err-accept-in-None.ensures.keeper_stays)
+
+pub returns-in-Some-clause-array_stays : goal.returns-in-Some-clause-array_stays
+returns-in-Some-clause-array_stays c = refl
+
+pub returns-in-Some-clause-keeper_stays : goal.returns-in-Some-clause-keeper_stays
+returns-in-Some-clause-keeper_stays c = refl

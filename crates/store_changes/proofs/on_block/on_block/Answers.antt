@@ -1,5 +1,7 @@
-use Rattle.std.proofs.Common.{refl}
+use Rattle.std.proofs.Common.{IfErr, refl, subst}
+use Rattle.store_parts.specs.inside.Rooms.{KeeperStays}
 use Rattle.store_parts.proofs.Keepers.{keeper_same}
+use Rattle.store_parts.proofs.Rooms.{keeper_behind, keeper_unchanged, stop_leaves}
 use Rattle.store_parts.proofs.Walks.{whole_nodes}
 use Rattle.store_changes.proofs.on_block.on_block.Goals as goal
 
@@ -53,3 +55,15 @@ returns-clause-keeper c = c.accept_unless.ensures.keeper
 
 pub returns-clause-unset : goal.returns-clause-unset
 returns-clause-unset c = c.accept_unless.ensures.unset
+
+pub returns-in_err-step-clause-array_stays : goal.returns-in_err-step-clause-array_stays
+returns-in_err-step-clause-array_stays c = stop_leaves _ refl
+
+pub returns-in_err-step-clause-keeper_stays : goal.returns-in_err-step-clause-keeper_stays
+returns-in_err-step-clause-keeper_stays c = stop_leaves _ (keeper_unchanged c.args.keeper.now c.block_step.new.keeper c.in_err-step.ensures.same)
+
+pub returns-clause-array_stays : goal.returns-clause-array_stays
+returns-clause-array_stays c = c.accept_unless.ensures.array_stays
+
+pub returns-clause-keeper_stays : goal.returns-clause-keeper_stays
+returns-clause-keeper_stays c = subst (λ k. IfErr c.accept_unless.result (λ _. KeeperStays k c.accept_unless.new.keeper)) c.in_ok-step.ensures.same c.accept_unless.ensures.keeper_stays

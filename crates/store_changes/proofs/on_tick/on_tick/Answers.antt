@@ -1,7 +1,8 @@
-use Rattle.std.proofs.Common.{◌∙◌, ap, subst, sym}
+use Rattle.std.proofs.Common.{◌∙◌, ap, refl, subst, sym}
 use Rattle.spec_fork_choice.specs.Store.{Store}
 use Rattle.store_parts.specs.declared.follow.Told.{Told}
 use Rattle.store_parts.specs.inside.Wholes.{IsWhole}
+use Rattle.store_parts.proofs.Rooms.{stop_leaves}
 use Rattle.store_parts.proofs.Ticks.{tick_array, tick_best, tick_kept, tick_moved, tick_ready, tick_whole}
 use Rattle.store_parts.proofs.Walks.{whole_nodes}
 use Rattle.store_changes.proofs.on_tick.on_tick.Goals as goal
@@ -37,3 +38,6 @@ returns-clause-whole c =
 
 pub returns-clause-unset : goal.returns-clause-unset
 returns-clause-unset c = λ is. c.follow_tick.ensures.unset (is ∙ sym (ap (λ (t : Told). t.justified) c.told_of-before.ensures))
+
+pub returns-in_err-tick-clause-stays : goal.returns-in_err-tick-clause-stays
+returns-in_err-tick-clause-stays c = stop_leaves _ refl

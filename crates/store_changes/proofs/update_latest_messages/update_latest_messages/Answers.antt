@@ -1,8 +1,9 @@
-use Rattle.std.proofs.Common.{◌∙◌, ◌<◌, ◌^◌, List, length, ap, subst, sym}
+use Rattle.std.proofs.Common.{◌∙◌, ◌<◌, ◌^◌, List, length, ap, refl, subst, sym}
 use Rattle.block_array.specs.PlainArray.{PlainArray}
 use Rattle.spec_fork_choice.specs.Store.{KeptBlock, Store}
 use Rattle.store_parts.proofs.Following.{kept_number}
 use Rattle.store_parts.proofs.Voting.{store_voted, array_voted, votes_whole, votes_unset, voter_fits, voters_fit, same_array}
+use Rattle.store_parts.proofs.Rooms.{stop_leaves}
 use Rattle.store_changes.proofs.update_latest_messages.update_latest_messages.Goals as goal
 
 pub returns-clause-exact : goal.returns-clause-exact
@@ -46,3 +47,9 @@ returns-clause-config c = ap (λ (s : Store). s.config) c.take_votes.ensures
 
 pub returns-clause-blocks : goal.returns-clause-blocks
 returns-clause-blocks c = ap (λ (s : Store). s.blocks) c.take_votes.ensures
+
+pub returns-in_err-places-clause-stays : goal.returns-in_err-places-clause-stays
+returns-in_err-places-clause-stays c = stop_leaves _ refl
+
+pub returns-in_err-reserve-clause-stays : goal.returns-in_err-reserve-clause-stays
+returns-in_err-reserve-clause-stays c = stop_leaves _ c.in_err-reserve.ensures

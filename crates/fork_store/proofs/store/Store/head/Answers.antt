@@ -1,4 +1,4 @@
-use Rattle.std.proofs.Common.{◌≡◌, subst}
+use Rattle.std.proofs.Common.{◌≡◌, ap, subst}
 use Rattle.block_array.specs.Calls.{made}
 use Rattle.spec_fork_choice.specs.GetHead.{get_head}
 use Rattle.fork_store.specs.inside.Seen.{Seen}
@@ -16,3 +16,6 @@ returns-clause-root g c = subst (λ (s : Seen). c.get_head.result ≡ get_head s
 
 pub returns-clause-applied : goal.returns-clause-applied
 returns-clause-applied g c = subst (λ (s : Seen). c.get_head.new.array ≡ made s.array) c.self.view_is c.get_head.ensures.applied
+
+pub returns-clause-keeper : goal.returns-clause-keeper
+returns-clause-keeper g c = ap (λ (s : Seen). s.keeper) c.self.view_is

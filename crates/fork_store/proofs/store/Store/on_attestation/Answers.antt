@@ -3,6 +3,7 @@ use Rattle.bc_words.specs.Events.{StoreChanges}
 use Rattle.spec_fork_choice.specs.OnAttestation.{on_attestation}
 use Rattle.store_parts.specs.inside.Votes.{event_of}
 use Rattle.fork_store.specs.inside.Seen.{Seen}
+use Rattle.fork_store.proofs.Stays.{vote_stays}
 use Rattle.fork_store.proofs.store.Store.on_attestation.Goals as goal
 
 pub on_attestation-requires-clause-whole : goal.on_attestation-requires-clause-whole
@@ -20,3 +21,11 @@ returns-clause-exact c =
 
 pub returns-clause-unset : goal.returns-clause-unset
 returns-clause-unset c = c.on_attestation.ensures.unset ∙ ap (λ (s : Seen). s.array.balances_set) c.self.view_is
+
+pub returns-clause-stays : goal.returns-clause-stays
+returns-clause-stays c =
+    vote_stays c.self.inside.fields c.on_attestation.new.store c.self.inside.array c.on_attestation.new.array c.self.inside.keeper c.on_attestation.new.keeper c.args.self.now c.self.view_is
+    c.on_attestation.result (event_of (on_attestation c.self.inside.fields c.args.attestation.now c.args.from_block)) c.on_attestation.ensures.exact c.on_attestation.ensures.stays c.on_attestation.ensures.same
+
+pub returns-clause-keeper : goal.returns-clause-keeper
+returns-clause-keeper c = c.on_attestation.ensures.same ∙ ap (λ (s : Seen). s.keeper) c.self.view_is

@@ -2,6 +2,7 @@ use Rattle.std.proofs.Common.{◌≡◌, ◌<◌, ◌-◌, ◌^◌, length, subs
 use Rattle.spec_fork_choice.specs.OnBlock.{on_block}
 use Rattle.store_parts.specs.inside.Accepts.{Accepts}
 use Rattle.fork_store.specs.inside.Seen.{Seen}
+use Rattle.fork_store.proofs.Stays.{block_stays}
 use Rattle.fork_store.proofs.store.Store.on_block.Goals as goal
 
 pub on_block-requires-clause-whole : goal.on_block-requires-clause-whole
@@ -22,3 +23,8 @@ returns-clause-exact c = subst (λ (s : Seen). Accepts c.on_block.result s.plain
 pub returns-clause-unset : goal.returns-clause-unset
 returns-clause-unset c =
     subst (λ (s : Seen). c.on_block.new.store.justified_checkpoint ≡ s.plain.justified_checkpoint → c.on_block.new.array.balances_set ≡ s.array.balances_set) c.self.view_is c.on_block.ensures.unset
+
+pub returns-clause-stays : goal.returns-clause-stays
+returns-clause-stays c =
+    block_stays c.self.inside.fields c.on_block.new.store c.self.inside.array c.on_block.new.array c.self.inside.keeper c.on_block.new.keeper c.args.self.now c.self.view_is
+    c.on_block.result (on_block c.self.inside.fields c.args.block.now) c.on_block.ensures.exact c.on_block.ensures.array_stays c.on_block.ensures.keeper_stays

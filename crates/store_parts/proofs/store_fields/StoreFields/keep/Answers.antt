@@ -7,6 +7,7 @@ use Rattle.store_parts.specs.inside.Keepers.{IsStepOn}
 use Rattle.store_parts.specs.inside.Plain.{plain_of}
 use Rattle.store_parts.specs.inside.Trees.{Follows}
 use Rattle.store_parts.proofs.Keepers.{becomes_store, few_after}
+use Rattle.store_parts.proofs.Rooms.{keeper_spared}
 use Rattle.store_parts.proofs.Trees.{kept_store}
 use Rattle.store_parts.proofs.CheckpointStates.{states_stay}
 use Rattle.store_parts.proofs.store_fields.StoreFields.keep.Goals as goal
@@ -48,3 +49,6 @@ returns-clause-keeper c = record {
   few = few_after c.push.result c.self.inside.blocks c.push.new.self (kept_of c.args.root c.args.block.message c.args.state) c.push.ensures.blocks
       (subst (λ (s : Store). length s.blocks < 2 ^ 32 - 1) (sym c.self.view_is) c.requires.few);
 }
+
+pub returns-clause-stays : goal.returns-clause-stays
+returns-clause-stays c = keeper_spared c.push.result c.args.keeper.now c.push.new.keeper c.push.ensures.stepper c.push.ensures.stays
