@@ -1,49 +1,33 @@
--- What a handler leaves after a stop.
-use Rattle.std.proofs.Common.{◌≡◌, ◌∙◌, Bool, Result, Ok, Err, IfErr, refl, sym, ap, subst}
-use Rattle.bc_words.specs.Events.{EventOutcome, StoreChanges}
-use Rattle.bc_words.specs.Outcome.{Outcome, ChangesOrRefuses}
-use Rattle.bc_words.specs.declared.refusal.Refusal.{Refusal}
-use Rattle.bc_words.specs.declared.store_stop.StoreStop.{StoreStop}
+-- What made room for more, and nothing else.
+use Rattle.std.proofs.Common.{◌≡◌, ◌∙◌, ℕ, List, Result, Ok, Err, IfErr, refl, sym, ap, subst}
 use Rattle.bc_preset.specs.declared.configuration.ConfigValues.{ConfigValues}
 use Rattle.beacon_body.specs.declared.signed_block.SignedBeaconBlock.{SignedBeaconBlock}
 use Rattle.block_array.specs.PlainArray.{PlainArray}
-use Rattle.spec_fork_choice.specs.Store.{Store}
-use Rattle.state_keeper.specs.Chain.{Kept}
-use Rattle.store_parts.specs.inside.Accepts.{Accepts}
-use Rattle.store_parts.specs.inside.Rooms.{ArrayStays, KeeperStays}
-use Rattle.fork_store.specs.inside.Seen.{Seen, StoreStays}
+use Rattle.block_array.specs.Calls.{with_spare}
+use Rattle.state_keeper.specs.Chain.{ChainBlock, Kept}
+use Rattle.fork_store.specs.Stays.{ArrayStays, KeeperStays}
 
--- the same store stays, and its mark
-pub same_stays : (old new : Seen) → new ≡ old → StoreStays old new
-same_stays old new is = subst (StoreStays old) (sym is) (record { plain = refl; array = refl; keeper = refl })
+pub array_unchanged : (old new : PlainArray) → new ≡ old → ArrayStays old new
+array_unchanged old new is = subst (ArrayStays old) (sym is) refl
 
-pub store_unchanged : (s : Seen) → StoreStays s s
-store_unchanged s = same_stays s s refl
+pub array_spared : (old new : PlainArray) (validators : ℕ) → new ≡ with_spare old validators → ArrayStays old new
+array_spared old new validators is = subst (ArrayStays old) (sym is) refl
 
-pub mark_unchanged : {P : Type 0} (mark : Bool) → P → mark ≡ mark
-mark_unchanged mark p = refl
+pub keeper_unchanged : (old new : Kept ConfigValues SignedBeaconBlock) → new ≡ old → KeeperStays old new
+keeper_unchanged old new is = subst (KeeperStays old) (sym is) refl
 
-pub ruleset unchanged = (store_unchanged, mark_unchanged)
+-- behind a step that left the keeper as it was
+pub keeper_behind : (old mid new : Kept ConfigValues SignedBeaconBlock) → mid ≡ old → KeeperStays mid new → KeeperStays old new
+keeper_behind old mid new same is = subst (λ k. KeeperStays k new) same is
 
-module _ (old new : Store) (a b : PlainArray) (k l : Kept ConfigValues SignedBeaconBlock) (s : Seen) (seen : record { plain = old; array = a; keeper = k } ≡ s) where
-  abbrev after : Seen
-  after = record { plain = new; array = b; keeper = l }
+-- which takes the same steps, and has the same blocks after a stop
+pub keeper_spared : {U E : Type 0} (result : Result U E) (old new : Kept ConfigValues SignedBeaconBlock) → new.stepper ≡ old.stepper → IfErr result (λ _. new.blocks ≡ old.blocks) → IfErr result (λ _. KeeperStays old new)
+keeper_spared (Ok x) old new stepper blocks = tt
+keeper_spared (Err stop) old new stepper blocks =
+    ap (λ (p : ConfigValues). record { stepper = p; blocks = new.blocks; spare = new.spare }) stepper
+    ∙ ap (λ (bs : List (ChainBlock SignedBeaconBlock)). record { stepper = old.stepper; blocks = bs; spare = new.spare }) blocks
 
-  all_same : new ≡ old → b ≡ a → l ≡ k → after ≡ s
-  all_same plain array keeper =
-      ap (λ (p : Store). record { plain = p; array = b; keeper = l }) plain
-      ∙ ap (λ (x : PlainArray). record { plain = old; array = x; keeper = l }) array
-      ∙ ap (λ (x : Kept ConfigValues SignedBeaconBlock). record { plain = old; array = a; keeper = x }) keeper
-      ∙ seen
-
-  pub tick_stays : {U : Type 0} (result : Result U Refusal) (outcome : Outcome Store) → ChangesOrRefuses result old new outcome → IfErr result (λ _. b ≡ a) → l ≡ k → IfErr result (λ _. after ≡ s)
-  tick_stays (Ok x) outcome is array keeper = tt
-  tick_stays (Err why) outcome is array keeper = all_same is.0 array keeper
-
-  pub vote_stays : {U : Type 0} (result : Result U StoreStop) (outcome : EventOutcome Store) → StoreChanges result old new outcome → IfErr result (λ _. b ≡ a) → l ≡ k → IfErr result (λ _. after ≡ s)
-  vote_stays (Ok x) outcome is array keeper = tt
-  vote_stays (Err stop) outcome is array keeper = all_same is.0 array keeper
-
-  pub block_stays : {A : Type 0} (result : Result A StoreStop) (outcome : EventOutcome (Store × A)) → Accepts result old new outcome → IfErr result (λ _. ArrayStays a b) → IfErr result (λ _. KeeperStays k l) → IfErr result (λ _. StoreStays s after)
-  block_stays (Ok x) outcome is array keeper = tt
-  block_stays (Err stop) outcome is array keeper = subst (λ (x : Seen). StoreStays x after) seen (record { plain = is.0; array = array; keeper = keeper })
+-- what holds is left by a stop
+pub stop_leaves : {U E P : Type 0} (result : Result U E) → P → IfErr result (λ _. P)
+stop_leaves (Ok x) p = tt
+stop_leaves (Err stop) p = p

@@ -1,6 +1,6 @@
 use Rattle.spec_fork_choice.specs.OnAttestation.{on_attestation}
-use Rattle.store_parts.proofs.Events.{vote_stops}
-use Rattle.fork_store.proofs.Stays.{same_stays}
+use Rattle.fork_store.proofs.Events.{vote_stops}
+use Rattle.fork_store.proofs.StoreStays.{same_stays}
 use Rattle.fork_store.proofs.on_event.take_attestation.Goals as goal
 
 pub returns-in-Err-clause-exact : goal.returns-in-Err-clause-exact

@@ -1,6 +1,6 @@
 use Rattle.spec_fork_choice.specs.OnTick.{on_tick}
-use Rattle.store_parts.proofs.Events.{tick_refused}
-use Rattle.fork_store.proofs.Stays.{same_stays}
+use Rattle.fork_store.proofs.Events.{tick_refused}
+use Rattle.fork_store.proofs.StoreStays.{same_stays}
 use Rattle.fork_store.proofs.on_event.take_tick.Goals as goal
 
 pub returns-in-Err-clause-exact : goal.returns-in-Err-clause-exact

@@ -1,19 +1,13 @@
 use Rattle.std.proofs.Common.{◌∙◌, ap, subst}
 use Rattle.bc_words.specs.Events.{StoreChanges}
 use Rattle.spec_fork_choice.specs.OnAttestation.{on_attestation}
-use Rattle.store_parts.specs.inside.Votes.{event_of}
-use Rattle.fork_store.specs.inside.Seen.{Seen}
-use Rattle.fork_store.proofs.Stays.{vote_stays}
+use Rattle.fork_store.specs.inside.Votes.{event_of}
+use Rattle.fork_store.specs.Seen.{Seen}
+use Rattle.fork_store.proofs.StoreStays.{vote_stays}
 use Rattle.fork_store.proofs.store.Store.on_attestation.Goals as goal
 
-pub on_attestation-requires-clause-whole : goal.on_attestation-requires-clause-whole
-on_attestation-requires-clause-whole c = c.self.invariant.0
-
-pub on_attestation-requires-clause-keeper : goal.on_attestation-requires-clause-keeper
-on_attestation-requires-clause-keeper c = c.self.invariant.1
-
 pub invariant_of-self : goal.invariant_of-self
-invariant_of-self c = (c.on_attestation.ensures.whole, c.on_attestation.ensures.keeper)
+invariant_of-self c = c.on_attestation.ensures.parts
 
 pub returns-clause-exact : goal.returns-clause-exact
 returns-clause-exact c =
@@ -29,3 +23,6 @@ returns-clause-stays c =
 
 pub returns-clause-keeper : goal.returns-clause-keeper
 returns-clause-keeper c = c.on_attestation.ensures.same ∙ ap (λ (s : Seen). s.keeper) c.self.view_is
+
+pub on_attestation-requires : goal.on_attestation-requires
+on_attestation-requires c = record { parts = c.self.invariant }

@@ -1,3 +1,0 @@
-pub mod ChainStep
-pub mod KeptSteps
-pub mod inside
