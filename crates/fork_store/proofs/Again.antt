@@ -51,7 +51,7 @@ entered_in (event_limited bound) = []
 entered_in (event_clashes kind) = []
 
 entered_by : (store new : Store) (block : BeaconBlock) (root : List ℕ) (step : Stepped) (clash : Option ClashKind) (left : BlockIn) → accept_block store block root step clash ≡ accepted (new, left) → left.entered ≡ step.entered
-unfolding accept_block
+unfolding accept_block entered_in
 entered_by store new block root step (Some kind) left is = absurd cc
 entered_by store new block root step None left is = sym (ap entered_in is)
 
