@@ -1,7 +1,8 @@
 //! The record of a run: each event is read, handed to the store, and answered by a line.
 
-ghost use Rattle.std.specs.Prelude.{◌≡◌, ◌≢◌, ◌<◌, ◌≤◌, ◌+◌, ◌-◌, ◌^◌, [], ◌∷◌, length, Some, IfSome, IfNone, IfOk, IfErr, Ok};
+ghost use Rattle.std.specs.Prelude.{◌≡◌, ◌≢◌, ◌<◌, ◌≤◌, ◌+◌, ◌-◌, ◌^◌, [], ◌∷◌, length, true, Some, IfSome, IfNone, IfOk, IfErr, Ok};
 ghost use Rattle.spec_replay.specs.Run.{with_record};
+ghost use Rattle.record_file.specs.Record.{is_kind};
 ghost use Rattle.record_file.specs.Sources.{IsOpenedFile};
 ghost use Rattle.beacon_node.specs.Answers.{OutsideKeeps, Replayed, taken_of};
 ghost use Rattle.beacon_node.specs.inside.Statuses.{unwritten, no_frame};
@@ -29,7 +30,7 @@ fn line_or_status(line: Result<Vec<u8>, NoMemory>) -> Result<Vec<u8>, Status>
 }
 
 /// Hands the event to the store, and makes its line. The status where the event ends the run.
-#[tactic(auto, using(spec_fork_choice::proofs::Grows::event_keeps_one_more), unfolding(spec_replay::specs::Run::event_then))]
+#[tactic(auto, using(spec_fork_choice::proofs::Grows::event_keeps_one_more, record_file::proofs::Supplying::kind_first, record_file::proofs::Supplying::kind_last), unfolding(spec_replay::specs::Run::event_then))]
 fn handle_event(
     alloc: Global,
     number: u32,
@@ -37,6 +38,7 @@ fn handle_event(
     store: &mut Store,
 ) -> Result<Vec<u8>, Status>
     requires few { length store.old.plain.blocks < 2 ^ 32 - 1 }
+    requires kind { is_kind event.now.kind ≡ true }
     ensures few { IfOk result (λ _. length store.new.plain.blocks ≤ length store.old.plain.blocks + 1) }
     ensures line { IfOk result (λ line. HasLine number event.now store.old.plain store.new.plain line.items) }
     ensures over { IfErr result (λ status. EndsAt status number (outcome_of store.old.plain event.now)) }

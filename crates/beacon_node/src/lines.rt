@@ -5,7 +5,7 @@ ghost use Rattle.std.specs.Fmt.{decimal};
 ghost use Rattle.spec_fork_choice.specs.GetHead.{get_head};
 ghost use Rattle.spec_fork_choice.specs.OnEvent.{block};
 ghost use Rattle.spec_replay.specs.Lines.{root_text, checkpoint_text, refusal_text, accepted_text, kind_text, head_label, justified_label, finalized_label, block_label, state_label, store_text, event_line};
-ghost use Rattle.fork_store.specs.inside.Events.{accepted_of};
+ghost use Rattle.fork_store.specs.Events.{accepted_of};
 
 use crate::head::head_of;
 use bc_words::{NoMemory, Refusal};

@@ -72,6 +72,9 @@ fn is_taken(alloc: Global, store: &mut Store, event: &Event) -> Result<bool> {
     if store.accepted().len() > 1 << 20 {
         bail!("too many blocks");
     }
+    if event.kind < 1 || event.kind > 4 {
+        bail!("no such kind of event");
+    }
     Ok(store.on_event(alloc, event.kind, &event.payload).is_ok())
 }
 

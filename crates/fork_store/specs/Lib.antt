@@ -1,1 +1,12 @@
+pub mod Arrays
+pub mod ChainStep
+pub mod Done
+pub mod Events
+pub mod Keepers
+pub mod KeptSteps
+pub mod Roots
+pub mod Seen
+pub mod Stays
+pub mod Stores
+pub mod Trees
 pub mod inside

@@ -1,2 +1,14 @@
-pub mod Events
-pub mod Seen
+pub mod Accepted
+pub mod ArrayVotes
+pub mod Boosts
+pub mod Chains
+pub mod CheckpointStates
+pub mod Following
+pub mod Genesis
+pub mod Keepers
+pub mod Kept
+pub mod Messages
+pub mod Plain
+pub mod Votes
+pub mod Weights
+pub mod Wholes

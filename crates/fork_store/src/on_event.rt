@@ -2,19 +2,50 @@
 //!
 //! The payload's bytes come from a record; the store changes, and what an accepted block leaves goes to the event's line.
 
-ghost use Rattle.std.specs.Prelude.{◌<◌, ◌-◌, ◌^◌, Some, length};
+ghost use Rattle.std.specs.Prelude.{◌≡◌, ◌<◌, ◌≤◌, ◌-◌, ◌^◌, Some, length, IfErr};
 ghost use Rattle.beacon_body.specs.Containers.{signed_block_codec, attestation_codec};
 ghost use Rattle.spec_fork_choice.specs.OnTick.{on_tick};
 ghost use Rattle.spec_fork_choice.specs.OnAttestation.{on_attestation};
 ghost use Rattle.spec_fork_choice.specs.OnEvent.{without_block, handle_tick, handle_block, handle_attestation, on_event};
-ghost use Rattle.fork_store.specs.inside.Events.{AcceptsBy, accepted_of};
+ghost use Rattle.fork_store.specs.Events.{AcceptsBy, accepted_of, number_of_kind};
+ghost use Rattle.fork_store.specs.Seen.{StoreStays};
 
+use crate::block_in::BlockIn;
 use crate::store::Store;
 use bc_words::{Refusal, StoreStop};
 use beacon_body::{Attestation, SignedBeaconBlock};
 use ssz_codec::{Ssz, SszFault};
 use std::alloc::Global;
-use store_parts::block_in::BlockIn;
+
+/// The kinds of events.
+#[derive(Clone, Copy)]
+pub enum EventKind {
+    /// A tick, whose payload is a time.
+    Tick,
+    /// A signed block.
+    SignedBlock,
+    /// An attestation from the wire.
+    WireAttestation,
+    /// An attestation from a block.
+    BlockAttestation,
+}
+
+impl EventKind {
+    /// The kind of a number: 1 is a tick, 2 a signed block, 3 an attestation from the wire, 4 one from a block.
+    #[tactic(auto, unfolding(crate::specs::Events::number_of_kind))]
+    pub fn of(number: u8) -> EventKind
+        requires first { 1 ≤ number }
+        requires last { number ≤ 4 }
+        ensures { number_of_kind result ≡ number }
+    {
+        match number {
+            1 => EventKind::Tick,
+            2 => EventKind::SignedBlock,
+            3 => EventKind::WireAttestation,
+            _ => EventKind::BlockAttestation,
+        }
+    }
+}
 
 /// What an accepted event gives beside the new store.
 #[derive(Drop)]
@@ -26,9 +57,11 @@ pub enum Accepted {
 }
 
 /// Takes the time of a tick.
-#[tactic(auto, using(store_parts::proofs::Events::ticking))]
+#[tactic(auto, using(crate::proofs::Events::ticking))]
 fn take_tick(store: &mut Store, time: u64) -> Result<Accepted, StoreStop>
-    ensures { AcceptsBy accepted_of result store.old.plain store.new.plain (without_block (on_tick store.old.plain time)) }
+    ensures exact { AcceptsBy accepted_of result store.old.plain store.new.plain (without_block (on_tick store.old.plain time)) }
+    ensures unset { store.new.plain.justified_checkpoint ≡ store.old.plain.justified_checkpoint → store.new.array.balances_set ≡ store.old.array.balances_set }
+    ensures stays { IfErr result (λ _. StoreStays store.old store.new) }
 {
     match store.on_tick(time) {
         Ok(()) => Ok(Accepted::Other),
@@ -37,9 +70,11 @@ fn take_tick(store: &mut Store, time: u64) -> Result<Accepted, StoreStop>
 }
 
 /// Takes a tick, whose payload is its time in 8 bytes, low byte first.
-#[tactic(auto, unfolding(spec_fork_choice::specs::OnEvent::handle_tick))]
+#[tactic(auto, unfolding(spec_fork_choice::specs::OnEvent::handle_tick), using(crate::proofs::StoreStays::unchanged))]
 fn handle_tick(store: &mut Store, payload: &[u8]) -> Result<Accepted, StoreStop>
-    ensures { AcceptsBy accepted_of result store.old.plain store.new.plain (handle_tick store.old.plain payload.now) }
+    ensures exact { AcceptsBy accepted_of result store.old.plain store.new.plain (handle_tick store.old.plain payload.now) }
+    ensures unset { store.new.plain.justified_checkpoint ≡ store.old.plain.justified_checkpoint → store.new.array.balances_set ≡ store.old.array.balances_set }
+    ensures stays { IfErr result (λ _. StoreStays store.old store.new) }
 {
     match payload {
         [a, b, c, d, e, f, g, h] => {
@@ -50,23 +85,27 @@ fn handle_tick(store: &mut Store, payload: &[u8]) -> Result<Accepted, StoreStop>
 }
 
 /// Takes a signed block.
-#[tactic(auto, unfolding(spec_fork_choice::specs::OnEvent::handle_block), using(store_parts::proofs::Events::blocks))]
+#[tactic(auto, unfolding(spec_fork_choice::specs::OnEvent::handle_block), using(crate::proofs::Events::blocks))]
 fn take_block(
     alloc: Global,
     store: &mut Store,
     block: &SignedBeaconBlock,
 ) -> Result<Accepted, StoreStop>
     requires few { length store.old.plain.blocks < 2 ^ 32 - 1 }
-    ensures { AcceptsBy accepted_of result store.old.plain store.new.plain (handle_block store.old.plain (Some block.now)) }
+    ensures exact { AcceptsBy accepted_of result store.old.plain store.new.plain (handle_block store.old.plain (Some block.now)) }
+    ensures unset { store.new.plain.justified_checkpoint ≡ store.old.plain.justified_checkpoint → store.new.array.balances_set ≡ store.old.array.balances_set }
+    ensures stays { IfErr result (λ _. StoreStays store.old store.new) }
 {
     Ok(Accepted::Block(store.on_block(alloc, block)?))
 }
 
 /// Takes a signed block, whose payload is its writing.
-#[tactic(auto, unfolding(spec_fork_choice::specs::OnEvent::handle_block))]
+#[tactic(auto, unfolding(spec_fork_choice::specs::OnEvent::handle_block), using(crate::proofs::StoreStays::unchanged))]
 fn handle_block(alloc: Global, store: &mut Store, payload: &[u8]) -> Result<Accepted, StoreStop>
     requires few { length store.old.plain.blocks < 2 ^ 32 - 1 }
-    ensures { AcceptsBy accepted_of result store.old.plain store.new.plain (handle_block store.old.plain (signed_block_codec.deserialize payload.now)) }
+    ensures exact { AcceptsBy accepted_of result store.old.plain store.new.plain (handle_block store.old.plain (signed_block_codec.deserialize payload.now)) }
+    ensures unset { store.new.plain.justified_checkpoint ≡ store.old.plain.justified_checkpoint → store.new.array.balances_set ≡ store.old.array.balances_set }
+    ensures stays { IfErr result (λ _. StoreStays store.old store.new) }
 {
     match SignedBeaconBlock::read(alloc, payload) {
         Ok(block) => take_block(alloc, store, &block),
@@ -76,14 +115,16 @@ fn handle_block(alloc: Global, store: &mut Store, payload: &[u8]) -> Result<Acce
 }
 
 /// Takes an attestation from the wire or from a block.
-#[tactic(auto, using(store_parts::proofs::Events::voting))]
+#[tactic(auto, using(crate::proofs::Events::voting))]
 fn take_attestation(
     alloc: Global,
     store: &mut Store,
     attestation: &Attestation,
     from_block: bool,
 ) -> Result<Accepted, StoreStop>
-    ensures { AcceptsBy accepted_of result store.old.plain store.new.plain (without_block (on_attestation store.old.plain attestation.now from_block)) }
+    ensures exact { AcceptsBy accepted_of result store.old.plain store.new.plain (without_block (on_attestation store.old.plain attestation.now from_block)) }
+    ensures unset { store.new.plain.justified_checkpoint ≡ store.old.plain.justified_checkpoint → store.new.array.balances_set ≡ store.old.array.balances_set }
+    ensures stays { IfErr result (λ _. StoreStays store.old store.new) }
 {
     match store.on_attestation(alloc, attestation, from_block) {
         Ok(()) => Ok(Accepted::Other),
@@ -92,14 +133,16 @@ fn take_attestation(
 }
 
 /// Takes an attestation from the wire or from a block, whose payload is its writing.
-#[tactic(auto, unfolding(spec_fork_choice::specs::OnEvent::handle_attestation))]
+#[tactic(auto, unfolding(spec_fork_choice::specs::OnEvent::handle_attestation), using(crate::proofs::StoreStays::unchanged))]
 fn handle_attestation(
     alloc: Global,
     store: &mut Store,
     payload: &[u8],
     from_block: bool,
 ) -> Result<Accepted, StoreStop>
-    ensures { AcceptsBy accepted_of result store.old.plain store.new.plain (handle_attestation store.old.plain from_block (attestation_codec.deserialize payload.now)) }
+    ensures exact { AcceptsBy accepted_of result store.old.plain store.new.plain (handle_attestation store.old.plain from_block (attestation_codec.deserialize payload.now)) }
+    ensures unset { store.new.plain.justified_checkpoint ≡ store.old.plain.justified_checkpoint → store.new.array.balances_set ≡ store.old.array.balances_set }
+    ensures stays { IfErr result (λ _. StoreStays store.old store.new) }
 {
     match Attestation::read(alloc, payload) {
         Ok(attestation) => take_attestation(alloc, store, &attestation, from_block),
@@ -109,13 +152,32 @@ fn handle_attestation(
 }
 
 impl Store {
-    /// Takes an event by its kind: 1 a tick, 2 a block, 3 an attestation from the wire, 4 an attestation from a block. A record
-    /// has no other kind, and one would be taken as 3. The block of an accepted block event is answered, and nothing for the
-    /// others.
+    /// Takes an event of a kind. The block of an accepted block event is answered, and nothing for the others.
     ///
     /// Refused as `Malformed` where the payload isn't the writing of such an event, and refused, limited and clashing as its
-    /// handler is. After a stop the store is as before.
-    #[tactic(auto, unfolding(spec_fork_choice::specs::OnEvent::on_event))]
+    /// handler is. After a stop all is as before but for room that was made. Where the justified checkpoint stays, the array is given no
+    /// balances.
+    #[tactic(auto, unfolding(spec_fork_choice::specs::OnEvent::on_event, crate::specs::Events::number_of_kind))]
+    pub fn take_event(
+        &mut self,
+        alloc: Global,
+        kind: EventKind,
+        payload: &[u8],
+    ) -> Result<Accepted, StoreStop>
+        requires few { length self.old.plain.blocks < 2 ^ 32 - 1 }
+        ensures exact { AcceptsBy accepted_of result self.old.plain self.new.plain (on_event self.old.plain (number_of_kind kind) payload.now) }
+        ensures unset { self.new.plain.justified_checkpoint ≡ self.old.plain.justified_checkpoint → self.new.array.balances_set ≡ self.old.array.balances_set }
+        ensures stays { IfErr result (λ _. StoreStays self.old self.new) }
+    {
+        match kind {
+            EventKind::Tick => handle_tick(self, payload),
+            EventKind::SignedBlock => handle_block(alloc, self, payload),
+            EventKind::WireAttestation => handle_attestation(alloc, self, payload, false),
+            EventKind::BlockAttestation => handle_attestation(alloc, self, payload, true),
+        }
+    }
+
+    /// Takes an event by the number of its kind in a record, 1 to 4, as `take_event` does.
     pub fn on_event(
         &mut self,
         alloc: Global,
@@ -123,14 +185,12 @@ impl Store {
         payload: &[u8],
     ) -> Result<Accepted, StoreStop>
         requires few { length self.old.plain.blocks < 2 ^ 32 - 1 }
-        ensures { AcceptsBy accepted_of result self.old.plain self.new.plain (on_event self.old.plain kind payload.now) }
+        requires first { 1 ≤ kind }
+        requires last { kind ≤ 4 }
+        ensures exact { AcceptsBy accepted_of result self.old.plain self.new.plain (on_event self.old.plain kind payload.now) }
+        ensures unset { self.new.plain.justified_checkpoint ≡ self.old.plain.justified_checkpoint → self.new.array.balances_set ≡ self.old.array.balances_set }
+        ensures stays { IfErr result (λ _. StoreStays self.old self.new) }
     {
-        if kind == 1 {
-            handle_tick(self, payload)
-        } else if kind == 2 {
-            handle_block(alloc, self, payload)
-        } else {
-            handle_attestation(alloc, self, payload, kind == 4)
-        }
+        self.take_event(alloc, EventKind::of(kind), payload)
     }
 }

@@ -3,15 +3,21 @@
 //! Beside its fields it keeps the array of nodes, by which blocks are weighed, and the keeper of the states behind them, and holds
 //! ready the balances of the best justified checkpoint, so that neither a tick nor the head takes memory.
 
-ghost use Rattle.std.specs.Prelude.{◌≡◌, true, IfOk};
+ghost use Rattle.std.specs.Prelude.{◌≡◌, ◌<◌, ℕ, true, length, IfOk};
 ghost use Rattle.std.specs.Option.{option_map};
 ghost use Rattle.spec_fork_choice.specs.Store.{block_of, is_kept};
 ghost use Rattle.spec_fork_choice.specs.StoreTargetCheckpointState.{store_target_checkpoint_state};
-ghost use Rattle.store_parts.specs.inside.Arrays.{IsArrayOf};
-ghost use Rattle.store_parts.specs.inside.Chains.{IsDone};
-ghost use Rattle.store_parts.specs.inside.Keepers.{IsKeeperOf};
-ghost use Rattle.store_parts.specs.inside.Roots.{roots_of};
+ghost use Rattle.fork_store.specs.KeptSteps.{IsStepOfParent};
+ghost use Rattle.fork_store.specs.Arrays.{IsArrayOf};
+ghost use Rattle.fork_store.specs.Done.{IsDone};
+ghost use Rattle.fork_store.specs.Keepers.{IsKeeperOf};
+ghost use Rattle.fork_store.specs.Roots.{roots_of};
 
+use crate::chain_stepper::ChainStepper;
+use crate::kept_blocks::{block_of, number_of};
+use crate::kept_state::kept_state;
+use crate::ready_balances::ReadyBalances;
+use crate::store_fields::StoreFields;
 use bc_words::NoMemory;
 use beacon_body::BeaconBlock;
 use beacon_state::State;
@@ -20,11 +26,6 @@ use block_array::BlockArray;
 use hash_tree::Root;
 use state_keeper::Keeper;
 use std::marker::Model;
-use store_changes::kept_state::kept_state;
-use store_parts::chain_stepper::ChainStepper;
-use store_parts::kept_block::block_of;
-use store_parts::ready_balances::ReadyBalances;
-use store_parts::store_fields::StoreFields;
 
 /// The store. Contracts see the plain store, and beside it the array and the keeper, which are always those of the plain store.
 pub struct Store {
@@ -51,15 +52,14 @@ impl Drop for Store {
 }
 
 impl Model for Store {
-    ghost use Rattle.store_parts.specs.inside.Keepers.{IsKeeperOf};
-    ghost use Rattle.fork_store.specs.inside.Seen.{Seen};
-    ghost use Rattle.store_parts.specs.inside.Wholes.{IsWhole};
+    ghost use Rattle.fork_store.specs.Seen.{Seen};
+    ghost use Rattle.fork_store.specs.inside.Wholes.{AreParts};
 
     ghost Value = { Seen };
 
     ghost view = { λ s. record { plain = s.fields; array = s.array; keeper = s.keeper } };
 
-    ghost invariant = { λ s. IsWhole s.fields s.array s.ready × IsKeeperOf s.fields s.keeper };
+    ghost invariant = { λ s. AreParts s.fields s.array s.keeper s.ready };
 }
 
 impl Store {
@@ -83,12 +83,22 @@ impl Store {
 
     /// The law that the justified checkpoint's block is kept and that its state is there: the slots up to its epoch are neither
     /// refused nor limited, since an accepted block passed them. It does nothing when it runs.
-    #[tactic(auto, using(store_parts::proofs::Chains::justified_law))]
+    #[tactic(auto, using(crate::proofs::Chains::justified_law))]
     pub fn justified_state_is_done(&self)
         ensures kept { is_kept self.now.plain.blocks self.now.plain.justified_checkpoint.root ≡ true }
         ensures done { IsDone (store_target_checkpoint_state self.now.plain self.now.plain.justified_checkpoint) }
     {
         let _store = &self.fields;
+    }
+
+    /// The law that each kept block but that of genesis is the keeper's of its number, behind its parent's, and that the state behind it is
+    /// the step of its parent's state by it. Where it comes again, the states that it leaves are those that this step entered. It does
+    /// nothing when it runs.
+    pub fn steps_were_taken(&self)
+        ensures { (number : ℕ) → 0 < number → number < length self.now.plain.blocks → IsStepOfParent self.now.plain self.now.keeper number }
+    {
+        self.fields.is_sound();
+        self.keeper.steps_were_taken();
     }
 
     /// The justified checkpoint.
@@ -113,7 +123,7 @@ impl Store {
     }
 
     /// The block of a root. None exactly where the root isn't kept.
-    #[tactic(auto, using(store_parts::proofs::Keepers::keeping))]
+    #[tactic(auto, using(crate::proofs::Keepers::keeping))]
     pub fn block(&self, root: Root) -> Option<&BeaconBlock>
         ensures { option_map (λ block. block.now) result ≡ option_map (λ kept. kept.block) (block_of self.now.plain.blocks root) }
     {
@@ -122,15 +132,15 @@ impl Store {
 
     /// The state behind the block of a root. None exactly where the root isn't kept. The store is as before: a state that was dropped
     /// is made again.
-    #[tactic(auto, using(store_parts::proofs::Keepers::answering, store_parts::proofs::Keepers::keeping))]
+    #[tactic(auto, using(crate::proofs::Keepers::answering, crate::proofs::Keepers::keeping))]
     pub fn state(&mut self, root: Root) -> Result<Option<State>, NoMemory>
         ensures state { IfOk result (λ state. state ≡ option_map (λ kept. kept.state) (block_of self.old.plain.blocks root)) }
         ensures same { self.new ≡ self.old }
     {
-        if !self.fields.is_kept(root) {
+        let Some(number) = number_of(self.fields.blocks(), root) else {
             return Ok(None);
-        }
-        let state = kept_state(self.fields.blocks(), &mut self.keeper, root)?;
+        };
+        let state = kept_state(self.fields.blocks(), &mut self.keeper, number)?;
         Ok(Some(state))
     }
 }

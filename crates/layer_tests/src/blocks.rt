@@ -4,7 +4,7 @@ use beacon_body::{Attestation, AttesterSlashing, BeaconBlock, SignedBeaconBlock,
 use hash_tree::{Leaf, Root};
 use ssz_codec::{ListValue, Ssz, one_writing, reads_back};
 use std::alloc::Global;
-use store_parts::root_clash::clash;
+use fork_store::clash;
 
 // The roots below were computed beside this code, from simple-serialize.md alone.
 const DEFAULT_BODY: Root = [

@@ -1,11 +1,14 @@
 -- A record as a source of events.
-use Rattle.std.proofs.Common.{ℕ, ◌≤◌, Bool, false, List, [], ◌++◌, Option, Some, None, Result, Ok, Err, length, refl, ap, subst, ◌∙◌, arith}
+use Rattle.std.proofs.Common.{◌≡◌, ℕ, ◌≤◌, Bool, true, false, nat_le, IfOk, IfSome, List, [], ◌++◌, Option, Some, None, Result, Ok, Err, length, refl, ap, subst, ◌∙◌, arith}
 use Rattle.bc_outside.specs.Told.{ShelfTold}
 use Rattle.bc_outside.proofs.Taking.{takes_none, takes_then}
 use Rattle.record_file.specs.declared.event.Event.{Event}
 use Rattle.record_file.specs.declared.fault.FrameStop.{FrameStop}
 use Rattle.record_file.specs.declared.fault.FrameStop.TheVariants.{Fault, ReadFault, NoMemory}
 use Rattle.record_file.specs.Frames.{Reading, Gives, Nexts, Moves, coming, IsPlace}
+use Rattle.std.proofs.lemmas.Bool.{and_parts}
+use Rattle.std.proofs.lemmas.Bool.Decides.{nat_tests}
+use Rattle.record_file.specs.Record.{is_kind}
 use Rattle.record_file.specs.Sources.{record_source, IsOpenedFile, TakesFrom, Supplies, NextOf, Counts}
 
 gives_supplies : (result : Result (Option Event) FrameStop) (bytes : List ℕ) (met : Bool) (old new : Reading) → Gives result bytes met old new → Supplies result bytes met (record_source old) (record_source new)
@@ -24,6 +27,18 @@ counted (Ok None) old new h place = h.0
 counted (Err (Fault reason)) old new h place = h.0
 counted (Err ReadFault) old new h place = h
 counted (Err NoMemory) old new h place = h
+
+-- an event is of one of the four kinds
+pub of_kind : (result : Result (Option Event) FrameStop) (old new : Reading) → Moves result old new → IfOk result (λ next. IfSome next (λ event. is_kind event.kind ≡ true))
+of_kind (Ok (Some event)) old new h = h.2
+of_kind (Ok None) old new h = tt
+of_kind (Err stop) old new h = tt
+
+pub kind_first : (kind : ℕ) → is_kind kind ≡ true → 1 ≤ kind
+kind_first kind is = let low : nat_le 1 kind ≡ true = (and_parts (nat_le 1 kind) (nat_le kind 4) is).0 in grind (arith, nat_tests)
+
+pub kind_last : (kind : ℕ) → is_kind kind ≡ true → kind ≤ 4
+kind_last kind is = let high : nat_le kind 4 ≡ true = (and_parts (nat_le 1 kind) (nat_le kind 4) is).1 in grind (arith, nat_tests)
 
 -- nothing was taken
 pub from_none : (file : Option ℕ) (s : ShelfTold) → TakesFrom file [] false s s

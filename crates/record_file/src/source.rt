@@ -1,9 +1,9 @@
 //! Where the events of a run come from, one by one: a record of a shelf today, made events as another kind. The events go
 //! to the store.
 
-ghost use Rattle.std.specs.Prelude.{◌≡◌, []};
+ghost use Rattle.std.specs.Prelude.{◌≡◌, [], true, IfOk, IfSome};
 ghost use Rattle.bc_outside.specs.Calls.{ShelfKeeps};
-ghost use Rattle.record_file.specs.Record.{fault_event};
+ghost use Rattle.record_file.specs.Record.{fault_event, is_kind};
 ghost use Rattle.record_file.specs.Stops.{StopsBy};
 ghost use Rattle.record_file.specs.Sources.{Source, record_source, IsOpenedFile, NextOf, Counts};
 
@@ -28,6 +28,7 @@ pub trait EventSource {
         requires { IsOpenedFile (seen self.old).file (F.told shelf.old) }
         ensures next { NextOf result (seen self.old) (seen self.new) (F.told shelf.old) (F.told shelf.new) }
         ensures counts { Counts result (seen self.old) (seen self.new) }
+        ensures kind { IfOk result (λ next. IfSome next (λ event. is_kind event.kind ≡ true)) }
         ensures file { (seen self.new).file ≡ (seen self.old).file }
         ensures causes { StopsBy result (F.told shelf.old).faults (F.told shelf.new).faults }
         ensures keeps { ShelfKeeps [] (F.told shelf.old) (F.told shelf.new) };
@@ -44,7 +45,7 @@ impl EventSource for Frames {
         self.event_of(fault)
     }
 
-    #[tactic(auto, using(crate::proofs::Supplying::supplied, crate::proofs::Supplying::counted))]
+    #[tactic(auto, using(crate::proofs::Supplying::supplied, crate::proofs::Supplying::counted, crate::proofs::Supplying::of_kind))]
     fn next_event<F: Shelf>(&mut self, shelf: &mut F) -> Result<Option<Event>, FrameStop> {
         let answer = self.next(shelf);
         let _ = self.events();

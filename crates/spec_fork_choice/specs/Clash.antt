@@ -1,6 +1,6 @@
 -- Roots that are no name for one block alone. The published text takes a root for its block; here a block that would be
 -- accepted is compared, and none of two blocks with one root is silently the other. Signatures don't count.
-use Rattle.std.specs.Prelude.{ℕ, Bool, ◌||◌, not, List, Option, Some, None, if◌then◌else◌}
+use Rattle.std.specs.Prelude.{ℕ, Bool, not, List, Option, Some, None, is_some, if◌then◌else◌}
 use Rattle.std.specs.List.{position_or_len}
 use Rattle.std.specs.Option.{option_map, option_map_or}
 use Rattle.std.specs.Prelude.{false}
@@ -16,19 +16,23 @@ use Rattle.spec_fork_choice.specs.SameBlock.{same_block}
 unfoldable pub is_another : Option BeaconBlock → BeaconBlock → Bool
 is_another kept block = option_map_or (λ other. not (same_block other block)) kept false
 
--- whether a block with these roots clashes with the kept block of its root
+-- how a block with these roots clashes with the kept block of its root, whose place among the kept ones this is, if it does: its
+-- root is zero, or else its state root is, or else the kept block is another one
+unfoldable pub clash_with : Option BeaconBlock → ℕ → List ℕ → List ℕ → BeaconBlock → Option ClashKind
+clash_with kept place root state_root block =
+    if same_root root zero_root then Some ZeroBlock
+    else if same_root state_root zero_root then Some ZeroState
+    else if is_another kept block then Some (Kept place)
+    else None
+
+-- whether it does
 unfoldable pub clashes : List ℕ → List ℕ → Option BeaconBlock → BeaconBlock → Bool
-clashes root state_root kept block = same_root root zero_root || (same_root state_root zero_root || is_another kept block)
+clashes root state_root kept block = is_some (clash_with kept 0 root state_root block)
 
 -- the place of a root's block among the kept ones
 unfoldable pub place_of : List KeptBlock → List ℕ → ℕ
 place_of blocks root = position_or_len (λ kept. same_root kept.root root) blocks
 
--- how a block with these roots clashes with kept ones, if it does: its root is zero, or else its state root is, or else its
--- root is that of another kept block
+-- how a block with these roots clashes with the kept ones, if it does
 unfoldable pub clash_of : List KeptBlock → List ℕ → List ℕ → BeaconBlock → Option ClashKind
-clash_of blocks root state_root block =
-    if same_root root zero_root then Some ZeroBlock
-    else if same_root state_root zero_root then Some ZeroState
-    else if is_another (option_map (λ kept. kept.block) (block_of blocks root)) block then Some (Kept (place_of blocks root))
-    else None
+clash_of blocks root state_root block = clash_with (option_map (λ kept. kept.block) (block_of blocks root)) (place_of blocks root) root state_root block

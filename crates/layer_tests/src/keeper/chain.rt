@@ -2,7 +2,7 @@
 
 ghost use Rattle.std.specs.Prelude.{◌≡◌, false, IfOk};
 ghost use Rattle.bc_preset.specs.Presets.{IsPreset};
-ghost use Rattle.store_parts.specs.ChainStep.{CanStep};
+ghost use Rattle.fork_store.specs.ChainStep.{CanStep};
 ghost use Rattle.beacon_types.specs.Equality.{same_root};
 ghost use Rattle.spec_state.specs.Genesis.{header_root_of, zero_root};
 ghost use Rattle.spec_state.specs.States.{state_codec};
@@ -19,7 +19,7 @@ use ssz_codec::{Items, LimitedList, SszFault, VariableList};
 use state_keeper::Stepper;
 use std::alloc::{AllocError, Global};
 use std::test::Fail;
-use store_parts::chain_stepper::ChainStepper;
+use fork_store::ChainStepper;
 use transition::is_sound;
 use transition::process_block::process_block;
 use transition::process_slots::process_slots;

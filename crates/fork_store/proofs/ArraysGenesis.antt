@@ -1,0 +1,60 @@
+-- The store at genesis and an array of its one block.
+use Rattle.std.proofs.Common.{◌≡◌, ℕ, Bool, true, false, cond, not, List, [], ◌∷◌, Option, Some, None, is_some, refl, ap}
+use Rattle.bc_words.specs.declared.store_stop.ClashKind.{ClashKind}
+use Rattle.bc_preset.specs.declared.configuration.ConfigValues.{ConfigValues}
+use Rattle.beacon_types.specs.Equality.{same_root}
+use Rattle.beacon_body.specs.Containers.{block_codec}
+use Rattle.beacon_body.specs.declared.block.BeaconBlock.{BeaconBlock}
+use Rattle.block_array.specs.Calls.{new_array, with_balances}
+use Rattle.spec_state.specs.declared.plain.PlainState.{PlainState}
+use Rattle.spec_state.specs.Genesis.{zero_root}
+use Rattle.spec_fork_choice.specs.Store.{KeptBlock, block_of, is_kept}
+use Rattle.spec_fork_choice.specs.Clash.{place_of, clash_with, clash_of}
+use Rattle.spec_fork_choice.specs.GetForkchoiceStore.{genesis_block, get_forkchoice_store}
+use Rattle.spec_fork_choice.specs.OnEvent.{genesis_clash}
+use Rattle.spec_fork_choice.specs.StoreTargetCheckpointState.{store_target_checkpoint_state}
+use Rattle.fork_store.specs.Arrays.{number_of, facts_of, node_of, nodes_behind, nodes_of, messages_at, BeginsAtZero, IsBoostedNode, balances_of, balances_at, IsArrayOf}
+use Rattle.fork_store.proofs.ArraysPlaces.{is_same}
+
+-- a block that doesn't clash has a root that isn't zero
+pub unclashed_by : (b : Bool) (rest : Option ClashKind) (kind : ClashKind) → cond b (Some kind) rest ≡ None → b ≡ false
+unclashed_by true rest kind h = absurd cc
+unclashed_by false rest kind h = refl
+
+pub unclashed_root : (blocks : List KeptBlock) (root state_root : List ℕ) (block : BeaconBlock) → clash_of blocks root state_root block ≡ None
+    → same_root root zero_root ≡ false
+unfolding clash_of clash_with
+unclashed_root blocks root state_root block h = unclashed_by (same_root root zero_root) _ _ h
+
+one_number : (kept : KeptBlock) → number_of (kept ∷ []) kept.root ≡ Some 0
+unfolding number_of is_kept block_of place_of
+one_number kept = ap (λ b. cond (is_some (cond b (Some kept) None)) (Some (cond (not b) 1 0)) None) (is_same kept.root kept.root refl)
+
+one_unkept : (kept : KeptBlock) → same_root kept.root zero_root ≡ false → is_kept (kept ∷ []) zero_root ≡ false
+unfolding is_kept block_of
+one_unkept kept h = ap (λ b. is_some (cond b (Some kept) None)) h
+
+pub genesis_array : (config : ConfigValues) (genesis : PlainState) (balances : List ℕ) (count total : ℕ) → genesis_clash genesis ≡ None
+    → record { list = balances; count = count; total = total } ≡ balances_of
+    (store_target_checkpoint_state (get_forkchoice_store config genesis) (get_forkchoice_store config genesis).justified_checkpoint)
+    → IsArrayOf (get_forkchoice_store config genesis) (with_balances
+    (new_array config.preset.slots_per_epoch config.proposer_score_boost 0 (block_codec.hash_tree_root (genesis_block genesis)) (facts_of genesis))
+    balances count total)
+unfolding get_forkchoice_store genesis_block genesis_clash nodes_of nodes_behind node_of number_of is_kept block_of messages_at BeginsAtZero IsBoostedNode
+    balances_at
+genesis_array config genesis balances count total none ready =
+    let root : List ℕ = block_codec.hash_tree_root (genesis_block genesis) in
+    let kept : KeptBlock = record { root = root; block = genesis_block genesis; state = genesis } in
+    record {
+      slots_per_epoch = refl;
+      percent = refl;
+      nodes = refl;
+      rooted = record { begins = (refl, refl); named = one_unkept kept (unclashed_root [] root _ (genesis_block genesis) none) };
+      messages = refl;
+      voted = tt;
+      balances = ready;
+      justified = refl;
+      justified_node = one_number kept;
+      finalized = refl;
+      boosted_node = refl;
+    }

@@ -1,0 +1,282 @@
+-- The slots behind a kept block keep a state linked: each is told by the block's root.
+use Rattle.std.proofs.Common.{◌≡◌, ◌≢◌, ◌∙◌, ℕ, zero, suc, ◌+◌, ◌-◌, ◌*◌, ◌/◌, ◌%◌, ◌<◌, ◌≤◌, false, not, List, [], length, slice_set, refl, sym, ap, subst}
+use Rattle.std.proofs.Common.{arith, inl, inr}
+use Rattle.std.specs.Prelude.{slice_index_or}
+use Rattle.std.proofs.lemmas.Bool.{cases_lt}
+use Rattle.std.proofs.lemmas.List.{length-set, get_or-set_same, get_or-set_other}
+use Rattle.std.proofs.Math.Nat.{div-add-mod, mod-lt, mul_comm}
+use Rattle.bc_words.specs.Outcome.{done, each_from}
+use Rattle.bc_preset.specs.declared.presets.Preset.{Preset}
+use Rattle.bc_preset.specs.declared.configuration.ConfigValues.{ConfigValues}
+use Rattle.bc_preset.specs.laws.Bounds.{HasPresetBounds}
+use Rattle.beacon_types.specs.Equality.{same_root}
+use Rattle.beacon_types.specs.Containers.{block_header_codec}
+use Rattle.spec_state.specs.declared.plain.PlainState.{PlainState}
+use Rattle.spec_state.specs.States.{state_codec}
+use Rattle.spec_state.specs.Genesis.{block_header_of, header_root_of, zero_root}
+use Rattle.spec_state.specs.Accessors.{get_current_epoch, get_previous_epoch, get_block_root, get_block_root_at_slot}
+use Rattle.spec_blocks.proofs.Done.{on_the_way, chosen, same_value}
+use Rattle.spec_blocks.proofs.SoundHeads.{apart}
+use Rattle.spec_epochs.specs.declared.justification.Justification.{Justification}
+use Rattle.spec_epochs.specs.WeighJustificationAndFinalization.{justification_of, with_justification}
+use Rattle.spec_epochs.specs.ProcessJustificationAndFinalization.{process_justification_and_finalization}
+use Rattle.spec_epochs.specs.ProcessEpoch.{process_epoch}
+use Rattle.spec_epochs.proofs.EpochParts.{parts_of}
+use Rattle.spec_epochs.proofs.JustifiedCheckpoints.{Holds, weighed_holds}
+use Rattle.spec_epochs.proofs.SoundJustification.{Weighed, either_of, justification_leaves}
+use Rattle.spec_transition.specs.ProcessSlot.{process_slot}
+use Rattle.spec_transition.specs.ProcessSlots.{Stepped, is_last_of_epoch, with_next_slot, end_epoch, next_slot}
+use Rattle.spec_transition.proofs.HeaderChecks.{Filled, header_fills, header_stays}
+use Rattle.spec_transition.proofs.Links.{Links, links_of, links_stay, header_leaves}
+use Rattle.spec_fork_choice.specs.Store.{KeptBlock}
+use Rattle.fork_store.specs.inside.Chains.{IsReached, IsReachedCheckpoint, IsLinkedTo, IsLinked}
+
+-- ---- what a linked state's links are
+
+-- a state of the same links is linked
+pub same_links : (config : ConfigValues) (blocks : List KeptBlock) (end : ℕ) (s t : PlainState) → links_of t ≡ links_of s → IsLinkedTo config blocks end s
+    → IsLinkedTo config blocks end t
+unfolding get_block_root_at_slot
+same_links config blocks end s t same linked = record {
+  preset = ap (λ (l : Links). l.preset) same ∙ linked.preset;
+  roots = ap (λ (l : Links). length l.roots) same ∙ linked.roots;
+  history = λ slot less near. subst (λ (l : Links). IsReached config blocks (slice_index_or l.roots (slot % l.preset.slots_per_historical_root) []) slot)
+      (sym same) (linked.history slot less near);
+  justified = subst (λ (l : Links). 0 < l.current.epoch → IsReachedCheckpoint config blocks l.current) (sym same) linked.justified;
+  previous = subst (λ (l : Links). l.current.epoch ≡ 0 → l.previous.epoch ≡ 0) (sym same) linked.previous;
+  finalized = subst (λ (l : Links). l.current.epoch ≡ 0 → l.finalized.epoch ≡ 0) (sym same) linked.finalized;
+}
+
+-- ---- the end of a slot
+
+-- of a list in which one place was set, what stands at a place
+set_root : (n : ℕ) (roots : List (List ℕ)) (root : List ℕ) (at slot : ℕ) (P : List ℕ → Type 0) → length roots ≡ n → 0 < n → slot < at + 1 → at < slot + n
+    → (slot ≡ at → P root)
+    → (slot < at → P (slice_index_or roots (slot % n) [])) → P (slice_index_or (slice_set roots (at % n) root) (slot % n) [])
+set_root n roots root at slot P is some less near here before = elim (cases_lt slot at) [
+  | inl earlier ↦
+      let other : slot % n ≢ at % n = apart n slot at earlier near in
+      subst P (sym (get_or-set_other roots (at % n) (slot % n) root [] other)) (before earlier)
+  | inr late ↦
+      let same : slot ≡ at = omega arith in
+      let inside : at % n < length roots = let low : at % n < n = mod-lt at some in omega arith in
+      subst (λ (k : ℕ). P (slice_index_or (slice_set roots (at % n) root) (k % n) [])) (sym same)
+      (subst P (sym (get_or-set_same roots (at % n) root [] inside)) (here same))
+]
+
+-- the slot that ends is told by the latest block
+slot_linked : (config : ConfigValues) (blocks : List KeptBlock) (s : PlainState) → HasPresetBounds config.preset
+    → IsReached config blocks (header_root_of s) s.slot → IsLinked config blocks s → IsLinkedTo config blocks (s.slot + 1) (process_slot s)
+unfolding process_slot get_block_root_at_slot
+slot_linked config blocks s bounds reached linked =
+    let n : ℕ = s.preset.slots_per_historical_root in
+    let same : n ≡ config.preset.slots_per_historical_root = ap (λ (p : Preset). p.slots_per_historical_root) linked.preset in
+    let many : 64 ≤ config.preset.slots_per_historical_root = bounds.least_slots_per_historical_root in
+    record {
+      preset = linked.preset;
+      roots = length-set s.block_roots (s.slot % n) (header_root_of s) ∙ linked.roots;
+      history = λ slot less near. set_root n s.block_roots (header_root_of s) s.slot slot (λ (root : List ℕ). IsReached config blocks root slot)
+          (linked.roots ∙ sym same) (omega arith) less (omega arith)
+          (λ here. subst (λ (k : ℕ). IsReached config blocks (header_root_of s) k) (sym here) reached)
+          (λ earlier. linked.history slot earlier (omega arith));
+      justified = linked.justified;
+      previous = linked.previous;
+      finalized = linked.finalized;
+    }
+
+-- ---- the end of an epoch
+
+-- the root of an epoch's first slot is reached
+root_reached : (config : ConfigValues) (blocks : List KeptBlock) (end : ℕ) (s : PlainState) (epoch : ℕ) → IsLinkedTo config blocks end s
+    → epoch * config.preset.slots_per_epoch < end → end ≤ epoch * config.preset.slots_per_epoch + config.preset.slots_per_historical_root
+    → IsReachedCheckpoint config blocks (record { epoch = epoch; root = get_block_root s epoch })
+unfolding get_block_root
+root_reached config blocks end s epoch linked less near =
+    let first : ℕ = epoch * config.preset.slots_per_epoch in
+    let P : Preset → Type 0 = λ (p : Preset). IsReached config blocks (get_block_root_at_slot s (epoch * p.slots_per_epoch)) first in
+    subst P (sym linked.preset) (linked.history first less near)
+
+-- the first slots of an epoch and of the one before it are among the latest ones
+record IsRecent (n many slot epoch : ℕ) : Type 0 where
+  less : epoch * n < slot + 1
+  near : slot + 1 ≤ epoch * n + many
+
+recent : (n many slot : ℕ) → 0 < n → n + n ≤ many → 1 < slot / n → IsRecent n many slot (slot / n) × IsRecent n many slot (slot / n - 1)
+recent n many slot some room late =
+    let epoch : ℕ = slot / n in
+    let one : epoch ≡ (epoch - 1) + 1 = omega arith in
+    let before : epoch * n ≡ ((epoch - 1) + 1) * n = ap (λ (k : ℕ). k * n) one in
+    let parts = div-add-mod slot n in
+    let low : slot % n < n = mod-lt slot some in
+    let turned = mul_comm epoch n in
+    (record { less = omega arith; near = omega arith }, record { less = omega arith; near = omega arith })
+
+holds_of : (config : ConfigValues) (blocks : List KeptBlock) (end : ℕ) (s : PlainState) → IsLinkedTo config blocks end s
+    → Holds (IsReachedCheckpoint config blocks) (justification_of s)
+unfolding justification_of
+holds_of config blocks end s linked = record { current = linked.justified; previous = linked.previous; finalized = linked.finalized }
+
+with_holds : (config : ConfigValues) (blocks : List KeptBlock) (end : ℕ) (s : PlainState) (j : Justification) → Holds (IsReachedCheckpoint config blocks) j
+    → IsLinkedTo config blocks end s → IsLinkedTo config blocks end (with_justification s j)
+unfolding with_justification get_block_root_at_slot
+with_holds config blocks end s j holds linked = record {
+  preset = linked.preset;
+  roots = linked.roots;
+  history = linked.history;
+  justified = holds.current;
+  previous = holds.previous;
+  finalized = holds.finalized;
+}
+
+-- epochs and their first slots, by the configuration's preset
+epoch_is : (config : ConfigValues) (s : PlainState) → s.preset ≡ config.preset → get_current_epoch s ≡ s.slot / config.preset.slots_per_epoch
+unfolding get_current_epoch
+epoch_is config s preset = ap (λ (p : Preset). s.slot / p.slots_per_epoch) preset
+
+weighed_linked : (config : ConfigValues) (blocks : List KeptBlock) (s t : PlainState) → Weighed s t → HasPresetBounds config.preset
+    → IsLinkedTo config blocks (s.slot + 1) s → IsLinkedTo config blocks (s.slot + 1) t
+unfolding get_previous_epoch
+weighed_linked config blocks s t weighed bounds linked =
+    let n : ℕ = config.preset.slots_per_epoch in
+    let many : ℕ = config.preset.slots_per_historical_root in
+    let late : 1 < get_current_epoch s = weighed.late in
+    let epoch : get_current_epoch s ≡ s.slot / n = epoch_is config s linked.preset in
+    let least : 8 ≤ n = bounds.least_slots_per_epoch in
+    let most : n ≤ 32 = bounds.slots_per_epoch in
+    let room : 64 ≤ many = bounds.least_slots_per_historical_root in
+    let both : IsRecent n many s.slot (s.slot / n) × IsRecent n many s.slot (s.slot / n - 1) =
+    recent n many s.slot (omega arith) (omega arith) (omega arith) in
+    let here : IsRecent n many s.slot (get_current_epoch s) = subst (IsRecent n many s.slot) (sym epoch) both.0 in
+    let before : IsRecent n many s.slot (get_current_epoch s - 1) = subst (λ (e : ℕ). IsRecent n many s.slot (e - 1)) (sym epoch) both.1 in
+    let holds = weighed_holds (IsReachedCheckpoint config blocks) (justification_of s) weighed.checkpoints (get_current_epoch s)
+    (get_block_root s (get_current_epoch s - 1)) (get_block_root s (get_current_epoch s)) weighed.total weighed.previous weighed.current weighed.weighs late
+    (root_reached config blocks (s.slot + 1) s (get_current_epoch s - 1) linked before.less before.near)
+    (root_reached config blocks (s.slot + 1) s (get_current_epoch s) linked here.less here.near)
+    (holds_of config blocks (s.slot + 1) s linked) in
+    subst (IsLinkedTo config blocks (s.slot + 1)) weighed.gives (with_holds config blocks (s.slot + 1) s weighed.checkpoints holds linked)
+
+justified_linked : (config : ConfigValues) (blocks : List KeptBlock) (s t : PlainState) → process_justification_and_finalization s ≡ done t
+    → HasPresetBounds config.preset → IsLinkedTo config blocks (s.slot + 1) s → IsLinkedTo config blocks (s.slot + 1) t
+justified_linked config blocks s t is bounds linked = elim (either_of s t is) [
+  | inl same ↦ subst (IsLinkedTo config blocks (s.slot + 1)) same linked
+  | inr weighed ↦ weighed_linked config blocks s t weighed bounds linked
+]
+
+-- a state at the end of a slot: linked with it, and at the slot and with the header as they were
+record Ended (config : ConfigValues) (blocks : List KeptBlock) (s t : PlainState) : Type 0 where
+  linked : IsLinkedTo config blocks (s.slot + 1) t
+  slot : t.slot ≡ s.slot
+  header : t.latest_block_header ≡ s.latest_block_header
+
+epoch_ends : (config : ConfigValues) (blocks : List KeptBlock) (s t : PlainState) → process_epoch s config ≡ done t → HasPresetBounds config.preset
+    → IsLinkedTo config blocks (s.slot + 1) s → Ended config blocks s t
+epoch_ends config blocks s t is bounds linked =
+    let p = parts_of s t config is in
+    let first = justification_leaves s p.justified p.to_justified in
+    let same = links_stay s t config p in
+    record {
+      linked = same_links config blocks (s.slot + 1) p.justified t same (justified_linked config blocks s p.justified p.to_justified bounds linked);
+      slot = ap (λ (l : Links). l.slot) same ∙ first.slot;
+      header = header_leaves s t config p ∙ first.header;
+    }
+
+slot_ends : (config : ConfigValues) (blocks : List KeptBlock) (s t : Stepped) → end_epoch config s ≡ done t → HasPresetBounds config.preset
+    → IsLinkedTo config blocks (s.state.slot + 1) s.state → Ended config blocks s.state t.state
+unfolding end_epoch
+slot_ends config blocks s t is bounds linked = elim (chosen (not (is_last_of_epoch s.state)) _ _ _ is) [
+  | inl within ↦ subst (λ (x : Stepped). Ended config blocks s.state x.state) (same_value s t within.1) (record { linked = linked; slot = refl; header = refl })
+  | inr last ↦
+      let processed = on_the_way (process_epoch s.state config) _ t last.1 in
+      subst (λ (x : Stepped). Ended config blocks s.state x.state) (same_value _ t processed.then_done)
+      (epoch_ends config blocks s.state processed.value processed.first bounds linked)
+]
+
+-- ---- slots
+
+-- a state on the way from a kept block of a root: it is linked, and the block is its latest one
+pub record OnWay (config : ConfigValues) (blocks : List KeptBlock) (root : List ℕ) (s : PlainState) : Type 0 where
+  pub linked : IsLinked config blocks s
+  pub header : header_root_of s ≡ root
+  pub filled : same_root (block_header_of s).state_root zero_root ≡ false
+
+-- the first one
+pub first_on_way : (config : ConfigValues) (blocks : List KeptBlock) (root : List ℕ) (s : PlainState) → IsLinked config blocks s → header_root_of s ≡ root
+    → same_root ((state_codec s.preset).hash_tree_root s) zero_root ≡ false → OnWay config blocks root s
+first_on_way config blocks root s linked header some = record { linked = linked; header = header; filled = header_fills s some }
+
+slot_over : (s : PlainState) → (process_slot s).slot ≡ s.slot
+unfolding process_slot
+slot_over s = refl
+
+header_over : (s : PlainState) → (process_slot s).latest_block_header ≡ block_header_of s
+unfolding process_slot
+header_over s = refl
+
+-- the next slot begins
+begins : (config : ConfigValues) (blocks : List KeptBlock) (s : PlainState) → IsLinkedTo config blocks (s.slot + 1) s
+    → IsLinked config blocks (with_next_slot s)
+unfolding with_next_slot get_block_root_at_slot
+begins config blocks s linked = record {
+  preset = linked.preset;
+  roots = linked.roots;
+  history = linked.history;
+  justified = linked.justified;
+  previous = linked.previous;
+  finalized = linked.finalized;
+}
+
+next_header : (s : PlainState) → (with_next_slot s).latest_block_header ≡ s.latest_block_header
+unfolding with_next_slot
+next_header s = refl
+
+next_slot_is : (s : PlainState) → (with_next_slot s).slot ≡ s.slot + 1
+unfolding with_next_slot
+next_slot_is s = refl
+
+-- a header that was filled is that of the state at the next slot
+header_goes_on : (root : List ℕ) (s t : PlainState) → t.latest_block_header ≡ block_header_of s → Filled (block_header_of s) → header_root_of s ≡ root
+    → (header_root_of t ≡ root) × Filled (block_header_of t)
+unfolding header_root_of
+header_goes_on root s t is fills header =
+    let filled_too : Filled t.latest_block_header = subst Filled (sym is) fills in
+    let same : block_header_of t ≡ block_header_of s = header_stays t filled_too ∙ is in
+    (ap block_header_codec.hash_tree_root same ∙ header, subst Filled (sym same) fills)
+
+-- one slot
+record Next (config : ConfigValues) (blocks : List KeptBlock) (root : List ℕ) (s t : PlainState) : Type 0 where
+  on_way : OnWay config blocks root t
+  slot : t.slot ≡ s.slot + 1
+
+slot_goes : (config : ConfigValues) (blocks : List KeptBlock) (root : List ℕ) (s t : Stepped) → next_slot config s ≡ done t → HasPresetBounds config.preset
+    → IsReached config blocks root s.state.slot → OnWay config blocks root s.state → Next config blocks root s.state t.state
+unfolding next_slot
+slot_goes config blocks root s t is bounds reached way =
+    let over : Stepped = record s { state = process_slot s.state } in
+    let end = on_the_way (end_epoch config over) _ t is in
+    let y : PlainState = end.value.state in
+    let told : IsReached config blocks (header_root_of s.state) s.state.slot = subst (λ (r : List ℕ). IsReached config blocks r s.state.slot) (sym way.header)
+    reached in
+    let linked_over = slot_linked config blocks s.state bounds told way.linked in
+    let at_over : IsLinkedTo config blocks (over.state.slot + 1) over.state = subst (λ (k : ℕ). IsLinkedTo config blocks (k + 1) over.state)
+    (sym (slot_over s.state)) linked_over in
+    let ended = slot_ends config blocks over end.value end.first bounds at_over in
+    let at_end : IsLinkedTo config blocks (y.slot + 1) y = subst (λ (k : ℕ). IsLinkedTo config blocks (k + 1) y) (sym ended.slot) ended.linked in
+    let both = header_goes_on root s.state (with_next_slot y) (next_header y ∙ (ended.header ∙ header_over s.state)) way.filled way.header in
+    subst (λ (x : Stepped). Next config blocks root s.state x.state) (same_value _ t end.then_done) (record {
+      on_way = record { linked = begins config blocks y at_end; header = both.0; filled = both.1 };
+      slot = next_slot_is y ∙ ap (λ (k : ℕ). k + 1) (ended.slot ∙ slot_over s.state);
+    })
+
+-- many slots, at each of which the block is reached
+pub slots_go : (config : ConfigValues) (blocks : List KeptBlock) (root : List ℕ) (first last : ℕ) → HasPresetBounds config.preset
+    → ((slot : ℕ) → first ≤ slot → slot ≤ last → IsReached config blocks root slot)
+    → (n i : ℕ) (s t : Stepped) → each_from (λ index. next_slot config) n i s ≡ done t → first ≤ s.state.slot → s.state.slot + n ≡ last
+    → OnWay config blocks root s.state → OnWay config blocks root t.state × (t.state.slot ≡ last)
+unfolding each_from
+slots_go config blocks root first last bounds reached zero i s t is late at way = subst
+    (λ (x : Stepped). OnWay config blocks root x.state × (x.state.slot ≡ last)) (same_value s t is) (way, omega arith)
+slots_go config blocks root first last bounds reached (suc n) i s t is late at way =
+    let one = on_the_way (next_slot config s) _ t is in
+    let next = slot_goes config blocks root s one.value one.first bounds (reached s.state.slot late (omega arith)) way in
+    let slot : one.value.state.slot ≡ s.state.slot + 1 = next.slot in
+    slots_go config blocks root first last bounds reached n (i + 1) one.value t one.then_done (omega arith) (omega arith) next.on_way

@@ -1,0 +1,87 @@
+use Rattle.std.proofs.Common.{IfErr, refl, subst}
+use Rattle.fork_store.specs.Stays.{KeeperStays}
+use Rattle.fork_store.proofs.Keepers.{keeper_same}
+use Rattle.fork_store.proofs.Stays.{keeper_behind, keeper_unchanged, stop_leaves}
+use Rattle.fork_store.proofs.Walks.{whole_nodes}
+use Rattle.fork_store.proofs.on_block.on_block.Goals as goal
+
+pub block_step-requires-clause-nodes : goal.block_step-requires-clause-nodes
+block_step-requires-clause-nodes c = whole_nodes c.args.store.now c.args.array.now c.args.ready.now c.requires.parts.whole
+
+pub block_step-requires-clause-chained : goal.block_step-requires-clause-chained
+block_step-requires-clause-chained c = c.requires.parts.whole.chained
+
+pub block_step-requires-clause-keeper : goal.block_step-requires-clause-keeper
+block_step-requires-clause-keeper c = c.requires.parts.keeper_of
+
+pub accept_unless-requires-clause-few : goal.accept_unless-requires-clause-few
+accept_unless-requires-clause-few c = c.requires.few
+
+pub accept_unless-requires-clause-behind : goal.accept_unless-requires-clause-behind
+accept_unless-requires-clause-behind c = c.in_ok-step.ensures.behind
+
+pub accept_unless-requires-clause-parent : goal.accept_unless-requires-clause-parent
+accept_unless-requires-clause-parent c = c.in_ok-step.ensures.parent
+
+pub accept_unless-requires-clause-preset : goal.accept_unless-requires-clause-preset
+accept_unless-requires-clause-preset c = c.in_ok-step.ensures.preset
+
+pub accept_unless-requires-clause-linked : goal.accept_unless-requires-clause-linked
+accept_unless-requires-clause-linked c = c.in_ok-step.ensures.linked
+
+pub accept_unless-requires-clause-stepped : goal.accept_unless-requires-clause-stepped
+accept_unless-requires-clause-stepped c = c.in_ok-step.ensures.stepped
+
+pub returns-in_err-step-clause-unset : goal.returns-in_err-step-clause-unset
+returns-in_err-step-clause-unset c = λ _. refl
+
+pub returns-clause-unset : goal.returns-clause-unset
+returns-clause-unset c = c.accept_unless.ensures.unset
+
+pub returns-in_err-step-clause-array_stays : goal.returns-in_err-step-clause-array_stays
+returns-in_err-step-clause-array_stays c = stop_leaves _ refl
+
+pub returns-in_err-step-clause-keeper_stays : goal.returns-in_err-step-clause-keeper_stays
+returns-in_err-step-clause-keeper_stays c = stop_leaves _ (keeper_unchanged c.args.keeper.now c.block_step.new.keeper c.in_err-step.ensures.same)
+
+pub returns-clause-array_stays : goal.returns-clause-array_stays
+returns-clause-array_stays c = c.accept_unless.ensures.array_stays
+
+pub returns-clause-keeper_stays : goal.returns-clause-keeper_stays
+returns-clause-keeper_stays c = subst (λ k. IfErr c.accept_unless.result (λ _. KeeperStays k c.accept_unless.new.keeper)) c.in_ok-step.ensures.same c.accept_unless.ensures.keeper_stays
+
+pub parent_of-requires : goal.parent_of-requires
+parent_of-requires c = record { few = c.requires.parts.whole.few }
+
+pub returns-in_err-parent-clause-unset : goal.returns-in_err-parent-clause-unset
+returns-in_err-parent-clause-unset c = λ _. refl
+
+pub returns-in_err-parent-clause-array_stays : goal.returns-in_err-parent-clause-array_stays
+returns-in_err-parent-clause-array_stays c = stop_leaves _ refl
+
+pub returns-in_err-parent-clause-keeper_stays : goal.returns-in_err-parent-clause-keeper_stays
+returns-in_err-parent-clause-keeper_stays c = stop_leaves _ refl
+
+pub block_step-requires-clause-number : goal.block_step-requires-clause-number
+block_step-requires-clause-number c = c.in_ok-parent.ensures.number
+
+pub accept_unless-requires-clause-number : goal.accept_unless-requires-clause-number
+accept_unless-requires-clause-number c = c.in_ok-parent.ensures.number
+
+pub accept_unless-requires-clause-parts : goal.accept_unless-requires-clause-parts
+accept_unless-requires-clause-parts c = record {
+  whole = c.requires.parts.whole;
+  keeper_of = keeper_same c.args.store.now c.args.keeper.now c.block_step.new.keeper c.requires.parts.keeper_of c.in_ok-step.ensures.same;
+}
+
+pub returns-in_err-step-clause-parts : goal.returns-in_err-step-clause-parts
+returns-in_err-step-clause-parts c = record {
+  whole = c.requires.parts.whole;
+  keeper_of = keeper_same c.args.store.now c.args.keeper.now c.block_step.new.keeper c.requires.parts.keeper_of c.in_err-step.ensures.same;
+}
+
+pub returns-in_err-parent-clause-parts : goal.returns-in_err-parent-clause-parts
+returns-in_err-parent-clause-parts c = c.requires.parts
+
+pub returns-clause-parts : goal.returns-clause-parts
+returns-clause-parts c = c.accept_unless.ensures.parts

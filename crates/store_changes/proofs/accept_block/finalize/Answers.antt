@@ -1,8 +1,0 @@
--- Both checkpoints are taken.
-use Rattle.std.proofs.Common.{rules}
-use Rattle.store_parts.specs.inside.Accepted.{finalized_by}
-use Rattle.store_changes.proofs.accept_block.finalize.Goals as goal
-
-pub returns-then-finalized : goal.returns-then-finalized
-unfolding finalized_by
-returns-then-finalized c = search rules

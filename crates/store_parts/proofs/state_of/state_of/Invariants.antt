@@ -1,5 +1,0 @@
--- The ledger of the steps is the one of the blank.
-use Rattle.store_parts.proofs.state_of.state_of.Given as goal
-
-abbrev pub ghosts-counted : goal.ghosts-counted
-ghosts-counted a = record { name = a.blank.name; parts = a.blank.parts }

@@ -1,2 +1,0 @@
-pub mod ChainStep
-pub mod inside
