@@ -13,7 +13,7 @@ use Rattle.spec_fork_choice.specs.Slots.{start_slot_of}
 use Rattle.spec_fork_choice.specs.Store.{KeptBlock, Store, block_of, is_kept}
 use Rattle.spec_fork_choice.specs.OnBlock.{with_block, with_boost, with_justified, with_finalized, with_accepted}
 use Rattle.fork_store.specs.inside.Accepted.{boosted, justified_by, finalized_by, settled}
-use Rattle.fork_store.specs.Arrays.{Balances, balances_of, number_of, IsArrayOf}
+use Rattle.fork_store.specs.Arrays.{Balances, balances_of, node_number, IsArrayOf}
 use Rattle.fork_store.specs.inside.Chains.{IsLinked, IsChained}
 use Rattle.fork_store.specs.inside.Wholes.{balances_for, IsReady, IsWhole}
 use Rattle.fork_store.specs.inside.Following.{may_move, AreGiven}
@@ -36,8 +36,8 @@ of_block P store kept again fresh = elim (chosen (is_kept store.blocks kept.root
   | inr is ↦ subst P is.1 fresh
 ]
 
-numbered_of : (blocks : List KeptBlock) (root : List ℕ) → is_kept blocks root ≡ true → number_of blocks root ≡ Some (place_of blocks root)
-unfolding number_of
+numbered_of : (blocks : List KeptBlock) (root : List ℕ) → is_kept blocks root ≡ true → node_number blocks root ≡ Some (place_of blocks root)
+unfolding node_number
 numbered_of blocks root kept = ap (λ b. if b then Some (place_of blocks root) else None) kept
 
 balances_more : (store : Store) (kept : KeptBlock) (checkpoint : Checkpoint) → is_kept store.blocks checkpoint.root ≡ true → balances_for (record store { blocks = store.blocks ++ kept ∷ [] }) checkpoint ≡ balances_for store checkpoint

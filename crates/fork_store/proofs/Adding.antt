@@ -12,12 +12,12 @@ use Rattle.spec_state.specs.declared.plain.PlainState.{PlainState}
 use Rattle.spec_state.specs.Genesis.{zero_root}
 use Rattle.spec_fork_choice.specs.Store.{KeptBlock, Store, is_kept, slot_of}
 use Rattle.fork_store.specs.Trees.{HasParent, IsTree}
-use Rattle.fork_store.specs.Arrays.{number_of, facts_of, IsArrayOf}
+use Rattle.fork_store.specs.Arrays.{node_number, facts_of, IsArrayOf}
 use Rattle.fork_store.proofs.Following.{number_fits}
 use Rattle.fork_store.proofs.ArraysNodes.{length_nodes, slot_of_number}
 use Rattle.fork_store.proofs.ArraysSteps.{keeps_block, keeps_spare}
 
-module _ (store : Store) (a told : PlainArray) (block : BeaconBlock) (parent : ℕ) (is : IsArrayOf store a) (spare : told ≡ with_spare a 0) (at : Some parent ≡ number_of store.blocks block.parent_root) where
+module _ (store : Store) (a told : PlainArray) (block : BeaconBlock) (parent : ℕ) (is : IsArrayOf store a) (spare : told ≡ with_spare a 0) (at : Some parent ≡ node_number store.blocks block.parent_root) where
   pub parent_fits : parent < length told.nodes
   parent_fits = subst (λ (x : PlainArray). parent < length x.nodes) (sym spare) (number_fits store.blocks block.parent_root parent a at is.nodes)
 
@@ -43,7 +43,7 @@ node_added (Err stop) a old new value spare is room = absurd (false≢true (room
 pub spare_array : (store : Store) (a told : PlainArray) → IsArrayOf store a → told ≡ with_spare a 0 → IsArrayOf store told
 spare_array store a told is spare = subst (IsArrayOf store) (sym spare) (keeps_spare store a is 0)
 
-pub block_array : (store after : Store) (a told new : PlainArray) (root : List ℕ) (block : BeaconBlock) (state : PlainState) (parent : ℕ) → IsArrayOf store a → told ≡ with_spare a 0 → same_root root zero_root ≡ false → Some parent ≡ number_of store.blocks block.parent_root
+pub block_array : (store after : Store) (a told new : PlainArray) (root : List ℕ) (block : BeaconBlock) (state : PlainState) (parent : ℕ) → IsArrayOf store a → told ≡ with_spare a 0 → same_root root zero_root ≡ false → Some parent ≡ node_number store.blocks block.parent_root
     → after ≡ record store { blocks = store.blocks ++ record { root = root; block = block; state = state } ∷ [] } → new ≡ with_node told parent block.slot root (record { justified = state.current_justified_checkpoint; finalized = state.finalized_checkpoint }) → IsArrayOf after new
 unfolding facts_of
 block_array store after a told new root block state parent is spare named at grown pushed =

@@ -10,7 +10,7 @@ use Rattle.spec_fork_choice.specs.GetAncestor.{get_ancestor}
 use Rattle.spec_fork_choice.specs.FilterBlockTree.{get_filtered_block_tree}
 use Rattle.spec_fork_choice.specs.GetHead.{get_head}
 use Rattle.spec_fork_choice.specs.GetLatestAttestingBalance.{get_latest_attesting_balance}
-use Rattle.fork_store.specs.Arrays.{number_of, IsBoostedNode, IsArrayOf}
+use Rattle.fork_store.specs.Arrays.{node_number, IsBoostedNode, IsArrayOf}
 use Rattle.fork_store.specs.Stores.{IsStore}
 use Rattle.fork_store.proofs.ArraysAncestors.{get_ancestor_root}
 use Rattle.fork_store.proofs.ArraysWeights.{same_weight}
@@ -18,7 +18,7 @@ use Rattle.fork_store.proofs.ArraysHead.{filtered_roots, head_root}
 
 module _ (store : Store) (a : PlainArray) (is : IsArrayOf store a) (good : IsStore store) where
   -- the node of a root
-  module _ (root : List ℕ) (n : ℕ) (numbered : number_of store.blocks root ≡ Some n) where
+  module _ (root : List ℕ) (n : ℕ) (numbered : node_number store.blocks root ≡ Some n) where
     -- get_ancestor
     pub ancestor : (slot : ℕ) → get_ancestor store root slot ≡ root_at a.nodes (array_ancestor.get_ancestor a.nodes n slot)
     ancestor slot =
@@ -40,6 +40,6 @@ module _ (store : Store) (a : PlainArray) (is : IsArrayOf store a) (good : IsSto
 pub ruleset agreeing = (ancestor, weight, filtered, head)
 
 -- the boosted node is that of a kept block
-pub boosted_some : (blocks : List KeptBlock) (root : List ℕ) (n : ℕ) → number_of blocks root ≡ Some n → IsBoostedNode blocks root (Some n)
+pub boosted_some : (blocks : List KeptBlock) (root : List ℕ) (n : ℕ) → node_number blocks root ≡ Some n → IsBoostedNode blocks root (Some n)
 unfolding IsBoostedNode
 boosted_some blocks root n numbered = numbered

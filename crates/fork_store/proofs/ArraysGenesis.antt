@@ -13,7 +13,7 @@ use Rattle.spec_fork_choice.specs.Clash.{place_of, clash_with, clash_of}
 use Rattle.spec_fork_choice.specs.GetForkchoiceStore.{genesis_block, get_forkchoice_store}
 use Rattle.spec_fork_choice.specs.OnEvent.{genesis_clash}
 use Rattle.spec_fork_choice.specs.StoreTargetCheckpointState.{store_target_checkpoint_state}
-use Rattle.fork_store.specs.Arrays.{number_of, facts_of, node_of, nodes_behind, nodes_of, messages_at, BeginsAtZero, IsBoostedNode, balances_of, balances_at, IsArrayOf}
+use Rattle.fork_store.specs.Arrays.{node_number, facts_of, node_of, nodes_behind, nodes_of, messages_at, BeginsAtZero, IsBoostedNode, balances_of, balances_at, IsArrayOf}
 use Rattle.fork_store.proofs.ArraysPlaces.{is_same}
 
 -- a block that doesn't clash has a root that isn't zero
@@ -26,8 +26,8 @@ pub unclashed_root : (blocks : List KeptBlock) (root state_root : List ℕ) (blo
 unfolding clash_of clash_with
 unclashed_root blocks root state_root block h = unclashed_by (same_root root zero_root) _ _ h
 
-one_number : (kept : KeptBlock) → number_of (kept ∷ []) kept.root ≡ Some 0
-unfolding number_of is_kept block_of place_of
+one_number : (kept : KeptBlock) → node_number (kept ∷ []) kept.root ≡ Some 0
+unfolding node_number is_kept block_of place_of
 one_number kept = ap (λ b. cond (is_some (cond b (Some kept) None)) (Some (cond (not b) 1 0)) None) (is_same kept.root kept.root refl)
 
 one_unkept : (kept : KeptBlock) → same_root kept.root zero_root ≡ false → is_kept (kept ∷ []) zero_root ≡ false
@@ -40,7 +40,7 @@ pub genesis_array : (config : ConfigValues) (genesis : PlainState) (balances : L
     → IsArrayOf (get_forkchoice_store config genesis) (with_balances
     (new_array config.preset.slots_per_epoch config.proposer_score_boost 0 (block_codec.hash_tree_root (genesis_block genesis)) (facts_of genesis))
     balances count total)
-unfolding get_forkchoice_store genesis_block genesis_clash nodes_of nodes_behind node_of number_of is_kept block_of messages_at BeginsAtZero IsBoostedNode
+unfolding get_forkchoice_store genesis_block genesis_clash nodes_of nodes_behind node_of node_number is_kept block_of messages_at BeginsAtZero IsBoostedNode
     balances_at
 genesis_array config genesis balances count total none ready =
     let root : List ℕ = block_codec.hash_tree_root (genesis_block genesis) in

@@ -14,7 +14,7 @@ use Rattle.spec_fork_choice.specs.Store.{KeptBlock, Store}
 use Rattle.spec_fork_choice.specs.FilterBlockTree.{has_child, agrees, is_viable, with_viable, filter_block_tree, get_filtered_block_tree}
 use Rattle.spec_fork_choice.specs.GetLatestAttestingBalance.{get_latest_attesting_balance}
 use Rattle.spec_fork_choice.specs.GetHead.{is_greater_root, goes_before, best_of, children_of, next_head, head_within, get_head}
-use Rattle.fork_store.specs.Arrays.{number_of, facts_of, node_of, nodes_behind, nodes_of, IsArrayOf}
+use Rattle.fork_store.specs.Arrays.{node_number, facts_of, node_of, nodes_behind, nodes_of, IsArrayOf}
 use Rattle.fork_store.specs.Stores.{HasPreset}
 use Rattle.fork_store.specs.Trees.{IsTree}
 use Rattle.fork_store.proofs.ArraysPlaces.{at_number, same_is, is_same, same_number}
@@ -189,7 +189,7 @@ module _ (store : Store) (a : PlainArray) (is : IsArrayOf store a) (tree : IsTre
         into true x y = refl
         into false x y = refl
 
-    next_at : (root : List ℕ) (n : ℕ) (ns : List ℕ) (ks : List KeptBlock) → number_of blocks root ≡ Some n → AreAt blocks ns ks → number_of blocks
+    next_at : (root : List ℕ) (n : ℕ) (ns : List ℕ) (ks : List KeptBlock) → node_number blocks root ≡ Some n → AreAt blocks ns ks → node_number blocks
         (next_head store root ks) ≡ Some (heads.next_head a n ns)
     unfolding next_head heads.next_head
     next_at root n [] [] numbered are = numbered
@@ -197,7 +197,7 @@ module _ (store : Store) (a : PlainArray) (is : IsArrayOf store a) (tree : IsTre
     next_at root n (m ∷ ns) [] numbered are = absurd are
     next_at root n (m ∷ ns) (c ∷ ks) numbered are = number_here blocks tree (heads.best_of a m ns) (best_of store c ks) (best_at m c ns ks are.0 are.1)
 
-    children_at : (root : List ℕ) (n : ℕ) (ns : List ℕ) (ks : List KeptBlock) → number_of blocks root ≡ Some n → AreAt blocks ns ks → AreAt blocks
+    children_at : (root : List ℕ) (n : ℕ) (ns : List ℕ) (ks : List KeptBlock) → node_number blocks root ≡ Some n → AreAt blocks ns ks → AreAt blocks
         (heads.children_of a ns n) (children_of ks root)
     unfolding heads.children_of children_of
     children_at root n ns ks numbered are =
@@ -205,15 +205,15 @@ module _ (store : Store) (a : PlainArray) (is : IsArrayOf store a) (tree : IsTre
         subst (λ r. AreAt blocks (filter (tree_of.is_child_at a.nodes n) ns) (filter (λ kept. same_root kept.block.parent_root r) ks)) it.named
         (filter_at n it.kept it.at ns ks are)
 
-    head_number_within : (steps : ℕ) (root : List ℕ) (n : ℕ) (ns : List ℕ) (ks : List KeptBlock) → number_of blocks root ≡ Some n → AreAt blocks ns ks
-        → number_of blocks (head_within steps store ks root) ≡ Some (heads.head_within steps a ns n)
+    head_number_within : (steps : ℕ) (root : List ℕ) (n : ℕ) (ns : List ℕ) (ks : List KeptBlock) → node_number blocks root ≡ Some n → AreAt blocks ns ks
+        → node_number blocks (head_within steps store ks root) ≡ Some (heads.head_within steps a ns n)
     unfolding head_within heads.head_within
     head_number_within zero root n ns ks numbered are = numbered
     head_number_within (suc steps) root n ns ks numbered are =
         head_number_within steps (next_head store root (children_of ks root)) (heads.next_head a n (heads.children_of a ns n)) ns ks
         (next_at root n (heads.children_of a ns n) (children_of ks root) numbered (children_at root n ns ks numbered are)) are
 
-    pub head_number : number_of blocks (get_head store) ≡ Some (heads.get_head a)
+    pub head_number : node_number blocks (get_head store) ≡ Some (heads.get_head a)
     unfolding get_head heads.get_head
     head_number =
         head_number_within (length blocks) store.justified_checkpoint.root a.justified_node (tree_of.get_filtered_block_tree a)

@@ -7,7 +7,7 @@ use Rattle.block_array.specs.PlainArray.{slot_at, root_at, parent_at}
 use Rattle.spec_state.specs.Genesis.{zero_root}
 use Rattle.spec_fork_choice.specs.Store.{KeptBlock, slot_of, parent_of}
 use Rattle.spec_fork_choice.specs.Clash.{place_of}
-use Rattle.fork_store.specs.Arrays.{number_of, node_of, nodes_behind, nodes_of, BeginsAtZero}
+use Rattle.fork_store.specs.Arrays.{node_number, node_of, nodes_behind, nodes_of, BeginsAtZero}
 use Rattle.fork_store.specs.Trees.{HasParent, Follows, IsTreeBehind, IsTree}
 use Rattle.fork_store.proofs.ArraysPlaces.{at_number, number_more, number_fresh, number_found, no_number}
 
@@ -79,7 +79,7 @@ item_of (x ∷ xs) (suc n) h = item_of xs n (omega arith)
 -- what a block's parent is among the nodes
 pub record HasParentNode (blocks : List KeptBlock) (n : ℕ) (kept : KeptBlock) : Type 0 where
   pub parent : ℕ
-  pub number : number_of blocks kept.block.parent_root ≡ Some parent
+  pub number : node_number blocks kept.block.parent_root ≡ Some parent
   pub node : parent_at (nodes_of blocks) n ≡ Some parent
 
 module _ (blocks : List KeptBlock) (tree : IsTree blocks) where
@@ -91,7 +91,7 @@ module _ (blocks : List KeptBlock) (tree : IsTree blocks) where
     pub follows_here : Follows (take n blocks) kept
     follows_here = follows_behind [] blocks n kept tree here
 
-    pub number_here : number_of blocks kept.root ≡ Some n
+    pub number_here : node_number blocks kept.root ≡ Some n
     number_here = number_fresh blocks n kept here follows_here.fresh
 
     pub slot_here : slot_at (nodes_of blocks) n ≡ kept.block.slot
@@ -102,17 +102,17 @@ module _ (blocks : List KeptBlock) (tree : IsTree blocks) where
     unfolding root_at node_of
     root_here = ap (λ (o : Option Node). option_map_or (λ node. node.root) o []) node_here
 
-    pub parent_here : parent_at (nodes_of blocks) n ≡ number_of (take n blocks) kept.block.parent_root
+    pub parent_here : parent_at (nodes_of blocks) n ≡ node_number (take n blocks) kept.block.parent_root
     unfolding parent_at node_of
     parent_here = ap (λ (o : Option Node). option_and_then (λ node. node.parent) o) node_here
 
     found_parent : HasParent (take n blocks) kept.block → HasParentNode blocks n kept
     found_parent has =
         let p : ℕ = place_of (take n blocks) kept.block.parent_root in
-        let numbered : number_of (take n blocks) kept.block.parent_root ≡ Some p = number_found (take n blocks) kept.block.parent_root has.parent has.found in
+        let numbered : node_number (take n blocks) kept.block.parent_root ≡ Some p = number_found (take n blocks) kept.block.parent_root has.parent has.found in
         record {
           parent = p;
-          number = subst (λ (l : List KeptBlock). number_of l kept.block.parent_root ≡ Some p) (cut blocks n)
+          number = subst (λ (l : List KeptBlock). node_number l kept.block.parent_root ≡ Some p) (cut blocks n)
               (number_more (take n blocks) (drop n blocks) kept.block.parent_root p numbered);
           node = parent_here ∙ numbered;
         }
@@ -123,11 +123,11 @@ module _ (blocks : List KeptBlock) (tree : IsTree blocks) where
     parent_cases begins = elim follows_here.parent [
       | inl none ↦
           let first = first_block blocks n kept begins none here in
-          inl (first.0, first.1, parent_here ∙ ap (λ l. number_of l kept.block.parent_root) none ∙ no_number kept.block.parent_root)
+          inl (first.0, first.1, parent_here ∙ ap (λ l. node_number l kept.block.parent_root) none ∙ no_number kept.block.parent_root)
       | inr has ↦ inr (found_parent has)
     ]
 
-  module _ (root : List ℕ) (n : ℕ) (numbered : number_of blocks root ≡ Some n) where
+  module _ (root : List ℕ) (n : ℕ) (numbered : node_number blocks root ≡ Some n) where
     pub root_of_number : root_at (nodes_of blocks) n ≡ root
     root_of_number = let it = at_number blocks root n numbered in root_here n it.kept it.at ∙ it.named
 
@@ -143,7 +143,7 @@ module _ (blocks : List KeptBlock) (tree : IsTree blocks) where
         let it = at_number blocks root n numbered in
         ap (λ (o : Option KeptBlock). option_map_or (λ kept. kept.block.parent_root) o zero_root) it.found
 
-  pub root_number : (n : ℕ) → n < length blocks → number_of blocks (root_at (nodes_of blocks) n) ≡ Some n
+  pub root_number : (n : ℕ) → n < length blocks → node_number blocks (root_at (nodes_of blocks) n) ≡ Some n
   root_number n inside =
       let it = item_of blocks n inside in
-      ap (number_of blocks) (root_here n it.0 it.1) ∙ number_here n it.0 it.1
+      ap (node_number blocks) (root_here n it.0 it.1) ∙ number_here n it.0 it.1

@@ -14,7 +14,7 @@ use Rattle.spec_state.specs.Genesis.{zero_root}
 use Rattle.spec_fork_choice.specs.Store.{KeptBlock, Store, block_of, is_kept}
 use Rattle.spec_fork_choice.specs.Slots.{start_slot_of}
 use Rattle.spec_fork_choice.specs.StoreTargetCheckpointState.{kept_or, state_at, store_target_checkpoint_state}
-use Rattle.fork_store.specs.Arrays.{number_of, facts_of, node_of, nodes_of, message_at, messages_at, BeginsAtZero, IsForNode, IsBoostedNode, balances_of, balances_at, IsArrayOf}
+use Rattle.fork_store.specs.Arrays.{node_number, facts_of, node_of, nodes_of, message_at, messages_at, BeginsAtZero, IsForNode, IsBoostedNode, balances_of, balances_at, IsArrayOf}
 use Rattle.fork_store.proofs.ArraysPlaces.{at_number, number_more, block_more, number_inside, none_opens}
 use Rattle.fork_store.proofs.ArraysNodes.{nodes_push}
 
@@ -75,7 +75,7 @@ boost_more blocks more root None is = is
 boost_more blocks more root (Some n) is = number_more blocks more root n is
 
 -- a checkpoint's state is that of its block
-pub state_more : (store : Store) (more : List KeptBlock) (checkpoint : Checkpoint) (n : ℕ) → number_of store.blocks checkpoint.root ≡ Some n
+pub state_more : (store : Store) (more : List KeptBlock) (checkpoint : Checkpoint) (n : ℕ) → node_number store.blocks checkpoint.root ≡ Some n
     → store_target_checkpoint_state (record store { blocks = store.blocks ++ more }) checkpoint ≡ store_target_checkpoint_state store checkpoint
 unfolding store_target_checkpoint_state state_at
 state_more store more checkpoint n numbered =
@@ -84,7 +84,7 @@ state_more store more checkpoint n numbered =
     (block_more store.blocks more checkpoint.root it.kept it.found ∙ sym it.found)
 
 module _ (store : Store) (a : PlainArray) (is : IsArrayOf store a) where
-  pub keeps_block : (kept : KeptBlock) (parent : ℕ) → same_root kept.root zero_root ≡ false → number_of store.blocks kept.block.parent_root ≡ Some parent
+  pub keeps_block : (kept : KeptBlock) (parent : ℕ) → same_root kept.root zero_root ≡ false → node_number store.blocks kept.block.parent_root ≡ Some parent
       → IsArrayOf (record store { blocks = store.blocks ++ kept ∷ [] }) (with_node a parent kept.block.slot kept.root (facts_of kept.state))
   unfolding node_of balances_at
   keeps_block kept parent named numbered =

@@ -12,7 +12,7 @@ use Rattle.spec_state.specs.Genesis.{zero_root}
 use Rattle.spec_fork_choice.specs.Store.{KeptBlock, LatestMessage, Store, is_kept, message_of}
 use Rattle.spec_fork_choice.specs.Clash.{place_of}
 use Rattle.spec_fork_choice.specs.GetLatestAttestingBalance.{is_on_chain_of, votes_for, is_boosted}
-use Rattle.fork_store.specs.Arrays.{number_of, nodes_of, message_at, messages_at, IsForNode, IsBoostedNode, IsArrayOf}
+use Rattle.fork_store.specs.Arrays.{node_number, nodes_of, message_at, messages_at, IsForNode, IsBoostedNode, IsArrayOf}
 use Rattle.fork_store.specs.Trees.{IsTree}
 use Rattle.fork_store.proofs.ArraysPlaces.{same_is, is_same}
 use Rattle.fork_store.proofs.ArraysNodes.{length_nodes, root_number}
@@ -30,14 +30,14 @@ all_read P none (x ∷ xs) zero all = all.0
 all_read P none (x ∷ xs) (suc i) all = all_read P none xs i all.1
 
 -- the zero root has no number
-pub zero_has_none : (blocks : List KeptBlock) → is_kept blocks zero_root ≡ false → number_of blocks zero_root ≡ None
-unfolding number_of
+pub zero_has_none : (blocks : List KeptBlock) → is_kept blocks zero_root ≡ false → node_number blocks zero_root ≡ None
+unfolding node_number
 zero_has_none blocks h = ap (λ b. cond b (Some (place_of blocks zero_root)) None) h
 
-pub not_zero : (blocks : List KeptBlock) (root : List ℕ) (n : ℕ) → is_kept blocks zero_root ≡ false → number_of blocks root ≡ Some n
+pub not_zero : (blocks : List KeptBlock) (root : List ℕ) (n : ℕ) → is_kept blocks zero_root ≡ false → node_number blocks root ≡ Some n
     → same_root root zero_root ≡ false
 not_zero blocks root n h numbered =
-    false_from_ne_true (same_root root zero_root) (λ t. let e : None ≡ Some n = sym (zero_has_none blocks h) ∙ ap (number_of blocks)
+    false_from_ne_true (same_root root zero_root) (λ t. let e : None ≡ Some n = sym (zero_has_none blocks h) ∙ ap (node_number blocks)
     (sym (same_is root zero_root t)) ∙ numbered in absurd cc)
 
 module _ (store : Store) (a : PlainArray) (is : IsArrayOf store a) (tree : IsTree store.blocks) where
@@ -52,7 +52,7 @@ module _ (store : Store) (a : PlainArray) (is : IsArrayOf store a) (tree : IsTre
   unfolding array.message_of IsForNode
   message_inside validator = all_read (IsForNode (length a.nodes)) tt a.latest_messages validator is.voted
 
-  module _ (root : List ℕ) (n : ℕ) (numbered : number_of store.blocks root ≡ Some n) where
+  module _ (root : List ℕ) (n : ℕ) (numbered : node_number store.blocks root ≡ Some n) where
     chain_at : (m : ℕ) → m < length a.nodes → is_on_chain_of store root (root_at a.nodes m) ≡ weights.is_on_chain_of a.nodes n m
     chain_at m inside =
         let less : m < length store.blocks = subst (λ k. m < k) same_length inside in

@@ -16,7 +16,7 @@ use Rattle.spec_state.specs.Accessors.{get_current_epoch, get_active_validator_i
 use Rattle.spec_fork_choice.specs.Store.{Store}
 use Rattle.spec_fork_choice.specs.StoreTargetCheckpointState.{store_target_checkpoint_state}
 use Rattle.spec_fork_choice.specs.GetLatestAttestingBalance.{votes_for, is_boosted, active_in, attestation_score, proposer_score, weight_in, weight_by, get_latest_attesting_balance}
-use Rattle.fork_store.specs.Arrays.{number_of, Balances, balance_in, balances_in, no_balances, balances_of, balances_at, IsArrayOf}
+use Rattle.fork_store.specs.Arrays.{node_number, Balances, balance_in, balances_in, no_balances, balances_of, balances_at, IsArrayOf}
 use Rattle.fork_store.specs.Stores.{HasPreset}
 use Rattle.fork_store.specs.Trees.{IsTree}
 use Rattle.fork_store.proofs.ArraysVotes.{same_votes, same_boost}
@@ -61,7 +61,7 @@ unfolding weights.attestation_score weights.validators_of array.balance_of
 score_at a n balances e = ap (score_of a n) e
 
 module _ (store : Store) (a : PlainArray) (is : IsArrayOf store a) (tree : IsTree store.blocks) (root : List ℕ) (n : ℕ)
-    (numbered : number_of store.blocks root ≡ Some n) where
+    (numbered : node_number store.blocks root ≡ Some n) where
   same_score : (state : PlainState) → balances_at a ≡ balances_in state → attestation_score store state root ≡ weights.attestation_score a n
   unfolding attestation_score active_in get_active_validator_indices balances_at balances_in
   same_score state e =

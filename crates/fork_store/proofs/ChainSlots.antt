@@ -2,21 +2,17 @@
 use Rattle.std.proofs.Common.{◌≡◌, ◌≢◌, ◌∙◌, ℕ, zero, suc, ◌+◌, ◌-◌, ◌*◌, ◌/◌, ◌%◌, ◌<◌, ◌≤◌, false, not, List, [], length, slice_set, refl, sym, ap, subst}
 use Rattle.std.proofs.Common.{arith, inl, inr}
 use Rattle.std.specs.Prelude.{slice_index_or}
-use Rattle.std.proofs.lemmas.Bool.{cases_lt}
-use Rattle.std.proofs.lemmas.List.{length-set, get_or-set_same, get_or-set_other}
-use Rattle.std.proofs.Math.Nat.{div-add-mod, mod-lt, mul_comm}
+use Rattle.std.proofs.lemmas.List.{length-set}
 use Rattle.bc_words.specs.Outcome.{done, each_from}
 use Rattle.bc_preset.specs.declared.presets.Preset.{Preset}
 use Rattle.bc_preset.specs.declared.configuration.ConfigValues.{ConfigValues}
 use Rattle.bc_preset.specs.laws.Bounds.{HasPresetBounds}
 use Rattle.beacon_types.specs.Equality.{same_root}
-use Rattle.beacon_types.specs.Containers.{block_header_codec}
 use Rattle.spec_state.specs.declared.plain.PlainState.{PlainState}
 use Rattle.spec_state.specs.States.{state_codec}
 use Rattle.spec_state.specs.Genesis.{block_header_of, header_root_of, zero_root}
 use Rattle.spec_state.specs.Accessors.{get_current_epoch, get_previous_epoch, get_block_root, get_block_root_at_slot}
 use Rattle.spec_blocks.proofs.Done.{on_the_way, chosen, same_value}
-use Rattle.spec_blocks.proofs.SoundHeads.{apart}
 use Rattle.spec_epochs.specs.declared.justification.Justification.{Justification}
 use Rattle.spec_epochs.specs.WeighJustificationAndFinalization.{justification_of, with_justification}
 use Rattle.spec_epochs.specs.ProcessJustificationAndFinalization.{process_justification_and_finalization}
@@ -26,8 +22,9 @@ use Rattle.spec_epochs.proofs.JustifiedCheckpoints.{Holds, weighed_holds}
 use Rattle.spec_epochs.proofs.SoundJustification.{Weighed, either_of, justification_leaves}
 use Rattle.spec_transition.specs.ProcessSlot.{process_slot}
 use Rattle.spec_transition.specs.ProcessSlots.{Stepped, is_last_of_epoch, with_next_slot, end_epoch, next_slot}
-use Rattle.spec_transition.proofs.HeaderChecks.{Filled, header_fills, header_stays}
+use Rattle.spec_transition.proofs.HeaderChecks.{header_fills, header_goes_on}
 use Rattle.spec_transition.proofs.Links.{Links, links_of, links_stay, header_leaves}
+use Rattle.spec_transition.proofs.RecentRoots.{set_root, IsRecent, recent}
 use Rattle.spec_fork_choice.specs.Store.{KeptBlock}
 use Rattle.fork_store.specs.inside.Chains.{IsReached, IsReachedCheckpoint, IsLinkedTo, IsLinked}
 
@@ -48,21 +45,6 @@ same_links config blocks end s t same linked = record {
 }
 
 -- ---- the end of a slot
-
--- of a list in which one place was set, what stands at a place
-set_root : (n : ℕ) (roots : List (List ℕ)) (root : List ℕ) (at slot : ℕ) (P : List ℕ → Type 0) → length roots ≡ n → 0 < n → slot < at + 1 → at < slot + n
-    → (slot ≡ at → P root)
-    → (slot < at → P (slice_index_or roots (slot % n) [])) → P (slice_index_or (slice_set roots (at % n) root) (slot % n) [])
-set_root n roots root at slot P is some less near here before = elim (cases_lt slot at) [
-  | inl earlier ↦
-      let other : slot % n ≢ at % n = apart n slot at earlier near in
-      subst P (sym (get_or-set_other roots (at % n) (slot % n) root [] other)) (before earlier)
-  | inr late ↦
-      let same : slot ≡ at = omega arith in
-      let inside : at % n < length roots = let low : at % n < n = mod-lt at some in omega arith in
-      subst (λ (k : ℕ). P (slice_index_or (slice_set roots (at % n) root) (k % n) [])) (sym same)
-      (subst P (sym (get_or-set_same roots (at % n) root [] inside)) (here same))
-]
 
 -- the slot that ends is told by the latest block
 slot_linked : (config : ConfigValues) (blocks : List KeptBlock) (s : PlainState) → HasPresetBounds config.preset
@@ -95,21 +77,6 @@ root_reached config blocks end s epoch linked less near =
     let first : ℕ = epoch * config.preset.slots_per_epoch in
     let P : Preset → Type 0 = λ (p : Preset). IsReached config blocks (get_block_root_at_slot s (epoch * p.slots_per_epoch)) first in
     subst P (sym linked.preset) (linked.history first less near)
-
--- the first slots of an epoch and of the one before it are among the latest ones
-record IsRecent (n many slot epoch : ℕ) : Type 0 where
-  less : epoch * n < slot + 1
-  near : slot + 1 ≤ epoch * n + many
-
-recent : (n many slot : ℕ) → 0 < n → n + n ≤ many → 1 < slot / n → IsRecent n many slot (slot / n) × IsRecent n many slot (slot / n - 1)
-recent n many slot some room late =
-    let epoch : ℕ = slot / n in
-    let one : epoch ≡ (epoch - 1) + 1 = omega arith in
-    let before : epoch * n ≡ ((epoch - 1) + 1) * n = ap (λ (k : ℕ). k * n) one in
-    let parts = div-add-mod slot n in
-    let low : slot % n < n = mod-lt slot some in
-    let turned = mul_comm epoch n in
-    (record { less = omega arith; near = omega arith }, record { less = omega arith; near = omega arith })
 
 holds_of : (config : ConfigValues) (blocks : List KeptBlock) (end : ℕ) (s : PlainState) → IsLinkedTo config blocks end s
     → Holds (IsReachedCheckpoint config blocks) (justification_of s)
@@ -232,15 +199,6 @@ next_header s = refl
 next_slot_is : (s : PlainState) → (with_next_slot s).slot ≡ s.slot + 1
 unfolding with_next_slot
 next_slot_is s = refl
-
--- a header that was filled is that of the state at the next slot
-header_goes_on : (root : List ℕ) (s t : PlainState) → t.latest_block_header ≡ block_header_of s → Filled (block_header_of s) → header_root_of s ≡ root
-    → (header_root_of t ≡ root) × Filled (block_header_of t)
-unfolding header_root_of
-header_goes_on root s t is fills header =
-    let filled_too : Filled t.latest_block_header = subst Filled (sym is) fills in
-    let same : block_header_of t ≡ block_header_of s = header_stays t filled_too ∙ is in
-    (ap block_header_codec.hash_tree_root same ∙ header, subst Filled (sym same) fills)
 
 -- one slot
 record Next (config : ConfigValues) (blocks : List KeptBlock) (root : List ℕ) (s t : PlainState) : Type 0 where

@@ -9,7 +9,7 @@ use Rattle.indexmap.specs.IndexSet.{insert_key}
 use Rattle.beacon_types.specs.Equality.{same_root}
 use Rattle.spec_fork_choice.specs.Store.{KeptBlock, block_of, is_kept}
 use Rattle.spec_fork_choice.specs.Clash.{place_of}
-use Rattle.fork_store.specs.Arrays.{number_of}
+use Rattle.fork_store.specs.Arrays.{node_number}
 use Rattle.fork_store.specs.Roots.{roots_of}
 use Rattle.fork_store.proofs.Items.{past}
 use Rattle.fork_store.proofs.ArraysPlaces.{number_inside, none_opens}
@@ -43,12 +43,12 @@ kept_within : (blocks : List KeptBlock) (root : List ℕ) → is_kept blocks roo
 unfolding is_kept
 kept_within blocks root = ap is_some (block_in_place blocks root) ∙ is_within blocks (place_of blocks root)
 
-number_is : (blocks : List KeptBlock) (root : List ℕ) → number_of blocks root ≡ cond (is_kept blocks root) (Some (place_of blocks root)) None
-unfolding number_of
+number_is : (blocks : List KeptBlock) (root : List ℕ) → node_number blocks root ≡ cond (is_kept blocks root) (Some (place_of blocks root)) None
+unfolding node_number
 number_is blocks root = refl
 
 -- the place among the roots is the number
-pub numbered : (blocks : List KeptBlock) (keys : List (List ℕ)) (root : List ℕ) → keys ≡ roots_of blocks → position (same_root root) keys ≡ number_of blocks root
+pub numbered : (blocks : List KeptBlock) (keys : List (List ℕ)) (root : List ℕ) → keys ≡ roots_of blocks → position (same_root root) keys ≡ node_number blocks root
 numbered blocks keys root same =
     ap (position (same_root root)) same
     ∙ (λ i. cond (nat_lt (place_by_roots blocks root i) (length_roots blocks i)) (Some (place_by_roots blocks root i)) None)
@@ -62,43 +62,43 @@ number_by true place n e = same_Some n place e
 number_by false place n e = absurd cc
 
 -- a number is the block's place
-pub in_place : (blocks : List KeptBlock) (root : List ℕ) (n : ℕ) → Some n ≡ number_of blocks root → n ≡ place_of blocks root
+pub in_place : (blocks : List KeptBlock) (root : List ℕ) (n : ℕ) → Some n ≡ node_number blocks root → n ≡ place_of blocks root
 in_place blocks root n e = number_by (is_kept blocks root) (place_of blocks root) n (e ∙ number_is blocks root)
 
-pub inside : (blocks : List KeptBlock) (root : List ℕ) (n : ℕ) → Some n ≡ number_of blocks root → n < length blocks
+pub inside : (blocks : List KeptBlock) (root : List ℕ) (n : ℕ) → Some n ≡ node_number blocks root → n < length blocks
 inside blocks root n e = number_inside blocks root n (sym e)
 
 none_by : (b : Bool) (place : ℕ) → None ≡ cond b (Some place) None → b ≡ false
 none_by true place e = absurd cc
 none_by false place e = refl
 
-not_kept : (blocks : List KeptBlock) (root : List ℕ) → None ≡ number_of blocks root → is_kept blocks root ≡ false
+not_kept : (blocks : List KeptBlock) (root : List ℕ) → None ≡ node_number blocks root → is_kept blocks root ≡ false
 not_kept blocks root e = none_by (is_kept blocks root) (place_of blocks root) (e ∙ number_is blocks root)
 
 pub no_block : (o : Option KeptBlock) → is_some o ≡ false → None ≡ o
 no_block None e = refl
 no_block (Some kept) e = absurd cc
 
-pub block_found : (blocks : List KeptBlock) (root : List ℕ) (n : ℕ) → Some n ≡ number_of blocks root → slice_get blocks n ≡ block_of blocks root
+pub block_found : (blocks : List KeptBlock) (root : List ℕ) (n : ℕ) → Some n ≡ node_number blocks root → slice_get blocks n ≡ block_of blocks root
 block_found blocks root n e = ap (slice_get blocks) (in_place blocks root n e) ∙ sym (block_in_place blocks root)
 
-pub block_missed : (blocks : List KeptBlock) (root : List ℕ) → None ≡ number_of blocks root → None ≡ block_of blocks root
+pub block_missed : (blocks : List KeptBlock) (root : List ℕ) → None ≡ node_number blocks root → None ≡ block_of blocks root
 unfolding is_kept
 block_missed blocks root e = no_block (block_of blocks root) (not_kept blocks root e)
 
-kept_numbered : (blocks : List KeptBlock) (root : List ℕ) (n : ℕ) → Some n ≡ number_of blocks root → true ≡ is_kept blocks root
+kept_numbered : (blocks : List KeptBlock) (root : List ℕ) (n : ℕ) → Some n ≡ node_number blocks root → true ≡ is_kept blocks root
 kept_numbered blocks root n e = some_by (is_kept blocks root) (place_of blocks root) n (e ∙ number_is blocks root)
   where
     some_by : (b : Bool) (place n : ℕ) → Some n ≡ cond b (Some place) None → true ≡ b
     some_by true place n e = refl
     some_by false place n e = absurd cc
 
-number_some : (o : Option ℕ) (blocks : List KeptBlock) (root : List ℕ) → o ≡ number_of blocks root → is_some o ≡ is_kept blocks root
+number_some : (o : Option ℕ) (blocks : List KeptBlock) (root : List ℕ) → o ≡ node_number blocks root → is_some o ≡ is_kept blocks root
 number_some (Some n) blocks root e = kept_numbered blocks root n e
 number_some None blocks root e = sym (not_kept blocks root e)
 
 -- a root is kept where it has a number
-pub number_tells : (o : Option ℕ) (blocks : List KeptBlock) (root : List ℕ) → o ≡ number_of blocks root → is_some o ≡ is_kept blocks root
+pub number_tells : (o : Option ℕ) (blocks : List KeptBlock) (root : List ℕ) → o ≡ node_number blocks root → is_some o ≡ is_kept blocks root
 number_tells o blocks root e = number_some o blocks root e
 
 pub ruleset keeping = (number_tells)
@@ -114,10 +114,10 @@ place_past (kept ∷ blocks) root e =
     (let one : length (kept ∷ blocks) ≡ 1 + length blocks = omega arith in one)
     ∙ ap (λ n. 1 + n) later ∙ ap (λ b. cond (not b) (1 + place_of blocks root) 0) (sym parts.0)
 
-pub place_missed : (blocks : List KeptBlock) (root : List ℕ) → None ≡ number_of blocks root → length blocks ≡ place_of blocks root
+pub place_missed : (blocks : List KeptBlock) (root : List ℕ) → None ≡ node_number blocks root → length blocks ≡ place_of blocks root
 place_missed blocks root e = place_past blocks root (not_kept blocks root e)
 
-pub place_low : (blocks : List KeptBlock) (root : List ℕ) (n : ℕ) → Some n ≡ number_of blocks root → n ≤ length blocks
+pub place_low : (blocks : List KeptBlock) (root : List ℕ) (n : ℕ) → Some n ≡ node_number blocks root → n ≤ length blocks
 place_low blocks root n e = let h : n < length blocks = inside blocks root n e in omega (arith, h)
 
 pub ruleset placing = (in_place, place_low, place_missed)

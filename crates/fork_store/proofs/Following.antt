@@ -12,7 +12,7 @@ use Rattle.spec_fork_choice.specs.Store.{KeptBlock, Store, is_kept}
 use Rattle.spec_fork_choice.specs.Clash.{place_of}
 use Rattle.spec_fork_choice.specs.StoreTargetCheckpointState.{store_target_checkpoint_state, state_at}
 use Rattle.fork_store.specs.declared.follow.Told.{Told}
-use Rattle.fork_store.specs.Arrays.{Balances, balances_at, number_of, nodes_of, IsArrayOf, IsBoostedNode}
+use Rattle.fork_store.specs.Arrays.{Balances, balances_at, node_number, nodes_of, IsArrayOf, IsBoostedNode}
 use Rattle.fork_store.specs.inside.Boosts.{IsZeroOrKept}
 use Rattle.fork_store.specs.inside.Wholes.{balances_for, AreReady, IsReady}
 use Rattle.fork_store.specs.inside.Following.{with_told, IsFed, may_move, IsMoved, AreGiven}
@@ -21,11 +21,11 @@ use Rattle.fork_store.proofs.ArraysNodes.{length_nodes}
 
 -- ---- numbers
 
-pub kept_number : (blocks : List KeptBlock) (root : List ℕ) → is_kept blocks root ≡ true → None ≡ number_of blocks root → ⊥
-unfolding number_of
+pub kept_number : (blocks : List KeptBlock) (root : List ℕ) → is_kept blocks root ≡ true → None ≡ node_number blocks root → ⊥
+unfolding node_number
 kept_number blocks root kept none = absurd (let e = none ∙ ap (λ b. if b then Some (place_of blocks root) else None) kept in let f : false ≡ true = ap is_some e in false≢true f)
 
-pub number_fits : (blocks : List KeptBlock) (root : List ℕ) (n : ℕ) (array : PlainArray) → Some n ≡ number_of blocks root → array.nodes ≡ nodes_of blocks → n < length array.nodes
+pub number_fits : (blocks : List KeptBlock) (root : List ℕ) (n : ℕ) (array : PlainArray) → Some n ≡ node_number blocks root → array.nodes ≡ nodes_of blocks → n < length array.nodes
 number_fits blocks root n array is nodes = let inside = number_inside blocks root n (sym is) in let same = ap length nodes in omega (arith, inside, same, length_nodes blocks)
 
 pub same_is : (a b : Checkpoint) → same_checkpoint a b ≡ true → a ≡ b
@@ -54,12 +54,12 @@ module _ (store : Store) (told : Told) (array : PlainArray) where
         voted = fed.voted;
         balances = fed.balances;
         justified = fed.justified ∙ j;
-        justified_node = subst (λ (c : Checkpoint). number_of store.blocks c.root ≡ Some array.justified_node) j fed.justified_node;
+        justified_node = subst (λ (c : Checkpoint). node_number store.blocks c.root ≡ Some array.justified_node) j fed.justified_node;
         finalized = fed.finalized ∙ f;
         boosted_node = fed.boosted_node;
       }
 
-  pub fed_other : (new : PlainArray) (node : ℕ) → IsFed store told array → Some node ≡ number_of store.blocks store.justified_checkpoint.root → new ≡ with_checkpoints array node store.justified_checkpoint store.finalized_checkpoint → IsFed store moved new
+  pub fed_other : (new : PlainArray) (node : ℕ) → IsFed store told array → Some node ≡ node_number store.blocks store.justified_checkpoint.root → new ≡ with_checkpoints array node store.justified_checkpoint store.finalized_checkpoint → IsFed store moved new
   unfolding balances_at
   fed_other new node fed at is = subst (IsFed store moved) (sym is) (record {
     slots_per_epoch = fed.slots_per_epoch;
@@ -75,7 +75,7 @@ module _ (store : Store) (told : Told) (array : PlainArray) where
     boosted_node = fed.boosted_node;
   })
 
-  pub fed_fits : (node : ℕ) → IsFed store told array → Some node ≡ number_of store.blocks store.justified_checkpoint.root → node < length array.nodes
+  pub fed_fits : (node : ℕ) → IsFed store told array → Some node ≡ node_number store.blocks store.justified_checkpoint.root → node < length array.nodes
   fed_fits node fed at = number_fits store.blocks store.justified_checkpoint.root node array at fed.nodes
 
   -- ---- the boost
@@ -90,7 +90,7 @@ module _ (store : Store) (told : Told) (array : PlainArray) where
     voted = fed.voted;
     balances = fed.balances;
     justified = fed.justified ∙ j;
-    justified_node = subst (λ (c : Checkpoint). number_of store.blocks c.root ≡ Some array.justified_node) j fed.justified_node;
+    justified_node = subst (λ (c : Checkpoint). node_number store.blocks c.root ≡ Some array.justified_node) j fed.justified_node;
     finalized = fed.finalized ∙ f;
     boosted_node = at;
   }
@@ -109,7 +109,7 @@ module _ (store : Store) (told : Told) (array : PlainArray) where
     voted = fed.voted;
     balances = fed.balances;
     justified = fed.justified ∙ j;
-    justified_node = subst (λ (c : Checkpoint). number_of store.blocks c.root ≡ Some array.justified_node) j fed.justified_node;
+    justified_node = subst (λ (c : Checkpoint). node_number store.blocks c.root ≡ Some array.justified_node) j fed.justified_node;
     finalized = fed.finalized ∙ f;
     boosted_node = at;
   })
@@ -121,15 +121,15 @@ module _ (store : Store) (told : Told) (array : PlainArray) where
 
 pub ruleset feeding = (fed_same, fed_other, fed_fits, kept_number)
 
-pub boosted_some : (blocks : List KeptBlock) (root : List ℕ) (node : Option ℕ) → node ≡ number_of blocks root → IsZeroOrKept blocks root → same_root root zero_root ≡ false → IsBoostedNode blocks root node
+pub boosted_some : (blocks : List KeptBlock) (root : List ℕ) (node : Option ℕ) → node ≡ node_number blocks root → IsZeroOrKept blocks root → same_root root zero_root ≡ false → IsBoostedNode blocks root node
 unfolding IsBoostedNode IsZeroOrKept
 boosted_some blocks root (Some node) at kept other = sym at
 boosted_some blocks root None at (inl zero) other = zero
 boosted_some blocks root None at (inr kept) other = absurd (kept_number blocks root kept at)
 
 -- a boosted block is kept, where there is one
-pub number_kept : (blocks : List KeptBlock) (root : List ℕ) (n : ℕ) → number_of blocks root ≡ Some n → is_kept blocks root ≡ true
-unfolding number_of
+pub number_kept : (blocks : List KeptBlock) (root : List ℕ) (n : ℕ) → node_number blocks root ≡ Some n → is_kept blocks root ≡ true
+unfolding node_number
 number_kept blocks root n is = elim (cases_Bool (is_kept blocks root)) [
   | inl kept ↦ kept
   | inr gone ↦ absurd (let none : None ≡ Some n = sym (ap (λ b. if b then Some (place_of blocks root) else None) gone) ∙ is in false≢true (ap is_some none))

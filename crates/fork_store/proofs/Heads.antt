@@ -8,7 +8,7 @@ use Rattle.spec_fork_choice.specs.Store.{KeptBlock, Store}
 use Rattle.spec_fork_choice.specs.GetHead.{get_head}
 use Rattle.fork_store.specs.Roots.{roots_of}
 use Rattle.fork_store.specs.Stores.{IsStore}
-use Rattle.fork_store.specs.Arrays.{Balances, number_of, IsArrayOf}
+use Rattle.fork_store.specs.Arrays.{Balances, node_number, IsArrayOf}
 use Rattle.fork_store.specs.inside.Wholes.{IsWhole}
 use Rattle.fork_store.proofs.ArraysPlaces.{at_number, number_inside}
 use Rattle.fork_store.proofs.ArraysSteps.{keeps_made}
@@ -22,10 +22,10 @@ roots_at (b ∷ blocks) zero kept at = ap (λ (o : Option KeptBlock). option_map
 roots_at (b ∷ blocks) (suc n) kept at = roots_at blocks n kept at
 
 -- the root at the place of a block's number
-pub place_fits : (blocks : List KeptBlock) (root : List ℕ) (n : ℕ) → number_of blocks root ≡ Some n → (roots : List (List ℕ)) → roots ≡ roots_of blocks → n < length roots
+pub place_fits : (blocks : List KeptBlock) (root : List ℕ) (n : ℕ) → node_number blocks root ≡ Some n → (roots : List (List ℕ)) → roots ≡ roots_of blocks → n < length roots
 place_fits blocks root n numbered roots same = let inside = number_inside blocks root n numbered in let many = ap length same in omega (arith, inside, many, length_roots blocks)
 
-pub root_in_place : (blocks : List KeptBlock) (root : List ℕ) (n : ℕ) → number_of blocks root ≡ Some n → (roots : List (List ℕ)) → roots ≡ roots_of blocks → get_or roots n [] ≡ root
+pub root_in_place : (blocks : List KeptBlock) (root : List ℕ) (n : ℕ) → node_number blocks root ≡ Some n → (roots : List (List ℕ)) → roots ≡ roots_of blocks → get_or roots n [] ≡ root
 root_in_place blocks root n numbered roots same =
     let it = at_number blocks root n numbered in
     ap (λ (r : List (List ℕ)). get_or r n []) same ∙ roots_at blocks n it.kept it.at ∙ it.named
@@ -34,7 +34,7 @@ module _ (store : Store) (a told : PlainArray) (head : ℕ) (sound : IsStore sto
   made_array : IsArrayOf store told
   made_array = subst (IsArrayOf store) (sym is) (keeps_made store a of_store)
 
-  numbered : number_of store.blocks (get_head store) ≡ Some head
+  numbered : node_number store.blocks (get_head store) ≡ Some head
   numbered = head_number store told made_array sound.tree sound.presets ∙ ap Some (sym at)
 
   pub head_fits : (roots : List (List ℕ)) → roots ≡ roots_of store.blocks → head < length roots

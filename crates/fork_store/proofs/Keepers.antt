@@ -29,7 +29,7 @@ use Rattle.spec_fork_choice.specs.StoreTargetCheckpointState.{kept_or, state_at,
 use Rattle.state_keeper.specs.Chain.{ChainBlock, Kept, HasState}
 use Rattle.fork_store.specs.ChainStep.{CanStep, chain_step}
 use Rattle.fork_store.specs.inside.Accepted.{kept_of, settled}
-use Rattle.fork_store.specs.Arrays.{number_of}
+use Rattle.fork_store.specs.Arrays.{node_number}
 use Rattle.fork_store.specs.Keepers.{kept_block, kept_blocks, IsKeeperOf}
 use Rattle.fork_store.specs.inside.Keepers.{IsStateBehind, IsStepOn}
 use Rattle.fork_store.specs.Roots.{roots_of}
@@ -50,7 +50,7 @@ module _ (ks : List (ChainBlock SignedBeaconBlock)) (blocks : List KeptBlock) (s
   unfolding kept_blocks
   length_held = sym (length-map ks kept_block) ∙ ap length same
 
-  pub number_held : (root : List ℕ) (n : ℕ) → Some n ≡ number_of blocks root → n < length ks
+  pub number_held : (root : List ℕ) (n : ℕ) → Some n ≡ node_number blocks root → n < length ks
   number_held root n at =
       let fits : n < length blocks = inside blocks root n at in
       omega (arith, fits, length_held)
@@ -60,17 +60,17 @@ module _ (ks : List (ChainBlock SignedBeaconBlock)) (blocks : List KeptBlock) (s
   unfolding kept_blocks
   in_keeper n = sym (slice_get-map kept_block ks n) ∙ ap (λ (bs : List KeptBlock). slice_get bs n) same
 
-  of_number : (root : List ℕ) (n : ℕ) → Some n ≡ number_of blocks root → option_map kept_block (slice_get ks n) ≡ block_of blocks root
+  of_number : (root : List ℕ) (n : ℕ) → Some n ≡ node_number blocks root → option_map kept_block (slice_get ks n) ≡ block_of blocks root
   of_number root n at = in_keeper n ∙ block_found blocks root n at
 
-  pub block_read : (root : List ℕ) (n : ℕ) (block : SignedBeaconBlock) → Some n ≡ number_of blocks root → option_map (λ b. b.block) (slice_get ks n) ≡ Some block → Some block.message ≡ option_map (λ k. k.block) (block_of blocks root)
+  pub block_read : (root : List ℕ) (n : ℕ) (block : SignedBeaconBlock) → Some n ≡ node_number blocks root → option_map (λ b. b.block) (slice_get ks n) ≡ Some block → Some block.message ≡ option_map (λ k. k.block) (block_of blocks root)
   block_read root n block at is =
       let (b, there, here) = some_mapped (λ (b : ChainBlock SignedBeaconBlock). b.block) (slice_get ks n) block is in
       ap (λ (s : SignedBeaconBlock). Some s.message) (sym here)
       ∙ ap (λ (o : Option (ChainBlock SignedBeaconBlock)). option_map (λ k. k.block) (option_map kept_block o)) (sym there)
       ∙ ap (λ (o : Option KeptBlock). option_map (λ k. k.block) o) (of_number root n at)
 
-  pub state_read : (root : List ℕ) (n : ℕ) (state : PlainState) → AllByRecursion IsKept blocks → Some n ≡ number_of blocks root → HasState ks n state → IsStateBehind blocks root state
+  pub state_read : (root : List ℕ) (n : ℕ) (state : PlainState) → AllByRecursion IsKept blocks → Some n ≡ node_number blocks root → HasState ks n state → IsStateBehind blocks root state
   state_read root n state all at is =
       let (b, there, here) = some_mapped (λ (b : ChainBlock SignedBeaconBlock). b.state) (slice_get ks n) state is in
       let found_is : block_of blocks root ≡ Some (kept_block b) = sym (of_number root n at) ∙ ap (λ (o : Option (ChainBlock SignedBeaconBlock)). option_map kept_block o) there in
@@ -81,7 +81,7 @@ module _ (ks : List (ChainBlock SignedBeaconBlock)) (blocks : List KeptBlock) (s
         good = found IsKept blocks root (kept_block b) all (sym found_is);
       }
 
-pub block_unread : (blocks : List KeptBlock) (root : List ℕ) → None ≡ number_of blocks root → None ≡ option_map (λ (k : KeptBlock). k.block) (block_of blocks root)
+pub block_unread : (blocks : List KeptBlock) (root : List ℕ) → None ≡ node_number blocks root → None ≡ option_map (λ (k : KeptBlock). k.block) (block_of blocks root)
 block_unread blocks root none = ap (λ (o : Option KeptBlock). option_map (λ k. k.block) o) (block_missed blocks root none)
 
 pub ruleset reading = (number_held, block_read, block_unread)
@@ -139,12 +139,12 @@ module _ (blocks : List KeptBlock) (root : List ℕ) (state : PlainState) (behin
   behind_some = ap Some (sym behind.same) ∙ ap (λ (o : Option KeptBlock). option_map (λ k. k.state) o) (sym behind.found)
 
 -- of the kept block of a number
-pub behind_number : (blocks looked held : List KeptBlock) (root : List ℕ) (n : ℕ) (state : PlainState) → looked ≡ blocks → held ≡ blocks → Some n ≡ number_of looked root
-    → ((r : List ℕ) → Some n ≡ number_of held r → IsStateBehind held r state) → IsStateBehind blocks root state
+pub behind_number : (blocks looked held : List KeptBlock) (root : List ℕ) (n : ℕ) (state : PlainState) → looked ≡ blocks → held ≡ blocks → Some n ≡ node_number looked root
+    → ((r : List ℕ) → Some n ≡ node_number held r → IsStateBehind held r state) → IsStateBehind blocks root state
 behind_number blocks looked held root n state there here at is =
-    subst (λ (b : List KeptBlock). IsStateBehind b root state) here (is root (subst (λ (b : List KeptBlock). Some n ≡ number_of b root) (there ∙ sym here) at))
+    subst (λ (b : List KeptBlock). IsStateBehind b root state) here (is root (subst (λ (b : List KeptBlock). Some n ≡ node_number b root) (there ∙ sym here) at))
 
-pub behind_none : (blocks : List KeptBlock) (root : List ℕ) → None ≡ number_of blocks root → None ≡ option_map (λ (k : KeptBlock). k.state) (block_of blocks root)
+pub behind_none : (blocks : List KeptBlock) (root : List ℕ) → None ≡ node_number blocks root → None ≡ option_map (λ (k : KeptBlock). k.state) (block_of blocks root)
 behind_none blocks root none = ap (λ (o : Option KeptBlock). option_map (λ k. k.state) o) (block_missed blocks root none)
 
 pub ruleset answering = (behind_some, behind_none)
@@ -157,7 +157,7 @@ target_behind store target state slot behind at =
     ∙ ap (λ (s : PlainState). state_at store s (start_slot_of store target)) (sym behind.same)
     ∙ ap (λ (o : Option KeptBlock). bind (kept_or FcTargetUnknown o) (λ k. state_at store k.state (start_slot_of store target))) (sym behind.found)
 
-pub target_unknown : (store : Store) (target : Checkpoint) → None ≡ number_of store.blocks target.root → store_target_checkpoint_state store target ≡ refused FcTargetUnknown
+pub target_unknown : (store : Store) (target : Checkpoint) → None ≡ node_number store.blocks target.root → store_target_checkpoint_state store target ≡ refused FcTargetUnknown
 unfolding store_target_checkpoint_state kept_or
 target_unknown store target none = ap (λ (o : Option KeptBlock). bind (kept_or FcTargetUnknown o) (λ k. state_at store k.state (start_slot_of store target))) (sym (block_missed store.blocks target.root none))
 
@@ -199,7 +199,7 @@ of_mapped f P None y is holds = tt
 of_mapped f P (Some x) y is holds = subst P (sym (same_Some (f x) y is)) holds
 
 module _ (ks : List (ChainBlock SignedBeaconBlock)) (blocks : List KeptBlock) (config : ConfigValues) (block : SignedBeaconBlock) (state : PlainState) (n : ℕ)
-    (same : kept_blocks ks ≡ blocks) (at : Some n ≡ number_of blocks block.message.parent_root) (step : IsStepOn config blocks block state) where
+    (same : kept_blocks ks ≡ blocks) (at : Some n ≡ node_number blocks block.message.parent_root) (step : IsStepOn config blocks block state) where
   parent_is : option_map kept_block (slice_get ks n) ≡ Some step.parent
   parent_is = of_number ks blocks same block.message.parent_root n at ∙ step.found
 

@@ -16,7 +16,7 @@ use Rattle.spec_fork_choice.specs.Slots.{get_current_slot, start_slot_of}
 use Rattle.spec_fork_choice.specs.GetAncestor.{get_ancestor}
 use Rattle.spec_fork_choice.specs.StoreTargetCheckpointState.{kept_or}
 use Rattle.spec_fork_choice.specs.OnBlock.{block_step}
-use Rattle.fork_store.specs.Arrays.{number_of}
+use Rattle.fork_store.specs.Arrays.{node_number}
 use Rattle.fork_store.specs.inside.Accepted.{check_block}
 use Rattle.fork_store.specs.inside.Chains.{IsChained, IsLinked}
 use Rattle.fork_store.specs.inside.Keepers.{IsStateBehind, IsStepOn}
@@ -49,14 +49,14 @@ module _ (store : Store) (block : SignedBeaconBlock) where
       ∙ same_next future (λ _. bind (bind before (λ _. behind)) step) (λ _. bind before (λ _. bind behind step)) (λ _. assoc before (λ _. behind) step)
       ∙ ap (λ (o : Option KeptBlock). bind (kept_or ParentUnknown o) (λ k. bind future (λ _. bind before (λ _. bind behind (λ _. state_transition k.state block store.config))))) (sym is)
 
-  pub parent_unknown : None ≡ number_of store.blocks block.message.parent_root → block_step store block ≡ refused ParentUnknown
+  pub parent_unknown : None ≡ node_number store.blocks block.message.parent_root → block_step store block ≡ refused ParentUnknown
   unfolding block_step kept_or
   parent_unknown none =
       ap (λ (o : Option KeptBlock). bind (kept_or ParentUnknown o) (λ k. bind (check (leb block.message.slot (get_current_slot store)) FutureBlock) (λ _. bind (check (nat_lt finalized_slot block.message.slot) BeforeFinalized) (λ _. bind (check (same_root (get_ancestor store block.message.parent_root finalized_slot) store.finalized_checkpoint.root) NotOnFinalized) (λ _. state_transition k.state block store.config)))))
       (sym (block_missed store.blocks block.message.parent_root none))
 
   -- a check that stops
-  pub check_stops : (stop : Stop) (parent : ℕ) → Some parent ≡ number_of store.blocks block.message.parent_root → StopsExactly stop (check_block store block.message) → Stops stop (block_step store block)
+  pub check_stops : (stop : Stop) (parent : ℕ) → Some parent ≡ node_number store.blocks block.message.parent_root → StopsExactly stop (check_block store block.message) → Stops stop (block_step store block)
   unfolding is_kept
   check_stops stop parent at stops =
       let (kept, there) = found_kept (block_of store.blocks block.message.parent_root) (number_kept store.blocks block.message.parent_root parent (sym at)) in

@@ -24,7 +24,7 @@ use Rattle.spec_fork_choice.specs.Store.{KeptBlock}
 use Rattle.spec_fork_choice.specs.Clash.{clash_with, clash_of}
 use Rattle.spec_fork_choice.specs.GetForkchoiceStore.{genesis_block}
 use Rattle.spec_fork_choice.specs.OnEvent.{genesis_clash}
-use Rattle.transition.proofs.Genesis.{genesis_sound}
+use Rattle.spec_state.proofs.Genesis.{genesis_sound}
 use Rattle.fork_store.specs.Stores.{IsRootOf, IsBehind, IsKept}
 use Rattle.fork_store.proofs.Chains.{passed}
 

@@ -13,7 +13,7 @@ use Rattle.spec_fork_choice.specs.StoreTargetCheckpointState.{store_target_check
 use Rattle.spec_fork_choice.specs.UpdateLatestMessages.{update_latest_messages}
 use Rattle.fork_store.specs.Trees.{IsTree}
 use Rattle.fork_store.specs.inside.Messages.{AllBelow}
-use Rattle.fork_store.specs.Arrays.{Balances, number_of, messages_at, IsArrayOf}
+use Rattle.fork_store.specs.Arrays.{Balances, node_number, messages_at, IsArrayOf}
 use Rattle.fork_store.specs.inside.ArrayVotes.{updated_array}
 use Rattle.fork_store.specs.inside.Wholes.{IsReady, IsWhole}
 use Rattle.fork_store.proofs.Following.{number_fits}
@@ -56,7 +56,7 @@ pub ruleset each_votes = (votes_begin, votes_step, votes_end, vote_made, vote_sp
 -- ---- all of them
 
 module _ (store : Store) (a told : PlainArray) (places : ℕ) (is : IsArrayOf store a) (spare : told ≡ with_spare a places) where
-  pub voter_fits : (root : List ℕ) (node : ℕ) → Some node ≡ number_of store.blocks root → node < length told.nodes
+  pub voter_fits : (root : List ℕ) (node : ℕ) → Some node ≡ node_number store.blocks root → node < length told.nodes
   voter_fits root node at = subst (λ (x : PlainArray). node < length x.nodes) (sym spare) (number_fits store.blocks root node a at is.nodes)
 
   pub voters_fit : (indices : List ℕ) → AllBelow places indices → AllBelow told.spare_validators indices
@@ -65,7 +65,7 @@ module _ (store : Store) (a told : PlainArray) (places : ℕ) (is : IsArrayOf st
   told_array : IsArrayOf store told
   told_array = subst (IsArrayOf store) (sym spare) (keeps_spare store a is places)
 
-  module _ (new : PlainArray) (indices : List ℕ) (attestation : Attestation) (node : ℕ) (tree : IsTree store.blocks) (at : Some node ≡ number_of store.blocks attestation.content.beacon_block_root) (given : new ≡ updated_array told indices (record { epoch = attestation.content.target.epoch; node = node })) where
+  module _ (new : PlainArray) (indices : List ℕ) (attestation : Attestation) (node : ℕ) (tree : IsTree store.blocks) (at : Some node ≡ node_number store.blocks attestation.content.beacon_block_root) (given : new ≡ updated_array told indices (record { epoch = attestation.content.target.epoch; node = node })) where
     voted_array : IsArrayOf (update_latest_messages store indices attestation) new
     voted_array =
         let named : root_at told.nodes node ≡ attestation.content.beacon_block_root = ap (λ nodes. root_at nodes node) told_array.nodes ∙ root_of_number store.blocks tree attestation.content.beacon_block_root node (sym at) in

@@ -8,7 +8,7 @@ use Rattle.block_array.specs.GetAncestor as array
 use Rattle.block_array.specs.declared.node.Node.{Node}
 use Rattle.spec_fork_choice.specs.Store.{KeptBlock, Store, slot_of, parent_of}
 use Rattle.spec_fork_choice.specs.GetAncestor.{ancestor_within, get_ancestor}
-use Rattle.fork_store.specs.Arrays.{Balances, number_of, AreNodesOf, IsArrayOf}
+use Rattle.fork_store.specs.Arrays.{Balances, node_number, AreNodesOf, IsArrayOf}
 use Rattle.fork_store.specs.Roots.{roots_of}
 use Rattle.fork_store.specs.Stores.{IsStore, IsKept}
 use Rattle.fork_store.specs.inside.Wholes.{IsWhole}
@@ -31,7 +31,7 @@ unfolding get_ancestor
 walk_stays store root slot there = stays (length store.blocks) store.blocks root slot there
 
 -- a root that isn't kept stands for slot 0
-pub walk_nowhere : (store : Store) (root : List ℕ) (slot : ℕ) → None ≡ number_of store.blocks root → root ≡ get_ancestor store root slot
+pub walk_nowhere : (store : Store) (root : List ℕ) (slot : ℕ) → None ≡ node_number store.blocks root → root ≡ get_ancestor store root slot
 unfolding slot_of
 walk_nowhere store root slot none =
     let at_zero : slot_of store.blocks root ≡ 0 = ap (λ (o : Option KeptBlock). option_map_or (λ kept. kept.block.slot) o 0) (sym (block_missed store.blocks root none)) in
@@ -45,7 +45,7 @@ pub ruleset ending = (walk_late)
 
 -- ---- by nodes
 
-module _ (store : Store) (nodes : List Node) (root : List ℕ) (node : ℕ) (are : AreNodesOf store.blocks nodes) (at : Some node ≡ number_of store.blocks root) where
+module _ (store : Store) (nodes : List Node) (root : List ℕ) (node : ℕ) (are : AreNodesOf store.blocks nodes) (at : Some node ≡ node_number store.blocks root) where
   pub node_inside : node < length nodes
   node_inside =
       let fits : node < length store.blocks = number_inside store.blocks root node (sym at) in
@@ -53,7 +53,7 @@ module _ (store : Store) (nodes : List Node) (root : List ℕ) (node : ℕ) (are
       omega (arith, fits, many, length_nodes store.blocks)
 
   module _ (sound : IsStore store) (slot ancestor : ℕ) (is : ancestor ≡ array.get_ancestor nodes node slot) where
-    ancestor_number : number_of store.blocks (get_ancestor store root slot) ≡ Some ancestor
+    ancestor_number : node_number store.blocks (get_ancestor store root slot) ≡ Some ancestor
     ancestor_number =
         get_ancestor_number store sound.tree are.rooted.begins root node slot (sym at)
         ∙ ap (λ (ns : List Node). Some (array.get_ancestor ns node slot)) (sym are.same)

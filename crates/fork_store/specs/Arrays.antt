@@ -21,8 +21,8 @@ use Rattle.spec_fork_choice.specs.StoreTargetCheckpointState.{store_target_check
 -- ---- nodes
 
 -- the number of a root's block, its place among the kept ones, where it is kept
-unfoldable pub number_of : List KeptBlock → List ℕ → Option ℕ
-number_of blocks root = if is_kept blocks root then Some (place_of blocks root) else None
+unfoldable pub node_number : List KeptBlock → List ℕ → Option ℕ
+node_number blocks root = if is_kept blocks root then Some (place_of blocks root) else None
 
 -- what fork choice needs of a state
 unfoldable pub facts_of : PlainState → Facts
@@ -31,7 +31,7 @@ facts_of state = record { justified = state.current_justified_checkpoint; finali
 -- a block as a node behind others, of which one is its parent
 unfoldable pub node_of : List KeptBlock → KeptBlock → Node
 node_of before kept = record {
-  parent = number_of before kept.block.parent_root;
+  parent = node_number before kept.block.parent_root;
   slot = kept.block.slot;
   root = kept.root;
   facts = facts_of kept.state;
@@ -65,7 +65,7 @@ pub record AreNodesOf (blocks : List KeptBlock) (nodes : List Node) : Type 0 whe
 -- the boosted node is that of the boosted block; there is none where the root is zero
 unfoldable pub IsBoostedNode : List KeptBlock → List ℕ → Option ℕ → Type 0
 IsBoostedNode blocks root None = root ≡ zero_root
-IsBoostedNode blocks root (Some number) = number_of blocks root ≡ Some number
+IsBoostedNode blocks root (Some number) = node_number blocks root ≡ Some number
 
 -- ---- votes
 
@@ -126,6 +126,6 @@ pub record IsArrayOf (store : Store) (array : PlainArray) : Type 0 where
   pub voted : AllByRecursion (IsForNode (length array.nodes)) array.latest_messages
   pub balances : balances_at array ≡ balances_of (store_target_checkpoint_state store store.justified_checkpoint)
   pub justified : array.justified_checkpoint ≡ store.justified_checkpoint
-  pub justified_node : number_of store.blocks store.justified_checkpoint.root ≡ Some array.justified_node
+  pub justified_node : node_number store.blocks store.justified_checkpoint.root ≡ Some array.justified_node
   pub finalized : array.finalized_checkpoint ≡ store.finalized_checkpoint
   pub boosted_node : IsBoostedNode store.blocks store.proposer_boost_root array.boosted_node

@@ -14,15 +14,15 @@ ghost use Rattle.spec_fork_choice.specs.FilterBlockTree.{get_filtered_block_tree
 ghost use Rattle.spec_fork_choice.specs.GetAncestor.{get_ancestor};
 ghost use Rattle.spec_fork_choice.specs.GetHead.{get_head};
 ghost use Rattle.spec_fork_choice.specs.GetLatestAttestingBalance.{get_latest_attesting_balance};
-ghost use Rattle.fork_store.specs.Arrays.{IsArrayOf, number_of};
+ghost use Rattle.fork_store.specs.Arrays.{IsArrayOf, node_number};
 ghost use Rattle.fork_store.specs.Stores.{IsStore};
 
 /// The ancestor and the weight of a kept block are those of its node, the roots of the filtered tree are those of the filtered
 /// nodes, and the head is the root of the head's node.
 #[tactic(auto, using(crate::proofs::Arrays::agreeing))]
 pub fn array_agrees()
-    ensures ancestor { (store : Store) (array : PlainArray) → IsArrayOf store array → IsStore store → (root : List ℕ) (n : ℕ) → number_of store.blocks root ≡ Some n → (slot : ℕ) → get_ancestor store root slot ≡ root_at array.nodes (node_ancestor array.nodes n slot) }
-    ensures weight { (store : Store) (array : PlainArray) → IsArrayOf store array → IsStore store → (root : List ℕ) (n : ℕ) → number_of store.blocks root ≡ Some n → get_latest_attesting_balance store root ≡ node_weight array n }
+    ensures ancestor { (store : Store) (array : PlainArray) → IsArrayOf store array → IsStore store → (root : List ℕ) (n : ℕ) → node_number store.blocks root ≡ Some n → (slot : ℕ) → get_ancestor store root slot ≡ root_at array.nodes (node_ancestor array.nodes n slot) }
+    ensures weight { (store : Store) (array : PlainArray) → IsArrayOf store array → IsStore store → (root : List ℕ) (n : ℕ) → node_number store.blocks root ≡ Some n → get_latest_attesting_balance store root ≡ node_weight array n }
     ensures filtered { (store : Store) (array : PlainArray) → IsArrayOf store array → IsStore store → map (λ kept. kept.root) (get_filtered_block_tree store) ≡ map (root_at array.nodes) (filtered_nodes array) }
     ensures head { (store : Store) (array : PlainArray) → IsArrayOf store array → IsStore store → get_head store ≡ root_at array.nodes (node_head array) }
 {}

@@ -78,7 +78,7 @@ fn place_of(blocks: &KeptBlocks, root: Root) -> usize
     ensures place { result ≡ place_of blocks.now root }
     ensures most { result ≤ length blocks.now }
 {
-    match blocks.number_of(root) {
+    match blocks.node_number(root) {
         Some(number) => number,
         None => blocks.len(),
     }

@@ -42,7 +42,7 @@ pub(crate) fn feed_best(
     requires moved { (store.now.justified_checkpoint ≡ before.now.justified) ⊎ (store.now.justified_checkpoint ≡ before.now.best_justified) }
     ensures fed { IsFed store.now before.now array.new }
     ensures ready { IsReady store.now ready.new }
-    ensures unset { store.now.justified_checkpoint ≡ before.now.justified → array.new.balances_set ≡ array.old.balances_set }
+    ensures balances_set_stays { store.now.justified_checkpoint ≡ before.now.justified → array.new.balances_set ≡ array.old.balances_set }
 {
     if !same_checkpoint(&store.justified(), &before.justified) {
         give_ready(array, ready);
@@ -132,7 +132,7 @@ pub(crate) fn feed(
     requires given { AreGiven (with_told store.now before.now) given.old.justified given.old.best_justified facts.justified facts.finalized }
     ensures fed { IsFed store.now before.now array.new }
     ensures ready { IsReady store.now ready.new }
-    ensures unset { store.now.justified_checkpoint ≡ before.now.justified → array.new.balances_set ≡ array.old.balances_set }
+    ensures balances_set_stays { store.now.justified_checkpoint ≡ before.now.justified → array.new.balances_set ≡ array.old.balances_set }
 {
     if same_checkpoint(&store.justified(), &before.justified) {
         hold_best(store, ready, given, before, root, facts);

@@ -8,7 +8,7 @@ ghost use Rattle.beacon_types.specs.Equality.{same_checkpoint};
 ghost use Rattle.fork_store.specs.Arrays.{IsArrayOf};
 ghost use Rattle.fork_store.specs.inside.Following.{told_of, IsFed, AreKept};
 
-use crate::kept_blocks::{boosted_node, number_of};
+use crate::kept_blocks::{boosted_node, node_number};
 use crate::store_fields::StoreFields;
 use beacon_types::{Checkpoint, same_checkpoint};
 use block_array::BlockArray;
@@ -53,10 +53,10 @@ fn tell_checkpoints(store: &StoreFields, array: &mut BlockArray, before: &Told)
     requires fed { IsFed store.now before.now array.old }
     requires kept { AreKept store.now }
     ensures fed { IsFed store.now (record before.now { justified = store.now.justified_checkpoint; finalized = store.now.finalized_checkpoint }) array.new }
-    ensures unset { array.new.balances_set ≡ array.old.balances_set }
+    ensures balances_set_stays { array.new.balances_set ≡ array.old.balances_set }
 {
     let justified = store.justified();
-    match number_of(store.blocks(), justified.root) {
+    match node_number(store.blocks(), justified.root) {
         Some(node) => array.set_checkpoints(node, justified, store.finalized()),
         None => unreachable!(),
     }
@@ -68,7 +68,7 @@ fn follow_checkpoints(store: &StoreFields, array: &mut BlockArray, before: &Told
     requires fed { IsFed store.now before.now array.old }
     requires kept { AreKept store.now }
     ensures fed { IsFed store.now (record before.now { justified = store.now.justified_checkpoint; finalized = store.now.finalized_checkpoint }) array.new }
-    ensures unset { array.new.balances_set ≡ array.old.balances_set }
+    ensures balances_set_stays { array.new.balances_set ≡ array.old.balances_set }
 {
     if !same_told(store, before) {
         tell_checkpoints(store, array, before);
@@ -83,7 +83,7 @@ fn follow_boost(store: &StoreFields, array: &mut BlockArray, told: &Told)
     requires finalized { told.now.finalized ≡ store.now.finalized_checkpoint }
     requires kept { AreKept store.now }
     ensures array { IsArrayOf store.now array.new }
-    ensures unset { array.new.balances_set ≡ array.old.balances_set }
+    ensures balances_set_stays { array.new.balances_set ≡ array.old.balances_set }
 {
     let root = store.boost_root();
     if told.boost_root == root {
@@ -97,7 +97,7 @@ pub fn follow(store: &StoreFields, array: &mut BlockArray, before: &Told)
     requires fed { IsFed store.now before.now array.old }
     requires kept { AreKept store.now }
     ensures array { IsArrayOf store.now array.new }
-    ensures unset { array.new.balances_set ≡ array.old.balances_set }
+    ensures balances_set_stays { array.new.balances_set ≡ array.old.balances_set }
 {
     follow_checkpoints(store, array, before);
     let told = Told {

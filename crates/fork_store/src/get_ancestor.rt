@@ -4,9 +4,9 @@ ghost use Rattle.std.specs.Prelude.{◌≡◌, ◌<◌, length, slice_index_or, 
 ghost use Rattle.beacon_types.specs.Equality.{same_root};
 ghost use Rattle.spec_fork_choice.specs.Slots.{start_slot_of};
 ghost use Rattle.spec_fork_choice.specs.GetAncestor.{get_ancestor};
-ghost use Rattle.fork_store.specs.Arrays.{AreNodesOf, number_of};
+ghost use Rattle.fork_store.specs.Arrays.{AreNodesOf, node_number};
 
-use crate::kept_blocks::number_of;
+use crate::kept_blocks::node_number;
 use crate::slots::start_slot;
 use crate::store_fields::StoreFields;
 use beacon_types::Checkpoint;
@@ -36,7 +36,7 @@ pub fn ancestor_of(
     slot: u128,
 ) -> Root
     requires nodes { AreNodesOf store.now.blocks array.now.nodes }
-    requires number { Some node ≡ number_of store.now.blocks root }
+    requires number { Some node ≡ node_number store.now.blocks root }
     ensures { result ≡ get_ancestor store.now root slot }
 {
     store.is_sound();
@@ -53,7 +53,7 @@ fn get_ancestor(store: &StoreFields, array: &BlockArray, root: Root, slot: u128)
     requires { AreNodesOf store.now.blocks array.now.nodes }
     ensures { result ≡ get_ancestor store.now root slot }
 {
-    match number_of(store.blocks(), root) {
+    match node_number(store.blocks(), root) {
         Some(node) => ancestor_of(store, array, node, root, slot),
         None => root,
     }

@@ -16,12 +16,12 @@ use std::sync::ledger::Ledger;
 
 /// The root of the head: from the justified block go to the viable child of the greatest weight, of the greatest root among
 /// those of one weight, as long as there is one (fork-choice.md, `get_head`). It takes no memory, and leaves the store's array
-/// applied. A step is the delta of one validator, or one visit of a node.
+/// up to date. A step is the delta of one validator, or one visit of a node.
 #[tactic(auto, using(crate::proofs::Heads::heading))]
 fn get_head<L: Ledger>(store: &StoreFields, array: &mut BlockArray, steps: &mut Steps<L>) -> Root
     requires { IsArrayOf store.now array.old }
     ensures root { result ≡ get_head store.now }
-    ensures applied { array.new ≡ made array.old }
+    ensures up_to_date { array.new ≡ made array.old }
     ensures steps { steps.new ≤ steps.old + steps_of array.old }
 {
     store.is_sound();
@@ -38,7 +38,7 @@ impl Store {
         ensures root { result ≡ get_head self.old.plain }
         ensures same { self.new.plain ≡ self.old.plain }
         ensures keeper { self.new.keeper ≡ self.old.keeper }
-        ensures applied { self.new.array ≡ made self.old.array }
+        ensures up_to_date { self.new.array ≡ made self.old.array }
         ensures steps { steps.new ≤ steps.old + steps_of self.old.array }
     {
         get_head(&self.fields, &mut self.array, steps)

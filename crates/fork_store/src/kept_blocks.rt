@@ -8,7 +8,7 @@ ghost use Rattle.bc_words.specs.Outcome.{Becomes};
 ghost use Rattle.indexmap.specs.IndexSet.{spare, IsUnchanged};
 ghost use Rattle.spec_fork_choice.specs.Store.{is_kept, block_of};
 ghost use Rattle.fork_store.specs.inside.Accepted.{kept_of};
-ghost use Rattle.fork_store.specs.Arrays.{number_of, IsBoostedNode};
+ghost use Rattle.fork_store.specs.Arrays.{node_number, IsBoostedNode};
 ghost use Rattle.fork_store.specs.Keepers.{kept_blocks};
 ghost use Rattle.fork_store.specs.inside.Keepers.{IsStepOn};
 ghost use Rattle.fork_store.specs.Stores.{IsKept};
@@ -106,8 +106,8 @@ impl KeptBlocks {
     }
 
     /// The number of the block of a root, that of genesis being 0. None exactly where the root isn't kept.
-    pub fn number_of(&self, root: Root) -> Option<usize>
-        ensures { result ≡ number_of self.now root }
+    pub fn node_number(&self, root: Root) -> Option<usize>
+        ensures { result ≡ node_number self.now root }
     {
         self.roots.get_index_of(&root)
     }
@@ -126,7 +126,7 @@ impl KeptBlocks {
         requires few { length self.old < 2 ^ 32 - 1 }
         requires fresh { is_kept self.old root ≡ false }
         requires kept { IsKept (kept_of root block.message state) }
-        requires parent { Some parent ≡ number_of self.old block.message.parent_root }
+        requires parent { Some parent ≡ node_number self.old block.message.parent_root }
         requires step { IsStepOn keeper.old.stepper self.old block state }
         ensures blocks { Becomes result self.old self.new (self.old ++ kept_of root block.message state ∷ []) }
         ensures keeper { kept_blocks keeper.new.blocks ≡ self.new }
@@ -143,11 +143,11 @@ impl KeptBlocks {
 
 /// The number of a root's block. None exactly where the root isn't kept.
 #[tactic(auto, using(crate::proofs::Finds::inside))]
-pub fn number_of(blocks: &KeptBlocks, root: Root) -> Option<u32>
+pub fn node_number(blocks: &KeptBlocks, root: Root) -> Option<u32>
     requires { length blocks.now < 2 ^ 32 }
-    ensures { result ≡ number_of blocks.now root }
+    ensures { result ≡ node_number blocks.now root }
 {
-    match blocks.number_of(root) {
+    match blocks.node_number(root) {
         Some(number) => Some(number as u32),
         None => None,
     }
@@ -163,7 +163,7 @@ pub fn boosted_node(blocks: &KeptBlocks, root: Root) -> Option<u32>
     if root == [0; 32] {
         return None;
     }
-    number_of(blocks, root)
+    node_number(blocks, root)
 }
 
 /// The block of a root. None exactly where the root isn't kept.
@@ -177,7 +177,7 @@ pub fn block_of<'a>(
     requires keeper { kept_blocks keeper.now.blocks ≡ blocks.now }
     ensures { option_map (λ block. block.now) result ≡ option_map (λ kept. kept.block) (block_of blocks.now root) }
 {
-    match number_of(blocks, root) {
+    match node_number(blocks, root) {
         Some(number) => Some(&keeper.block(number).message),
         None => None,
     }

@@ -4,7 +4,7 @@
 
 ghost use Rattle.state_keeper.specs.Chain.{HasState};
 ghost use Rattle.std.specs.Prelude.{◌≡◌, ◌<◌, length, IfOk, ℕ, List, Some};
-ghost use Rattle.fork_store.specs.Arrays.{number_of};
+ghost use Rattle.fork_store.specs.Arrays.{node_number};
 ghost use Rattle.fork_store.specs.Keepers.{kept_blocks};
 ghost use Rattle.fork_store.specs.inside.Keepers.{IsStateBehind};
 
@@ -50,7 +50,7 @@ pub fn kept_state(
 ) -> Result<State, NoMemory>
     requires keeper { kept_blocks keeper.old.blocks ≡ blocks.now }
     requires inside { number < length blocks.now }
-    ensures state { IfOk result (λ state. (root : List ℕ) → Some number ≡ number_of blocks.now root → IsStateBehind blocks.now root state) }
+    ensures state { IfOk result (λ state. (root : List ℕ) → Some number ≡ node_number blocks.now root → IsStateBehind blocks.now root state) }
     ensures same { keeper.new ≡ keeper.old }
 {
     blocks.are_kept();

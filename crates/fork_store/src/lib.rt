@@ -10,7 +10,6 @@ mod block_in;
 mod chain_stepper;
 mod checkpoint_states;
 mod clashes;
-mod copies;
 mod feed;
 mod follow;
 mod get_ancestor;

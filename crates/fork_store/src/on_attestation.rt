@@ -183,7 +183,7 @@ fn on_attestation(
     requires parts { AreParts store.old array.old keeper.old ready.now }
     ensures exact { StoreChanges result store.old store.new (event_of (on_attestation store.old attestation.now is_from_block)) }
     ensures parts { AreParts store.new array.new keeper.new ready.now }
-    ensures unset { array.new.balances_set ≡ array.old.balances_set }
+    ensures balances_set_stays { array.new.balances_set ≡ array.old.balances_set }
     ensures same { keeper.new ≡ keeper.old }
     ensures stays { IfErr result (λ _. array.new ≡ array.old) }
 {
@@ -206,7 +206,7 @@ impl Store {
         from_block: bool,
     ) -> Result<(), StoreStop>
         ensures exact { StoreChanges result self.old.plain self.new.plain (on_the_way (on_attestation self.old.plain attestation.now from_block) accepted) }
-        ensures unset { self.new.array.balances_set ≡ self.old.array.balances_set }
+        ensures balances_set_stays { self.new.array.balances_set ≡ self.old.array.balances_set }
         ensures stays { IfErr result (λ _. self.new ≡ self.old) }
         ensures keeper { self.new.keeper ≡ self.old.keeper }
     {

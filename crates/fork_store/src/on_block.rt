@@ -6,7 +6,7 @@
 ghost use Rattle.std.specs.Prelude.{◌≡◌, Some, ◌<◌, ◌-◌, ◌^◌, ◌++◌, ◌∷◌, [], true, false, length, IfErr, IfOk};
 ghost use Rattle.bc_words.specs.Outcome.{GivesExactly, Becomes, Gives, Stops};
 ghost use Rattle.fork_store.specs.inside.Accepted.{check_block, finalized_by, settled, kept_of};
-ghost use Rattle.fork_store.specs.Arrays.{AreNodesOf, number_of, IsArrayOf};
+ghost use Rattle.fork_store.specs.Arrays.{AreNodesOf, node_number, IsArrayOf};
 ghost use Rattle.beacon_types.specs.Equality.{same_root};
 ghost use Rattle.spec_state.specs.Genesis.{zero_root};
 ghost use Rattle.spec_state.specs.Soundness.{IsSound};
@@ -29,11 +29,10 @@ ghost use Rattle.fork_store.specs.Seen.{StoreStays};
 use crate::block_in::BlockIn;
 use crate::chain_stepper::ChainStepper;
 use crate::clashes::clash_of;
-use crate::copies::copy_signed_block;
 use crate::feed::{Given, feed};
 use crate::follow::{follow, told_of};
 use crate::get_ancestor::ancestor_of;
-use crate::kept_blocks::number_of;
+use crate::kept_blocks::node_number;
 use crate::kept_state::kept_state;
 use crate::ready_balances::{ReadyBalances, balances_of};
 use crate::settle::{boost, facts_of, justify, may_move};
@@ -61,7 +60,7 @@ pub fn check_block(
     block: &BeaconBlock,
 ) -> Result<(), Stop>
     requires nodes { AreNodesOf store.now.blocks array.now.nodes }
-    requires number { Some parent ≡ number_of store.now.blocks block.now.parent_root }
+    requires number { Some parent ≡ node_number store.now.blocks block.now.parent_root }
     ensures { GivesExactly result (check_block store.now block.now) }
 {
     if block.slot > current_slot(store) {
@@ -105,10 +104,10 @@ fn step_from(
 #[tactic(auto, using(crate::proofs::Stepping::parent_unknown))]
 fn parent_of(store: &StoreFields, block: &SignedBeaconBlock) -> Result<u32, Stop>
     requires few { length store.now.blocks < 2 ^ 32 }
-    ensures number { IfOk result (λ parent. Some parent ≡ number_of store.now.blocks block.now.message.parent_root) }
+    ensures number { IfOk result (λ parent. Some parent ≡ node_number store.now.blocks block.now.message.parent_root) }
     ensures unknown { IfErr result (λ stop. Stops stop (block_step store.now block.now)) }
 {
-    match number_of(store.blocks(), block.message.parent_root) {
+    match node_number(store.blocks(), block.message.parent_root) {
         Some(parent) => Ok(parent),
         None => Err(Stop::Refused(Refusal::ParentUnknown)),
     }
@@ -124,7 +123,7 @@ fn block_step(
     parent: u32,
     block: &SignedBeaconBlock,
 ) -> Result<Step, Stop>
-    requires number { Some parent ≡ number_of store.now.blocks block.now.message.parent_root }
+    requires number { Some parent ≡ node_number store.now.blocks block.now.message.parent_root }
     requires nodes { AreNodesOf store.now.blocks array.now.nodes }
     requires chained { IsChained store.now }
     requires keeper { IsKeeperOf store.now keeper.old }
@@ -243,7 +242,7 @@ fn add_block(
     requires array { IsArrayOf store.old array.old }
     requires keeper { IsKeeperOf store.old keeper.old }
     requires few { length store.old.blocks < 2 ^ 32 - 1 }
-    requires number { Some parent ≡ number_of store.old.blocks block.now.message.parent_root }
+    requires number { Some parent ≡ node_number store.old.blocks block.now.message.parent_root }
     requires kept { IsKept (kept_of root block.now.message state) }
     requires facts { facts ≡ record { justified = state.current_justified_checkpoint; finalized = state.finalized_checkpoint } }
     requires preset { state.preset ≡ store.old.config.preset }
@@ -255,13 +254,13 @@ fn add_block(
     ensures array { IsArrayOf store.new array.new }
     ensures keeper { IsKeeperOf store.new keeper.new }
     ensures stays { store.new.justified_checkpoint ≡ store.old.justified_checkpoint }
-    ensures unset { array.new.balances_set ≡ array.old.balances_set }
+    ensures balances_set_stays { array.new.balances_set ≡ array.old.balances_set }
     ensures array_stays { IfErr result (λ _. ArrayStays array.old array.new) }
     ensures keeper_stays { IfErr result (λ _. KeeperStays keeper.old keeper.new) }
 {
     store.is_sound();
     array.reserve(0)?;
-    let copy = copy_signed_block(alloc, block)?;
+    let copy = block.copy(alloc)?;
     store.keep(keeper, parent, root, copy, state)?;
     let _room = array.push(parent, block.message.slot, root, facts);
     Ok(())
@@ -283,7 +282,7 @@ fn keep_block(
     requires array { IsArrayOf store.old array.old }
     requires keeper { IsKeeperOf store.old keeper.old }
     requires few { length store.old.blocks < 2 ^ 32 - 1 }
-    requires number { Some parent ≡ number_of store.old.blocks block.now.message.parent_root }
+    requires number { Some parent ≡ node_number store.old.blocks block.now.message.parent_root }
     requires kept { IsKept (kept_of root block.now.message state) }
     requires facts { facts ≡ record { justified = state.current_justified_checkpoint; finalized = state.finalized_checkpoint } }
     requires preset { state.preset ≡ store.old.config.preset }
@@ -294,7 +293,7 @@ fn keep_block(
     ensures array { IsArrayOf store.new array.new }
     ensures keeper { IsKeeperOf store.new keeper.new }
     ensures stays { store.new.justified_checkpoint ≡ store.old.justified_checkpoint }
-    ensures unset { array.new.balances_set ≡ array.old.balances_set }
+    ensures balances_set_stays { array.new.balances_set ≡ array.old.balances_set }
     ensures array_stays { IfErr result (λ _. ArrayStays array.old array.new) }
     ensures keeper_stays { IfErr result (λ _. KeeperStays keeper.old keeper.new) }
 {
@@ -327,7 +326,7 @@ fn settle_whole(
     ensures exact { store.new ≡ settled store.old slot root facts.justified facts.finalized }
     ensures array { IsArrayOf store.new array.new }
     ensures ready { IsReady store.new ready.new }
-    ensures unset { store.new.justified_checkpoint ≡ store.old.justified_checkpoint → array.new.balances_set ≡ array.old.balances_set }
+    ensures balances_set_stays { store.new.justified_checkpoint ≡ store.old.justified_checkpoint → array.new.balances_set ≡ array.old.balances_set }
 {
     let before = told_of(store);
     settle(store, array, slot, root, facts.justified, facts.finalized);
@@ -351,7 +350,7 @@ fn accept(
 ) -> Result<(), NoMemory>
     requires parts { AreParts store.old array.old keeper.old ready.old }
     requires few { length store.old.blocks < 2 ^ 32 - 1 }
-    requires number { Some parent ≡ number_of store.old.blocks block.now.message.parent_root }
+    requires number { Some parent ≡ node_number store.old.blocks block.now.message.parent_root }
     requires facts { facts ≡ record { justified = state.current_justified_checkpoint; finalized = state.finalized_checkpoint } }
     requires kept { IsKept (kept_of root block.now.message state) }
     requires preset { state.preset ≡ store.old.config.preset }
@@ -361,7 +360,7 @@ fn accept(
     requires stepped { IsStepOn store.old.config store.old.blocks block.now state }
     ensures exact { Becomes result store.old store.new (with_accepted store.old (kept_of root block.now.message state)) }
     ensures parts { AreParts store.new array.new keeper.new ready.new }
-    ensures unset { store.new.justified_checkpoint ≡ store.old.justified_checkpoint → array.new.balances_set ≡ array.old.balances_set }
+    ensures balances_set_stays { store.new.justified_checkpoint ≡ store.old.justified_checkpoint → array.new.balances_set ≡ array.old.balances_set }
     ensures array_stays { IfErr result (λ _. ArrayStays array.old array.new) }
     ensures keeper_stays { IfErr result (λ _. KeeperStays keeper.old keeper.new) }
 {
@@ -388,7 +387,7 @@ fn accept_unless(
     root: Root,
     step: Step,
 ) -> Result<BlockIn, StoreStop>
-    requires number { Some parent ≡ number_of store.old.blocks block.now.message.parent_root }
+    requires number { Some parent ≡ node_number store.old.blocks block.now.message.parent_root }
     requires parts { AreParts store.old array.old keeper.old ready.old }
     requires few { length store.old.blocks < 2 ^ 32 - 1 }
     requires root { IsRootOf root block.now.message }
@@ -399,7 +398,7 @@ fn accept_unless(
     requires stepped { IsStepOn store.old.config store.old.blocks block.now step.state }
     ensures exact { Accepts result store.old store.new (accept_block store.old block.now.message root step (clash_of store.old.blocks root block.now.message.state_root block.now.message)) }
     ensures parts { AreParts store.new array.new keeper.new ready.new }
-    ensures unset { store.new.justified_checkpoint ≡ store.old.justified_checkpoint → array.new.balances_set ≡ array.old.balances_set }
+    ensures balances_set_stays { store.new.justified_checkpoint ≡ store.old.justified_checkpoint → array.new.balances_set ≡ array.old.balances_set }
     ensures array_stays { IfErr result (λ _. ArrayStays array.old array.new) }
     ensures keeper_stays { IfErr result (λ _. KeeperStays keeper.old keeper.new) }
 {
@@ -442,7 +441,7 @@ fn on_block(
     requires few { length store.old.blocks < 2 ^ 32 - 1 }
     ensures exact { Accepts result store.old store.new (on_block store.old block.now) }
     ensures parts { AreParts store.new array.new keeper.new ready.new }
-    ensures unset { store.new.justified_checkpoint ≡ store.old.justified_checkpoint → array.new.balances_set ≡ array.old.balances_set }
+    ensures balances_set_stays { store.new.justified_checkpoint ≡ store.old.justified_checkpoint → array.new.balances_set ≡ array.old.balances_set }
     ensures array_stays { IfErr result (λ _. ArrayStays array.old array.new) }
     ensures keeper_stays { IfErr result (λ _. KeeperStays keeper.old keeper.new) }
 {
@@ -469,7 +468,7 @@ impl Store {
     ) -> Result<BlockIn, StoreStop>
         requires few { length self.old.plain.blocks < 2 ^ 32 - 1 }
         ensures exact { Accepts result self.old.plain self.new.plain (on_block self.old.plain block.now) }
-        ensures unset { self.new.plain.justified_checkpoint ≡ self.old.plain.justified_checkpoint → self.new.array.balances_set ≡ self.old.array.balances_set }
+        ensures balances_set_stays { self.new.plain.justified_checkpoint ≡ self.old.plain.justified_checkpoint → self.new.array.balances_set ≡ self.old.array.balances_set }
         ensures stays { IfErr result (λ _. StoreStays self.old self.new) }
     {
         on_block(

@@ -60,7 +60,7 @@ pub enum Accepted {
 #[tactic(auto, using(crate::proofs::Events::ticking))]
 fn take_tick(store: &mut Store, time: u64) -> Result<Accepted, StoreStop>
     ensures exact { AcceptsBy accepted_of result store.old.plain store.new.plain (without_block (on_tick store.old.plain time)) }
-    ensures unset { store.new.plain.justified_checkpoint ≡ store.old.plain.justified_checkpoint → store.new.array.balances_set ≡ store.old.array.balances_set }
+    ensures balances_set_stays { store.new.plain.justified_checkpoint ≡ store.old.plain.justified_checkpoint → store.new.array.balances_set ≡ store.old.array.balances_set }
     ensures stays { IfErr result (λ _. StoreStays store.old store.new) }
 {
     match store.on_tick(time) {
@@ -73,7 +73,7 @@ fn take_tick(store: &mut Store, time: u64) -> Result<Accepted, StoreStop>
 #[tactic(auto, unfolding(spec_fork_choice::specs::OnEvent::handle_tick), using(crate::proofs::StoreStays::unchanged))]
 fn handle_tick(store: &mut Store, payload: &[u8]) -> Result<Accepted, StoreStop>
     ensures exact { AcceptsBy accepted_of result store.old.plain store.new.plain (handle_tick store.old.plain payload.now) }
-    ensures unset { store.new.plain.justified_checkpoint ≡ store.old.plain.justified_checkpoint → store.new.array.balances_set ≡ store.old.array.balances_set }
+    ensures balances_set_stays { store.new.plain.justified_checkpoint ≡ store.old.plain.justified_checkpoint → store.new.array.balances_set ≡ store.old.array.balances_set }
     ensures stays { IfErr result (λ _. StoreStays store.old store.new) }
 {
     match payload {
@@ -93,7 +93,7 @@ fn take_block(
 ) -> Result<Accepted, StoreStop>
     requires few { length store.old.plain.blocks < 2 ^ 32 - 1 }
     ensures exact { AcceptsBy accepted_of result store.old.plain store.new.plain (handle_block store.old.plain (Some block.now)) }
-    ensures unset { store.new.plain.justified_checkpoint ≡ store.old.plain.justified_checkpoint → store.new.array.balances_set ≡ store.old.array.balances_set }
+    ensures balances_set_stays { store.new.plain.justified_checkpoint ≡ store.old.plain.justified_checkpoint → store.new.array.balances_set ≡ store.old.array.balances_set }
     ensures stays { IfErr result (λ _. StoreStays store.old store.new) }
 {
     Ok(Accepted::Block(store.on_block(alloc, block)?))
@@ -104,7 +104,7 @@ fn take_block(
 fn handle_block(alloc: Global, store: &mut Store, payload: &[u8]) -> Result<Accepted, StoreStop>
     requires few { length store.old.plain.blocks < 2 ^ 32 - 1 }
     ensures exact { AcceptsBy accepted_of result store.old.plain store.new.plain (handle_block store.old.plain (signed_block_codec.deserialize payload.now)) }
-    ensures unset { store.new.plain.justified_checkpoint ≡ store.old.plain.justified_checkpoint → store.new.array.balances_set ≡ store.old.array.balances_set }
+    ensures balances_set_stays { store.new.plain.justified_checkpoint ≡ store.old.plain.justified_checkpoint → store.new.array.balances_set ≡ store.old.array.balances_set }
     ensures stays { IfErr result (λ _. StoreStays store.old store.new) }
 {
     match SignedBeaconBlock::read(alloc, payload) {
@@ -123,7 +123,7 @@ fn take_attestation(
     from_block: bool,
 ) -> Result<Accepted, StoreStop>
     ensures exact { AcceptsBy accepted_of result store.old.plain store.new.plain (without_block (on_attestation store.old.plain attestation.now from_block)) }
-    ensures unset { store.new.plain.justified_checkpoint ≡ store.old.plain.justified_checkpoint → store.new.array.balances_set ≡ store.old.array.balances_set }
+    ensures balances_set_stays { store.new.plain.justified_checkpoint ≡ store.old.plain.justified_checkpoint → store.new.array.balances_set ≡ store.old.array.balances_set }
     ensures stays { IfErr result (λ _. StoreStays store.old store.new) }
 {
     match store.on_attestation(alloc, attestation, from_block) {
@@ -141,7 +141,7 @@ fn handle_attestation(
     from_block: bool,
 ) -> Result<Accepted, StoreStop>
     ensures exact { AcceptsBy accepted_of result store.old.plain store.new.plain (handle_attestation store.old.plain from_block (attestation_codec.deserialize payload.now)) }
-    ensures unset { store.new.plain.justified_checkpoint ≡ store.old.plain.justified_checkpoint → store.new.array.balances_set ≡ store.old.array.balances_set }
+    ensures balances_set_stays { store.new.plain.justified_checkpoint ≡ store.old.plain.justified_checkpoint → store.new.array.balances_set ≡ store.old.array.balances_set }
     ensures stays { IfErr result (λ _. StoreStays store.old store.new) }
 {
     match Attestation::read(alloc, payload) {
@@ -166,7 +166,7 @@ impl Store {
     ) -> Result<Accepted, StoreStop>
         requires few { length self.old.plain.blocks < 2 ^ 32 - 1 }
         ensures exact { AcceptsBy accepted_of result self.old.plain self.new.plain (on_event self.old.plain (number_of_kind kind) payload.now) }
-        ensures unset { self.new.plain.justified_checkpoint ≡ self.old.plain.justified_checkpoint → self.new.array.balances_set ≡ self.old.array.balances_set }
+        ensures balances_set_stays { self.new.plain.justified_checkpoint ≡ self.old.plain.justified_checkpoint → self.new.array.balances_set ≡ self.old.array.balances_set }
         ensures stays { IfErr result (λ _. StoreStays self.old self.new) }
     {
         match kind {
@@ -188,7 +188,7 @@ impl Store {
         requires first { 1 ≤ kind }
         requires last { kind ≤ 4 }
         ensures exact { AcceptsBy accepted_of result self.old.plain self.new.plain (on_event self.old.plain kind payload.now) }
-        ensures unset { self.new.plain.justified_checkpoint ≡ self.old.plain.justified_checkpoint → self.new.array.balances_set ≡ self.old.array.balances_set }
+        ensures balances_set_stays { self.new.plain.justified_checkpoint ≡ self.old.plain.justified_checkpoint → self.new.array.balances_set ≡ self.old.array.balances_set }
         ensures stays { IfErr result (λ _. StoreStays self.old self.new) }
     {
         self.take_event(alloc, EventKind::of(kind), payload)

@@ -91,7 +91,7 @@ fn follow_tick(
     requires kept { AreKept store.now }
     ensures array { IsArrayOf store.now array.new }
     ensures ready { IsReady store.now ready.new }
-    ensures unset { store.now.justified_checkpoint ≡ before.now.justified → array.new.balances_set ≡ array.old.balances_set }
+    ensures balances_set_stays { store.now.justified_checkpoint ≡ before.now.justified → array.new.balances_set ≡ array.old.balances_set }
 {
     feed_best(store, array, ready, before);
     follow(store, array, before);
@@ -113,7 +113,7 @@ fn on_tick(
     ensures whole { IsWhole store.new array.new ready.new }
     ensures config { store.new.config ≡ store.old.config }
     ensures blocks { store.new.blocks ≡ store.old.blocks }
-    ensures unset { store.new.justified_checkpoint ≡ store.old.justified_checkpoint → array.new.balances_set ≡ array.old.balances_set }
+    ensures balances_set_stays { store.new.justified_checkpoint ≡ store.old.justified_checkpoint → array.new.balances_set ≡ array.old.balances_set }
     ensures stays { IfErr result (λ _. array.new ≡ array.old) }
 {
     let before = told_of(store);
@@ -129,7 +129,7 @@ impl Store {
     /// array is given no balances.
     pub fn on_tick(&mut self, time: u64) -> Result<(), Refusal>
         ensures exact { ChangesOrRefuses result self.old.plain self.new.plain (on_tick self.old.plain time) }
-        ensures unset { self.new.plain.justified_checkpoint ≡ self.old.plain.justified_checkpoint → self.new.array.balances_set ≡ self.old.array.balances_set }
+        ensures balances_set_stays { self.new.plain.justified_checkpoint ≡ self.old.plain.justified_checkpoint → self.new.array.balances_set ≡ self.old.array.balances_set }
         ensures stays { IfErr result (λ _. self.new ≡ self.old) }
     {
         on_tick(&mut self.fields, &mut self.array, &mut self.ready, time)

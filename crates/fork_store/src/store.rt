@@ -14,7 +14,7 @@ ghost use Rattle.fork_store.specs.Keepers.{IsKeeperOf};
 ghost use Rattle.fork_store.specs.Roots.{roots_of};
 
 use crate::chain_stepper::ChainStepper;
-use crate::kept_blocks::{block_of, number_of};
+use crate::kept_blocks::{block_of, node_number};
 use crate::kept_state::kept_state;
 use crate::ready_balances::ReadyBalances;
 use crate::store_fields::StoreFields;
@@ -137,7 +137,7 @@ impl Store {
         ensures state { IfOk result (λ state. state ≡ option_map (λ kept. kept.state) (block_of self.old.plain.blocks root)) }
         ensures same { self.new ≡ self.old }
     {
-        let Some(number) = number_of(self.fields.blocks(), root) else {
+        let Some(number) = node_number(self.fields.blocks(), root) else {
             return Ok(None);
         };
         let state = kept_state(self.fields.blocks(), &mut self.keeper, number)?;

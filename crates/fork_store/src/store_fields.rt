@@ -14,7 +14,7 @@ ghost use Rattle.fork_store.specs.Stores.{HasPreset, IsKept, IsStore};
 ghost use Rattle.fork_store.specs.Trees.{Follows, IsTree};
 ghost use Rattle.spec_fork_choice.specs.Store.{is_kept};
 ghost use Rattle.spec_fork_choice.specs.Slots.{start_slot_of};
-ghost use Rattle.fork_store.specs.Arrays.{messages_at, number_of};
+ghost use Rattle.fork_store.specs.Arrays.{messages_at, node_number};
 ghost use Rattle.fork_store.specs.inside.Genesis.{at_genesis};
 ghost use Rattle.fork_store.specs.inside.CheckpointStates.{IsStateOf};
 
@@ -188,7 +188,7 @@ impl StoreFields {
     pub fn is_kept(&self, root: Root) -> bool
         ensures { result ≡ is_kept self.now.blocks root }
     {
-        self.blocks.number_of(root).is_some()
+        self.blocks.node_number(root).is_some()
     }
 
     /// The latest votes are those that the array has now. It takes no memory.
@@ -251,7 +251,7 @@ impl StoreFields {
         requires preset { state.preset ≡ self.old.config.preset }
         requires follows { Follows self.old.blocks (kept_of root block.message state) }
         requires kept { IsKept (kept_of root block.message state) }
-        requires parent { Some parent ≡ number_of self.old.blocks block.message.parent_root }
+        requires parent { Some parent ≡ node_number self.old.blocks block.message.parent_root }
         requires step { IsStepOn self.old.config self.old.blocks block state }
         ensures kept { Becomes result self.old self.new (record self.old { blocks = self.old.blocks ++ kept_of root block.message state ∷ [] }) }
         ensures keeper { IsKeeperOf self.new keeper.new }

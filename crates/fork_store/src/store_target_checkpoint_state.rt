@@ -10,7 +10,7 @@ ghost use Rattle.fork_store.specs.Keepers.{IsKeeperOf};
 
 use crate::chain_stepper::ChainStepper;
 use crate::checkpoint_states::CheckpointState;
-use crate::kept_blocks::number_of;
+use crate::kept_blocks::node_number;
 use crate::kept_state::kept_state;
 use crate::slots::start_slot;
 use crate::state_at::state_at;
@@ -41,7 +41,7 @@ fn state_anew(
     ensures same { keeper.new ≡ keeper.old }
 {
     store.is_sound();
-    let Some(number) = number_of(store.blocks(), target.root) else {
+    let Some(number) = node_number(store.blocks(), target.root) else {
         return Err(Stop::Refused(Refusal::FcTargetUnknown));
     };
     let state = kept_state(store.blocks(), keeper, number)?;

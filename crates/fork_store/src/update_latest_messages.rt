@@ -8,7 +8,7 @@ ghost use Rattle.spec_fork_choice.specs.Store.{is_kept};
 ghost use Rattle.spec_fork_choice.specs.UpdateLatestMessages.{update_latest_messages};
 ghost use Rattle.fork_store.specs.inside.Wholes.{IsWhole};
 
-use crate::kept_blocks::number_of;
+use crate::kept_blocks::node_number;
 use crate::ready_balances::ReadyBalances;
 use crate::store_fields::StoreFields;
 use bc_words::NoMemory;
@@ -63,19 +63,19 @@ pub(crate) fn update_latest_messages(
     requires kept { is_kept store.old.blocks attestation.now.content.beacon_block_root ≡ true }
     ensures exact { Becomes result store.old store.new (update_latest_messages store.old attesting_indices.now attestation.now) }
     ensures whole { IsWhole store.new array.new ready.now }
-    ensures unset { array.new.balances_set ≡ array.old.balances_set }
+    ensures balances_set_stays { array.new.balances_set ≡ array.old.balances_set }
     ensures config { store.new.config ≡ store.old.config }
     ensures blocks { store.new.blocks ≡ store.old.blocks }
     ensures stays { IfErr result (λ _. array.new ≡ array.old) }
 {
     store.is_sound();
-    let voted = &attestation.content;
-    let Some(node) = number_of(store.blocks(), voted.beacon_block_root) else {
+    let content = &attestation.content;
+    let Some(node) = node_number(store.blocks(), content.beacon_block_root) else {
         unreachable!()
     };
     let places = places_for(attesting_indices)?;
     array.reserve(places as u64)?;
-    vote_all(array, attesting_indices, node, voted.target.epoch);
+    vote_all(array, attesting_indices, node, content.target.epoch);
     store.take_votes(array);
     Ok(())
 }

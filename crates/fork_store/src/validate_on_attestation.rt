@@ -81,19 +81,19 @@ fn check_voted(
     store: &StoreFields,
     keeper: &Keeper<ChainStepper>,
     array: &BlockArray,
-    voted: &AttestationData,
+    content: &AttestationData,
 ) -> Result<(), Stop>
     requires nodes { AreNodesOf store.now.blocks array.now.nodes }
     requires keeper { kept_blocks keeper.now.blocks ≡ store.now.blocks }
-    ensures { GivesExactly result (check_voted store.now voted.now) }
+    ensures { GivesExactly result (check_voted store.now content.now) }
 {
-    if voted.slot < slot_of(store.blocks(), keeper, voted.beacon_block_root) {
+    if content.slot < slot_of(store.blocks(), keeper, content.beacon_block_root) {
         return Err(Stop::Refused(Refusal::FcBlockAfter));
     }
-    if !is_behind(store, array, voted.beacon_block_root, voted.target) {
+    if !is_behind(store, array, content.beacon_block_root, content.target) {
         return Err(Stop::Refused(Refusal::FcTargetChain));
     }
-    if voted.slot >= current_slot(store) {
+    if content.slot >= current_slot(store) {
         return Err(Stop::Refused(Refusal::FcTooEarly));
     }
     Ok(())
@@ -105,19 +105,19 @@ fn check_known(
     store: &StoreFields,
     keeper: &Keeper<ChainStepper>,
     array: &BlockArray,
-    voted: &AttestationData,
+    content: &AttestationData,
 ) -> Result<(), Stop>
     requires nodes { AreNodesOf store.now.blocks array.now.nodes }
     requires keeper { kept_blocks keeper.now.blocks ≡ store.now.blocks }
-    ensures { GivesExactly result (check_known store.now voted.now) }
+    ensures { GivesExactly result (check_known store.now content.now) }
 {
-    if !store.is_kept(voted.target.root) {
+    if !store.is_kept(content.target.root) {
         return Err(Stop::Refused(Refusal::FcTargetUnknown));
     }
-    if !store.is_kept(voted.beacon_block_root) {
+    if !store.is_kept(content.beacon_block_root) {
         return Err(Stop::Refused(Refusal::FcBlockUnknown));
     }
-    check_voted(store, keeper, array, voted)
+    check_voted(store, keeper, array, content)
 }
 
 /// Refused where the target's epoch isn't that of the slot, and as above.
@@ -126,17 +126,17 @@ fn check_vote(
     store: &StoreFields,
     keeper: &Keeper<ChainStepper>,
     array: &BlockArray,
-    voted: &AttestationData,
+    content: &AttestationData,
 ) -> Result<(), Stop>
     requires nodes { AreNodesOf store.now.blocks array.now.nodes }
     requires keeper { kept_blocks keeper.now.blocks ≡ store.now.blocks }
-    ensures epoch { OnOk result (compute_epoch_at_slot store.now.config.preset voted.now.slot ≡ voted.now.target.epoch) }
-    ensures exact { GivesExactly result (check_vote store.now voted.now) }
+    ensures epoch { OnOk result (compute_epoch_at_slot store.now.config.preset content.now.slot ≡ content.now.target.epoch) }
+    ensures exact { GivesExactly result (check_vote store.now content.now) }
 {
-    if voted.target.epoch != epoch_at_slot(store, voted.slot) {
+    if content.target.epoch != epoch_at_slot(store, content.slot) {
         return Err(Stop::Refused(Refusal::FcSlotEpoch));
     }
-    check_known(store, keeper, array, voted)
+    check_known(store, keeper, array, content)
 }
 
 /// Refused where an attestation may not count now, in this order: `FcTargetTime`, from the wire alone; `FcSlotEpoch`,

@@ -6,7 +6,7 @@ use Rattle.beacon_types.specs.declared.checkpoint.Checkpoint.{Checkpoint}
 use Rattle.block_array.specs.PlainArray.{PlainArray}
 use Rattle.spec_fork_choice.specs.Store.{Store, is_kept}
 use Rattle.fork_store.specs.declared.follow.Told.{Told}
-use Rattle.fork_store.specs.Arrays.{Balances, balances_at, nodes_of, number_of, IsRooted, IsBoostedNode, IsForNode, messages_at}
+use Rattle.fork_store.specs.Arrays.{Balances, balances_at, nodes_of, node_number, IsRooted, IsBoostedNode, IsForNode, messages_at}
 use Rattle.fork_store.specs.inside.Boosts.{IsZeroOrKept}
 use Rattle.fork_store.specs.inside.Wholes.{balances_for, AreReady}
 
@@ -38,7 +38,7 @@ pub record IsFed (store : Store) (told : Told) (array : PlainArray) : Type 0 whe
   pub voted : AllByRecursion (IsForNode (length array.nodes)) array.latest_messages
   pub balances : balances_at array ≡ balances_for store store.justified_checkpoint
   pub justified : array.justified_checkpoint ≡ told.justified
-  pub justified_node : number_of store.blocks told.justified.root ≡ Some array.justified_node
+  pub justified_node : node_number store.blocks told.justified.root ≡ Some array.justified_node
   pub finalized : array.finalized_checkpoint ≡ told.finalized
   pub boosted_node : IsBoostedNode store.blocks told.boost_root array.boosted_node
 

@@ -6,8 +6,8 @@ pub returns-then-not-same_checkpoint-clause-fed : goal.returns-then-not-same_che
 returns-then-not-same_checkpoint-clause-fed c =
     tick_given c.args.store.now c.args.before.now c.args.array.now c.args.ready.now c.give_ready.new.array c.requires.array c.requires.ready (search rules) c.requires.moved c.give_ready.ensures
 
-pub returns-then-not-same_checkpoint-clause-unset : goal.returns-then-not-same_checkpoint-clause-unset
-returns-then-not-same_checkpoint-clause-unset c = unset_other c.args.store.now c.args.before.now _ _ (search rules)
+pub returns-then-not-same_checkpoint-clause-balances_set_stays : goal.returns-then-not-same_checkpoint-clause-balances_set_stays
+returns-then-not-same_checkpoint-clause-balances_set_stays c = unset_other c.args.store.now c.args.before.now _ _ (search rules)
 
 pub returns-else-not-same_checkpoint-clause-fed : goal.returns-else-not-same_checkpoint-clause-fed
 returns-else-not-same_checkpoint-clause-fed c = search (rules, ticking)

@@ -13,5 +13,5 @@ returns-clause-array c =
     boost_other c.args.store.now c.args.told.now c.args.array.now c.boost.new.self c.boosted_node.result c.requires.fed c.requires.justified c.requires.finalized
     (rw (← c.blocks-2.ensures, ← c.boost_root-root.ensures) c.boosted_node.ensures) c.boost.ensures
 
-pub returns-clause-unset : goal.returns-clause-unset
-returns-clause-unset c = ap (λ (a : PlainArray). a.balances_set) c.boost.ensures
+pub returns-clause-balances_set_stays : goal.returns-clause-balances_set_stays
+returns-clause-balances_set_stays c = ap (λ (a : PlainArray). a.balances_set) c.boost.ensures

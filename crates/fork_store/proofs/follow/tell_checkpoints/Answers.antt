@@ -9,5 +9,5 @@ returns-clause-fed c =
     (rw (← c.blocks-2.ensures, ← c.justified-justified.ensures.same) c.in-Some.ensures)
     (rw (← c.justified-justified.ensures.same, ← c.finalized.ensures) c.set_checkpoints.ensures)
 
-pub returns-clause-unset : goal.returns-clause-unset
-returns-clause-unset c = ap (λ (a : PlainArray). a.balances_set) c.set_checkpoints.ensures
+pub returns-clause-balances_set_stays : goal.returns-clause-balances_set_stays
+returns-clause-balances_set_stays c = ap (λ (a : PlainArray). a.balances_set) c.set_checkpoints.ensures

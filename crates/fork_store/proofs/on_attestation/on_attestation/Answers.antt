@@ -29,11 +29,11 @@ update_latest_messages-requires-clause-kept c =
     subst (λ (s : Store). is_kept s.blocks c.args.attestation.now.content.beacon_block_root ≡ true) (sym c.in_ok-indices.ensures.same)
     (voted_is_kept c.args.store.now c.args.attestation.now c.args.is_from_block c.in_ok-indices.indices.items c.in_ok-indices.ensures.exact)
 
-pub returns-clause-unset : goal.returns-clause-unset
-returns-clause-unset c = c.in_ok-update_latest_messages.ensures.unset
+pub returns-clause-balances_set_stays : goal.returns-clause-balances_set_stays
+returns-clause-balances_set_stays c = c.in_ok-update_latest_messages.ensures.balances_set_stays
 
-pub returns-in_err-update_latest_messages-clause-unset : goal.returns-in_err-update_latest_messages-clause-unset
-returns-in_err-update_latest_messages-clause-unset c = c.in_err-update_latest_messages.ensures.unset
+pub returns-in_err-update_latest_messages-clause-balances_set_stays : goal.returns-in_err-update_latest_messages-clause-balances_set_stays
+returns-in_err-update_latest_messages-clause-balances_set_stays c = c.in_err-update_latest_messages.ensures.balances_set_stays
 
 pub returns-in_err-indices-clause-stays : goal.returns-in_err-indices-clause-stays
 returns-in_err-indices-clause-stays c = stop_leaves _ refl

@@ -15,8 +15,8 @@ returns-clause-exact c =
     let kept : KeptBlock = record { root = c.args.root; block = c.args.block.now.message; state = c.args.state } in
     c.settle_whole.ensures.exact ∙ rw (c.requires.facts, c.in_ok-keep_block.ensures.exact) (settled_is_accepted c.args.store.now kept)
 
-pub returns-clause-unset : goal.returns-clause-unset
-returns-clause-unset c = λ is. c.settle_whole.ensures.unset (is ∙ sym c.in_ok-keep_block.ensures.stays) ∙ c.in_ok-keep_block.ensures.unset
+pub returns-clause-balances_set_stays : goal.returns-clause-balances_set_stays
+returns-clause-balances_set_stays c = λ is. c.settle_whole.ensures.balances_set_stays (is ∙ sym c.in_ok-keep_block.ensures.stays) ∙ c.in_ok-keep_block.ensures.balances_set_stays
 
 pub settle_whole-requires-clause-few : goal.settle_whole-requires-clause-few
 settle_whole-requires-clause-few c = mid_few c.args.store.now c.keep_block.new.store c.args.array.now c.args.ready.now c.args.root c.args.block.now.message c.args.state c.requires.parts.whole c.requires.linked c.in_ok-keep_block.ensures.exact c.requires.few
@@ -56,8 +56,8 @@ settle_whole-requires-clause-low c =
     (mid_low c.args.store.now c.keep_block.new.store c.args.array.now c.args.ready.now c.args.root c.args.block.now.message c.args.state c.requires.parts.whole c.requires.linked c.in_ok-keep_block.ensures.exact
     (justified_is_low c.args.state c.args.store.now.config.preset c.requires.kept.sound c.requires.preset (low_slot _ _ c.requires.kept.slot c.requires.kept.low)))
 
-pub returns-in_err-keep_block-clause-unset : goal.returns-in_err-keep_block-clause-unset
-returns-in_err-keep_block-clause-unset c = λ _. c.in_err-keep_block.ensures.unset
+pub returns-in_err-keep_block-clause-balances_set_stays : goal.returns-in_err-keep_block-clause-balances_set_stays
+returns-in_err-keep_block-clause-balances_set_stays c = λ _. c.in_err-keep_block.ensures.balances_set_stays
 
 pub returns-in_err-given-clause-array_stays : goal.returns-in_err-given-clause-array_stays
 returns-in_err-given-clause-array_stays c = stop_leaves _ refl

@@ -9,7 +9,7 @@ use Rattle.spec_fork_choice.specs.OnBlock.{BlockIn, accept_block, with_accepted}
 use Rattle.spec_transition.specs.ProcessSlots.{Stepped}
 use Rattle.fork_store.specs.inside.Accepted.{kept_of}
 use Rattle.fork_store.specs.inside.Chains.{IsLinked}
-use Rattle.fork_store.specs.Arrays.{number_of}
+use Rattle.fork_store.specs.Arrays.{node_number}
 use Rattle.fork_store.specs.Keepers.{IsKeeperOf}
 use Rattle.fork_store.specs.inside.Keepers.{IsStepOn}
 use Rattle.fork_store.specs.Stores.{IsBehind}
@@ -58,11 +58,11 @@ accept-requires-clause-named c =
     unclashed_root c.args.store.now.blocks c.args.root c.args.block.now.message.state_root c.args.block.now.message
     (sym (subst (λ (b : List KeptBlock). None ≡ clash_of b c.args.root c.args.block.now.message.state_root c.args.block.now.message) c.blocks-2.ensures c.in-None.ensures))
 
-pub returns-in_err-accept-in-None-clause-unset : goal.returns-in_err-accept-in-None-clause-unset
-returns-in_err-accept-in-None-clause-unset c = λ is. c.in_err-accept-in-None.ensures.unset (is ∙ sym (ap (λ (s : Store). s.justified_checkpoint) c.in_ok-keep_justified-in-None.ensures.same))
+pub returns-in_err-accept-in-None-clause-balances_set_stays : goal.returns-in_err-accept-in-None-clause-balances_set_stays
+returns-in_err-accept-in-None-clause-balances_set_stays c = λ is. c.in_err-accept-in-None.ensures.balances_set_stays (is ∙ sym (ap (λ (s : Store). s.justified_checkpoint) c.in_ok-keep_justified-in-None.ensures.same))
 
-pub returns-in_ok-accept-in-None-clause-unset : goal.returns-in_ok-accept-in-None-clause-unset
-returns-in_ok-accept-in-None-clause-unset c = λ is. c.in_ok-accept-in-None.ensures.unset (is ∙ sym (ap (λ (s : Store). s.justified_checkpoint) c.in_ok-keep_justified-in-None.ensures.same))
+pub returns-in_ok-accept-in-None-clause-balances_set_stays : goal.returns-in_ok-accept-in-None-clause-balances_set_stays
+returns-in_ok-accept-in-None-clause-balances_set_stays c = λ is. c.in_ok-accept-in-None.ensures.balances_set_stays (is ∙ sym (ap (λ (s : Store). s.justified_checkpoint) c.in_ok-keep_justified-in-None.ensures.same))
 
 pub returns-in_ok-accept-in-None-clause-exact : goal.returns-in_ok-accept-in-None-clause-exact
 returns-in_ok-accept-in-None-clause-exact c =
@@ -107,7 +107,7 @@ pub returns-in-Some-clause-keeper_stays : goal.returns-in-Some-clause-keeper_sta
 returns-in-Some-clause-keeper_stays c = refl
 
 pub accept-requires-clause-number : goal.accept-requires-clause-number
-accept-requires-clause-number c = subst (λ (s : Store). Some c.args.parent ≡ number_of s.blocks c.args.block.now.message.parent_root) (sym c.in_ok-keep_justified-in-None.ensures.same) c.requires.number
+accept-requires-clause-number c = subst (λ (s : Store). Some c.args.parent ≡ node_number s.blocks c.args.block.now.message.parent_root) (sym c.in_ok-keep_justified-in-None.ensures.same) c.requires.number
 
 pub accept-requires-clause-parts : goal.accept-requires-clause-parts
 accept-requires-clause-parts c = record {

@@ -5,7 +5,7 @@ use Rattle.block_array.specs.Calls.{with_node}
 use Rattle.spec_fork_choice.specs.Store.{KeptBlock, Store}
 use Rattle.beacon_body.specs.declared.signed_block.SignedBeaconBlock.{SignedBeaconBlock}
 use Rattle.fork_store.specs.inside.Accepted.{kept_of}
-use Rattle.fork_store.specs.Arrays.{number_of, IsArrayOf}
+use Rattle.fork_store.specs.Arrays.{node_number, IsArrayOf}
 use Rattle.fork_store.specs.inside.Keepers.{IsStepOn}
 use Rattle.fork_store.specs.Stores.{IsKept}
 use Rattle.fork_store.specs.Trees.{Follows}
@@ -39,14 +39,14 @@ returns-clause-array c =
     (with_node c.reserve.new.self c.args.parent c.args.block.now.message.slot c.args.root c.args.facts)
     c.in_ok-reserve.ensures c.push-room.ensures.pushed c.push-room.ensures.spare))
 
-pub returns-in_err-copy-clause-unset : goal.returns-in_err-copy-clause-unset
-returns-in_err-copy-clause-unset c = ap (λ (a : PlainArray). a.balances_set) c.in_ok-reserve.ensures
+pub returns-in_err-copy-clause-balances_set_stays : goal.returns-in_err-copy-clause-balances_set_stays
+returns-in_err-copy-clause-balances_set_stays c = ap (λ (a : PlainArray). a.balances_set) c.in_ok-reserve.ensures
 
-pub returns-in_err-keep-clause-unset : goal.returns-in_err-keep-clause-unset
-returns-in_err-keep-clause-unset c = ap (λ (a : PlainArray). a.balances_set) c.in_ok-reserve.ensures
+pub returns-in_err-keep-clause-balances_set_stays : goal.returns-in_err-keep-clause-balances_set_stays
+returns-in_err-keep-clause-balances_set_stays c = ap (λ (a : PlainArray). a.balances_set) c.in_ok-reserve.ensures
 
-pub returns-clause-unset : goal.returns-clause-unset
-returns-clause-unset c =
+pub returns-clause-balances_set_stays : goal.returns-clause-balances_set_stays
+returns-clause-balances_set_stays c =
     ap (λ (a : PlainArray). a.balances_set)
     (node_added c.push-room.result c.args.array.now c.reserve.new.self c.push-room.new.self _ c.in_ok-reserve.ensures c.push-room.ensures.pushed c.push-room.ensures.spare)
     ∙ ap (λ (a : PlainArray). a.balances_set) c.in_ok-reserve.ensures
@@ -59,7 +59,7 @@ keep-requires-clause-step c = subst (λ (b : SignedBeaconBlock). IsStepOn c.args
 
 pub keep-requires-clause-parent : goal.keep-requires-clause-parent
 keep-requires-clause-parent c =
-    subst (λ (b : SignedBeaconBlock). Some c.args.parent ≡ number_of c.args.store.now.blocks b.message.parent_root) (sym c.in_ok-copy.ensures)
+    subst (λ (b : SignedBeaconBlock). Some c.args.parent ≡ node_number c.args.store.now.blocks b.message.parent_root) (sym c.in_ok-copy.ensures)
     c.requires.number
 
 pub keep-requires-clause-follows : goal.keep-requires-clause-follows
@@ -79,8 +79,8 @@ push-room-requires-clause-later c =
 pub returns-in_err-reserve-clause-array : goal.returns-in_err-reserve-clause-array
 returns-in_err-reserve-clause-array c = subst (IsArrayOf c.args.store.now) (sym c.in_err-reserve.ensures) c.requires.array
 
-pub returns-in_err-reserve-clause-unset : goal.returns-in_err-reserve-clause-unset
-returns-in_err-reserve-clause-unset c = ap (λ (a : PlainArray). a.balances_set) c.in_err-reserve.ensures
+pub returns-in_err-reserve-clause-balances_set_stays : goal.returns-in_err-reserve-clause-balances_set_stays
+returns-in_err-reserve-clause-balances_set_stays c = ap (λ (a : PlainArray). a.balances_set) c.in_err-reserve.ensures
 
 pub returns-in_err-keep-clause-stays : goal.returns-in_err-keep-clause-stays
 returns-in_err-keep-clause-stays c = ap (λ (s : Store). s.justified_checkpoint) c.in_err-keep.ensures.kept

@@ -4,7 +4,7 @@ use Rattle.bc_words.specs.Outcome.{Stops, StopsExactly}
 use Rattle.bc_words.specs.declared.stop.Stop.{Stop}
 use Rattle.spec_fork_choice.specs.OnBlock.{block_step}
 use Rattle.spec_fork_choice.specs.Store.{KeptBlock}
-use Rattle.fork_store.specs.Arrays.{number_of}
+use Rattle.fork_store.specs.Arrays.{node_number}
 use Rattle.fork_store.specs.inside.Accepted.{check_block}
 use Rattle.fork_store.specs.inside.Keepers.{IsStateBehind}
 use Rattle.fork_store.proofs.Finds.{inside}
@@ -20,7 +20,7 @@ kept_state-requires-clause-inside c =
 
 pub step_from-requires-clause-parent : goal.step_from-requires-clause-parent
 step_from-requires-clause-parent c =
-    subst (λ (b : List KeptBlock). (root : List ℕ) → Some c.args.parent ≡ number_of b root → IsStateBehind b root c.in-Ok.state) c.blocks-2.ensures c.in-Ok.ensures.state
+    subst (λ (b : List KeptBlock). (root : List ℕ) → Some c.args.parent ≡ node_number b root → IsStateBehind b root c.in-Ok.state) c.blocks-2.ensures c.in-Ok.ensures.state
     c.args.block.now.message.parent_root c.requires.number
 
 pub step_from-requires-clause-checked : goal.step_from-requires-clause-checked

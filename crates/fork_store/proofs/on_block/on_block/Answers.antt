@@ -32,11 +32,11 @@ accept_unless-requires-clause-linked c = c.in_ok-step.ensures.linked
 pub accept_unless-requires-clause-stepped : goal.accept_unless-requires-clause-stepped
 accept_unless-requires-clause-stepped c = c.in_ok-step.ensures.stepped
 
-pub returns-in_err-step-clause-unset : goal.returns-in_err-step-clause-unset
-returns-in_err-step-clause-unset c = λ _. refl
+pub returns-in_err-step-clause-balances_set_stays : goal.returns-in_err-step-clause-balances_set_stays
+returns-in_err-step-clause-balances_set_stays c = λ _. refl
 
-pub returns-clause-unset : goal.returns-clause-unset
-returns-clause-unset c = c.accept_unless.ensures.unset
+pub returns-clause-balances_set_stays : goal.returns-clause-balances_set_stays
+returns-clause-balances_set_stays c = c.accept_unless.ensures.balances_set_stays
 
 pub returns-in_err-step-clause-array_stays : goal.returns-in_err-step-clause-array_stays
 returns-in_err-step-clause-array_stays c = stop_leaves _ refl
@@ -53,8 +53,8 @@ returns-clause-keeper_stays c = subst (λ k. IfErr c.accept_unless.result (λ _.
 pub parent_of-requires : goal.parent_of-requires
 parent_of-requires c = record { few = c.requires.parts.whole.few }
 
-pub returns-in_err-parent-clause-unset : goal.returns-in_err-parent-clause-unset
-returns-in_err-parent-clause-unset c = λ _. refl
+pub returns-in_err-parent-clause-balances_set_stays : goal.returns-in_err-parent-clause-balances_set_stays
+returns-in_err-parent-clause-balances_set_stays c = λ _. refl
 
 pub returns-in_err-parent-clause-array_stays : goal.returns-in_err-parent-clause-array_stays
 returns-in_err-parent-clause-array_stays c = stop_leaves _ refl

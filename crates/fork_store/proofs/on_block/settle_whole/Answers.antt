@@ -12,5 +12,5 @@ feed-requires-clause-moved c = rw c.told_of-before.ensures (settle_moved c.args.
 pub follow-requires-clause-kept : goal.follow-requires-clause-kept
 follow-requires-clause-kept c = settle_kept c.args.store.now c.args.slot c.args.root c.args.facts.justified c.args.facts.finalized c.settle.new.store c.settle.ensures c.args.array.now c.requires.array c.requires.few c.requires.kept c.requires.justified
 
-pub returns-clause-unset : goal.returns-clause-unset
-returns-clause-unset c = λ is. c.follow.ensures.unset ∙ c.feed.ensures.unset (is ∙ sym (ap (λ (t : Told). t.justified) c.told_of-before.ensures))
+pub returns-clause-balances_set_stays : goal.returns-clause-balances_set_stays
+returns-clause-balances_set_stays c = λ is. c.follow.ensures.balances_set_stays ∙ c.feed.ensures.balances_set_stays (is ∙ sym (ap (λ (t : Told). t.justified) c.told_of-before.ensures))

@@ -11,8 +11,8 @@ returns-in-Err-clause-exact c =
 pub returns-in-Err-clause-stays : goal.returns-in-Err-clause-stays
 returns-in-Err-clause-stays c = same_stays c.args.store.now c.on_attestation.new.self (rw c.in-Err.is at c.on_attestation.ensures.stays)
 
-pub returns-in-Ok-clause-unset : goal.returns-in-Ok-clause-unset
-returns-in-Ok-clause-unset c = λ _. c.on_attestation.ensures.unset
+pub returns-in-Ok-clause-balances_set_stays : goal.returns-in-Ok-clause-balances_set_stays
+returns-in-Ok-clause-balances_set_stays c = λ _. c.on_attestation.ensures.balances_set_stays
 
-pub returns-in-Err-clause-unset : goal.returns-in-Err-clause-unset
-returns-in-Err-clause-unset c = λ _. c.on_attestation.ensures.unset
+pub returns-in-Err-clause-balances_set_stays : goal.returns-in-Err-clause-balances_set_stays
+returns-in-Err-clause-balances_set_stays c = λ _. c.on_attestation.ensures.balances_set_stays

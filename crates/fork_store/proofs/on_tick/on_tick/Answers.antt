@@ -36,8 +36,8 @@ returns-clause-whole c =
     tick_whole c.args.store.now c.tick.new.store c.args.time c.args.array.now c.args.ready.now c.requires c.in_ok-tick.ensures.exact
     c.follow_tick.new.array c.follow_tick.new.ready c.follow_tick.ensures.array c.follow_tick.ensures.ready
 
-pub returns-clause-unset : goal.returns-clause-unset
-returns-clause-unset c = λ is. c.follow_tick.ensures.unset (is ∙ sym (ap (λ (t : Told). t.justified) c.told_of-before.ensures))
+pub returns-clause-balances_set_stays : goal.returns-clause-balances_set_stays
+returns-clause-balances_set_stays c = λ is. c.follow_tick.ensures.balances_set_stays (is ∙ sym (ap (λ (t : Told). t.justified) c.told_of-before.ensures))
 
 pub returns-in_err-tick-clause-stays : goal.returns-in_err-tick-clause-stays
 returns-in_err-tick-clause-stays c = stop_leaves _ refl

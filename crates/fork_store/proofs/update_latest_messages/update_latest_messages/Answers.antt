@@ -17,12 +17,12 @@ returns-clause-whole c =
     (array_voted c.args.store.now c.args.array.now c.reserve.new.self c.in_ok-places.places c.requires.whole.array_of c.in_ok-reserve.ensures c.vote_all.new.array c.args.attesting_indices.now
     c.args.attestation.now c.in-Some.node c.is_sound.ensures.store.tree (rw (← c.blocks-2.ensures) c.in-Some.ensures) c.vote_all.ensures c.take_votes.new.self c.take_votes.ensures)
 
-pub returns-clause-unset : goal.returns-clause-unset
-returns-clause-unset c =
+pub returns-clause-balances_set_stays : goal.returns-clause-balances_set_stays
+returns-clause-balances_set_stays c =
     ap (λ (a : PlainArray). a.balances_set) c.vote_all.ensures ∙ votes_unset c.reserve.new.self c.args.attesting_indices.now _ ∙ ap (λ (a : PlainArray). a.balances_set) c.in_ok-reserve.ensures
 
-pub number_of-requires : goal.number_of-requires
-number_of-requires c = subst (λ (b : List KeptBlock). length b < 2 ^ 32) (sym c.blocks-2.ensures) c.requires.whole.few
+pub node_number-requires : goal.node_number-requires
+node_number-requires c = subst (λ (b : List KeptBlock). length b < 2 ^ 32) (sym c.blocks-2.ensures) c.requires.whole.few
 
 pub unreachable-requires : goal.unreachable-requires
 unreachable-requires c = kept_number c.args.store.now.blocks c.args.attestation.now.content.beacon_block_root c.requires.kept (rw (← c.blocks-2.ensures) c.in_default.ensures)
@@ -39,8 +39,8 @@ vote_all-requires-clause-room c =
 pub returns-in_err-reserve-clause-whole : goal.returns-in_err-reserve-clause-whole
 returns-in_err-reserve-clause-whole c = same_array c.args.store.now c.args.array.now c.reserve.new.self c.args.ready.now c.requires.whole c.in_err-reserve.ensures
 
-pub returns-in_err-reserve-clause-unset : goal.returns-in_err-reserve-clause-unset
-returns-in_err-reserve-clause-unset c = ap (λ (a : PlainArray). a.balances_set) c.in_err-reserve.ensures
+pub returns-in_err-reserve-clause-balances_set_stays : goal.returns-in_err-reserve-clause-balances_set_stays
+returns-in_err-reserve-clause-balances_set_stays c = ap (λ (a : PlainArray). a.balances_set) c.in_err-reserve.ensures
 
 pub returns-clause-config : goal.returns-clause-config
 returns-clause-config c = ap (λ (s : Store). s.config) c.take_votes.ensures

@@ -13,8 +13,8 @@ pub returns-clause-exact : goal.returns-clause-exact
 returns-clause-exact c =
     subst (λ (s : Seen). StoreChanges c.on_attestation.result s.plain c.on_attestation.new.store (event_of (on_attestation s.plain c.args.attestation.now c.args.from_block))) c.self.view_is c.on_attestation.ensures.exact
 
-pub returns-clause-unset : goal.returns-clause-unset
-returns-clause-unset c = c.on_attestation.ensures.unset ∙ ap (λ (s : Seen). s.array.balances_set) c.self.view_is
+pub returns-clause-balances_set_stays : goal.returns-clause-balances_set_stays
+returns-clause-balances_set_stays c = c.on_attestation.ensures.balances_set_stays ∙ ap (λ (s : Seen). s.array.balances_set) c.self.view_is
 
 pub returns-clause-stays : goal.returns-clause-stays
 returns-clause-stays c =

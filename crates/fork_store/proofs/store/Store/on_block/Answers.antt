@@ -14,9 +14,9 @@ invariant_of-self c = c.on_block.ensures.parts
 pub returns-clause-exact : goal.returns-clause-exact
 returns-clause-exact c = subst (λ (s : Seen). Accepts c.on_block.result s.plain c.on_block.new.store (on_block s.plain c.args.block.now)) c.self.view_is c.on_block.ensures.exact
 
-pub returns-clause-unset : goal.returns-clause-unset
-returns-clause-unset c =
-    subst (λ (s : Seen). c.on_block.new.store.justified_checkpoint ≡ s.plain.justified_checkpoint → c.on_block.new.array.balances_set ≡ s.array.balances_set) c.self.view_is c.on_block.ensures.unset
+pub returns-clause-balances_set_stays : goal.returns-clause-balances_set_stays
+returns-clause-balances_set_stays c =
+    subst (λ (s : Seen). c.on_block.new.store.justified_checkpoint ≡ s.plain.justified_checkpoint → c.on_block.new.array.balances_set ≡ s.array.balances_set) c.self.view_is c.on_block.ensures.balances_set_stays
 
 pub returns-clause-stays : goal.returns-clause-stays
 returns-clause-stays c =

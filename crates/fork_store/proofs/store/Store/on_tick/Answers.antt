@@ -18,9 +18,9 @@ invariant_of-self c = record {
 pub returns-clause-exact : goal.returns-clause-exact
 returns-clause-exact c = subst (λ (s : Seen). ChangesOrRefuses c.on_tick.result s.plain c.on_tick.new.store (on_tick s.plain c.args.time)) c.self.view_is c.on_tick.ensures.exact
 
-pub returns-clause-unset : goal.returns-clause-unset
-returns-clause-unset c =
-    subst (λ (s : Seen). c.on_tick.new.store.justified_checkpoint ≡ s.plain.justified_checkpoint → c.on_tick.new.array.balances_set ≡ s.array.balances_set) c.self.view_is c.on_tick.ensures.unset
+pub returns-clause-balances_set_stays : goal.returns-clause-balances_set_stays
+returns-clause-balances_set_stays c =
+    subst (λ (s : Seen). c.on_tick.new.store.justified_checkpoint ≡ s.plain.justified_checkpoint → c.on_tick.new.array.balances_set ≡ s.array.balances_set) c.self.view_is c.on_tick.ensures.balances_set_stays
 
 pub returns-clause-stays : goal.returns-clause-stays
 returns-clause-stays c =

@@ -2,7 +2,7 @@ use Rattle.std.proofs.Common.{◌≡◌, ◌∙◌, ◌<◌, ◌-◌, ◌^◌, [
 use Rattle.bc_words.specs.Outcome.{Becomes}
 use Rattle.spec_fork_choice.specs.Store.{Store}
 use Rattle.fork_store.specs.inside.Accepted.{kept_of}
-use Rattle.fork_store.specs.Arrays.{number_of}
+use Rattle.fork_store.specs.Arrays.{node_number}
 use Rattle.fork_store.specs.inside.Keepers.{IsStepOn}
 use Rattle.fork_store.specs.inside.Plain.{plain_of}
 use Rattle.fork_store.specs.Trees.{Follows}
@@ -30,7 +30,7 @@ pub push-requires-clause-fresh : goal.push-requires-clause-fresh
 push-requires-clause-fresh c = (subst (λ (s : Store). Follows s.blocks (kept_of c.args.root c.args.block.message c.args.state)) (sym c.self.view_is) c.requires.follows).fresh
 
 pub push-requires-clause-parent : goal.push-requires-clause-parent
-push-requires-clause-parent c = subst (λ (s : Store). Some c.args.parent ≡ number_of s.blocks c.args.block.message.parent_root) (sym c.self.view_is) c.requires.parent
+push-requires-clause-parent c = subst (λ (s : Store). Some c.args.parent ≡ node_number s.blocks c.args.block.message.parent_root) (sym c.self.view_is) c.requires.parent
 
 pub push-requires-clause-step : goal.push-requires-clause-step
 push-requires-clause-step c =
