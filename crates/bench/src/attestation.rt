@@ -67,11 +67,7 @@ fn time_times(
 }
 
 /// The time of so many attestations, each into an equal state.
-fn time_all(
-    rt: &impl CpuClock,
-    state: &State,
-    attestation: &Attestation,
-) -> Result<Time, Stop> {
+fn time_all(rt: &impl CpuClock, state: &State, attestation: &Attestation) -> Result<Time, Stop> {
     let previous = count_active(state, previous_epoch(state));
     let current = count_active(state, current_epoch(state));
     time_times(rt, state, attestation, previous, current)
