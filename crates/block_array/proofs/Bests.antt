@@ -4,7 +4,7 @@ use Rattle.std.specs.Ordering.{is_gt, nat_cmp, on, ordering_then, ordering_rever
 use Rattle.std.specs.Cmp.{IsTotalOrder}
 use Rattle.std.specs.Cmp.Lexicographic.{slice_cmp}
 use Rattle.std.proofs.lemmas.Bool.{cases_Bool, lt-ltb, le-ltb, eq-eqb, ne_eqb}
-use Rattle.std.proofs.lemmas.Cmp.{upto, are_best, on_total, then_total, nat_cmp_total, nat_list_cmp_total}
+use Rattle.std.proofs.lemmas.Cmp.{upto, ranked, on_total, then_total, nat_cmp_total, nat_list_cmp_total}
 use Rattle.block_array.specs.PlainArray.{PlainArray, root_at}
 use Rattle.block_array.specs.GetHead.{is_greater_root, goes_before, best_of}
 use Rattle.block_array.specs.GetLatestAttestingBalance.{get_latest_attesting_balance}
@@ -80,13 +80,13 @@ module _ (array : PlainArray) where
 
       by : (o : Ordering) → o ≡ nat_cmp x y → (nat_lt y x || (eqb y x && greater)) ≡ is_gt (ordering_then (nat_cmp x y) rest)
       by Less e =
-          let less : x < y = are_best x y Less e in
+          let less : x < y = ranked x y Less e in
           ap (λ t. t || (eqb y x && greater)) (le-ltb y x (omega arith)) ∙ ap (λ t. t && greater) (ne_eqb y x (λ s. omega arith)) ∙ ap (λ o. is_gt (ordering_then o rest)) e
       by Equal e =
-          let same : x ≡ y = are_best x y Equal e in
+          let same : x ≡ y = ranked x y Equal e in
           ap (λ t. t || (eqb y x && greater)) (le-ltb y x (omega arith)) ∙ ap (λ t. t && greater) (eq-eqb y x (sym same)) ∙ ap (λ o. is_gt (ordering_then o rest)) e
       by Greater e =
-          let more : y < x = are_best x y Greater e in
+          let more : y < x = ranked x y Greater e in
           ap (λ t. t || (eqb y x && greater)) (lt-ltb y x more) ∙ ap (λ o. is_gt (ordering_then o rest)) e
 
   better_is : (a b : ℕ) → better array a b ≡ choose by_weight_and_root is_total a b
