@@ -1,6 +1,8 @@
 pub mod Adding
 pub mod Beside
 pub mod Bisecting
+pub mod CarriedOffences
+pub mod CarriedRoom
 pub mod Epochs
 pub mod Firsts
 pub mod Items

@@ -1,4 +1,5 @@
 pub mod AllSpans
+pub mod Carried
 pub mod Pairs
 pub mod Room
 pub mod Spans

@@ -7,9 +7,12 @@
 mod all;
 mod all_spans;
 mod bisect;
+mod carried;
 mod least;
+mod offences;
 mod one;
 mod pairs;
+mod place;
 mod reserve;
 #[cfg(test)]
 mod rows;
@@ -17,5 +20,7 @@ mod spans;
 mod votes;
 
 pub use all_spans::AllSpans;
+pub use carried::CarriedVotes;
 pub use pairs::first_slashable;
+pub use place::Place;
 pub use spans::Spans;
