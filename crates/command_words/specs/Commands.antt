@@ -1,0 +1,75 @@
+-- The commands of the program, and which one the words are. A word is the list of its bytes.
+use Rattle.std.specs.Prelude.{◌≡◌, ℕ, true, false, List, [], ◌∷◌, map, Option, Some, None, codes, option_map, option_and_then, if◌then◌else◌}
+use Rattle.std.specs.Str.{bytes_eq}
+use Rattle.clap.specs.Words.{App, Kinds, Row, Rule, Shape, fault_of, first_of, new_rule, subcommand_of, takes}
+use Rattle.clap.specs.Simple.{new_shape}
+
+-- what a command asks for at a place, with the label under which the usage shows it: the name of a file
+pub data Argument : Type 0 where
+  file : List ℕ → Argument
+
+-- a command: its name, and what it asks for in order
+pub record Form : Type 0 where
+  pub name : List ℕ
+  pub arguments : List Argument
+
+-- the commands
+abbrev pub forms : List Form
+forms = record { name = codes "replay"; arguments = file (codes "CONFIG") ∷ file (codes "GENESIS") ∷ file (codes "RECORD") ∷ [] } ∷ []
+
+-- an argument for clap: it is required, and stands at its place
+abbrev pub rule_of_argument : Argument → Rule
+rule_of_argument (file label) = record (new_rule label) { required = true }
+
+-- a command for clap
+abbrev pub shape_of_form : Form → Shape
+shape_of_form form = record (new_shape form.name) { rules = map rule_of_argument form.arguments }
+
+-- the command line for clap: one level of commands, no options and no help words. The words are those behind the program's name.
+abbrev pub command_line : App
+command_line = record {
+  top = record (new_shape (codes "beacon")) { no_binary_name = true; disable_help_flag = true; disable_help_subcommand = true; is_leaf = false };
+  subs = map shape_of_form forms;
+}
+
+-- the files that the command `replay CONFIG GENESIS RECORD` names
+pub record ReplayFiles : Type 0 where
+  pub config : List ℕ
+  pub genesis : List ℕ
+  pub events : List ℕ
+
+-- a command with its arguments
+pub data Command : Type 0 where
+  replay : ReplayFiles → Command
+
+-- `replay`, where each of its arguments has a value
+abbrev pub replay_in : List Row → Option Command
+replay_in rows =
+    option_and_then (λ config. option_and_then (λ genesis. option_map (λ events. replay (record { config = config; genesis = genesis; events = events }))
+    (first_of (codes "RECORD") rows)) (first_of (codes "GENESIS") rows)) (first_of (codes "CONFIG") rows)
+
+-- the command of a name, with the arguments that clap found
+abbrev pub named_command : List ℕ × List Row → Option Command
+named_command p = if bytes_eq p.0 (codes "replay") then replay_in p.1 else None
+
+-- the command that clap's own function of the words gives
+abbrev pub given_command : List (List ℕ) → Option Command
+given_command words = option_and_then named_command (subcommand_of command_line words)
+
+-- none where clap finds a fault, of one of these kinds
+abbrev pub unless_faulty : Kinds → Option Command → Option Command
+unless_faulty [] command = command
+unless_faulty (kind ∷ kinds) command = None
+
+-- the command that the words are: the given one, where clap finds no fault in them
+unfoldable pub command_of : List (List ℕ) → Option Command
+command_of words = unless_faulty (fault_of command_line words) (given_command words)
+
+-- Clap doesn't take the words, by its own test for such a command line, or they give no command.
+abbrev pub IsDeclined : List (List ℕ) → Type 0
+IsDeclined words = takes command_line words ≡ true → given_command words ≡ None
+
+-- the files that the command names, in the order in which they are asked for
+abbrev pub names_of : Option Command → List (List ℕ)
+names_of None = []
+names_of (Some (replay files)) = files.config ∷ files.genesis ∷ files.events ∷ []

@@ -1,0 +1,17 @@
+-- How an answer of reading the words meets their definition.
+use Rattle.std.specs.Prelude.{◌≡◌, ℕ, List, Some, None, Result, Ok, Err}
+use Rattle.command_words.specs.Commands.{Command, IsDeclined, replay, command_of}
+use Rattle.command_words.specs.declared.command.Command as code
+use Rattle.command_words.specs.declared.command.Command.TheVariants as commands
+use Rattle.command_words.specs.declared.command.WordsStop.{WordsStop}
+use Rattle.command_words.specs.declared.command.WordsStop.TheVariants.{NoCommand, NoMemory}
+
+-- the command that a value of the code is
+abbrev pub command_value : code.Command → Command
+command_value (commands.Replay f) = replay (record { config = f.config.now; genesis = f.genesis.now; events = f.events.now })
+
+-- The answer is the command that the words are, or that they are none, unless memory ran out.
+abbrev pub ReadsCommand : List (List ℕ) → Result code.Command WordsStop → Type 0
+ReadsCommand words (Ok command) = command_of words ≡ Some (command_value command)
+ReadsCommand words (Err NoCommand) = (command_of words ≡ None) × IsDeclined words
+ReadsCommand words (Err NoMemory) = Unit {0}

@@ -1,0 +1,58 @@
+//! The commands with their arguments: the one table from which the words are read and the usage is shown.
+
+ghost use Rattle.std.specs.Prelude.{◌≡◌, map};
+ghost use Rattle.command_words.specs.Commands.{forms};
+ghost use Rattle.command_words.specs.inside.Forms.{form_of};
+
+use std::fmt;
+
+/// What a command asks for at a place, with the label under which the usage shows it.
+#[derive(Clone, Copy)]
+pub enum Argument {
+    /// The name of a file.
+    File(&'static str),
+}
+
+/// A command: its name, and what it asks for in order.
+#[derive(Clone, Copy)]
+pub struct Form {
+    /// The command's name.
+    pub name: &'static str,
+    /// Its arguments.
+    pub arguments: &'static [Argument],
+}
+
+impl fmt::Display for Argument {
+    fn fmt<W: fmt::Write>(&self, f: &mut fmt::Formatter<W>) -> fmt::Result {
+        match self {
+            Argument::File(label) => f.write_str(label),
+        }
+    }
+}
+
+impl fmt::Display for Form {
+    fn fmt<W: fmt::Write>(&self, f: &mut fmt::Formatter<W>) -> fmt::Result {
+        f.write_str(self.name)?;
+        for argument in self.arguments {
+            write!(f, " {argument}")?;
+        }
+        Ok(())
+    }
+}
+
+/// The commands.
+pub static COMMANDS: [Form; 1] = [Form {
+    name: "replay",
+    arguments: &[
+        Argument::File("CONFIG"),
+        Argument::File("GENESIS"),
+        Argument::File("RECORD"),
+    ],
+}];
+
+/// The commands, as the definitions list them.
+pub fn commands() -> &'static [Form]
+    ensures { map form_of result.now ≡ forms }
+{
+    COMMANDS.as_slice()
+}
