@@ -1,7 +1,10 @@
 -- The command words as the first step of a run.
-use Rattle.std.proofs.Common.{◌≡◌, ℕ, List, [], Some, None, true, false, refl, sym, append-nil, arith}
+use Rattle.std.proofs.Common.{◌≡◌, ℕ, List, [], Some, None, Err, true, false, refl, sym, append-nil, arith}
 use Rattle.bc_outside.specs.Told.{ShelfTold}
 use Rattle.command_words.specs.Commands.{ReplayFiles, command_of, names_of, replay}
+use Rattle.command_words.specs.inside.Reading.{ReadsCommand}
+use Rattle.command_words.specs.declared.command.WordsStop.{WordsStop}
+use Rattle.command_words.specs.declared.command.WordsStop.TheVariants.{NoCommand, NoMemory}
 use Rattle.spec_replay.specs.Run.{run_of, with_command, with_files}
 use Rattle.beacon_node.specs.declared.status.Status.{Status}
 use Rattle.beacon_node.specs.declared.status.Status.TheVariants as statuses
@@ -30,6 +33,11 @@ no_answers words s w is = record {
     asks = record { count = 0; reaches = reaches_none false; names_are = sym (append-nil s.asked) };
   });
 }
+
+-- the answer that they are none
+pub are_none : (words : List (List ℕ)) (stop : WordsStop) → stop ≡ NoCommand → ReadsCommand words (Err stop) → command_of words ≡ None
+are_none words NoCommand is h = h.0
+are_none words NoMemory is h = cc
 
 -- memory ran out before they were read
 pub unread_words : (words : List (List ℕ)) (s : ShelfTold) (w : List ℕ) → Replayed (λ contents. run_of contents words) (paced_run_of words) (names_of (command_of words)) statuses.NoMemory s s w w
