@@ -4,7 +4,7 @@ use Rattle.beacon_node.proofs.Commands.{replay_answers, are_none, no_answers, un
 use Rattle.beacon_node.proofs.top.beacon_main.Goals as goal
 
 pub returns-in-Ok-Replay-clause-answers : goal.returns-in-Ok-Replay-clause-answers
-returns-in-Ok-Replay-clause-answers g c = replay_answers _ _ _ _ _ _ _ ? c.replay.ensures.answers
+returns-in-Ok-Replay-clause-answers g c = replay_answers _ _ _ _ _ _ _ c.in-Ok-Replay.ensures c.replay.ensures.answers
 
 pub returns-in-Err-NoCommand-clause-answers : goal.returns-in-Err-NoCommand-clause-answers
 returns-in-Err-NoCommand-clause-answers g c = no_answers _ _ _ (are_none _ _ c.in-Err-NoCommand.field-0-is c.in-Err-NoCommand.ensures)
