@@ -1,7 +1,15 @@
-//! The program `beacon`: it runs its words over the disk and standard output, and ends with the status's number.
+//! The program `beacon`: it runs its words over the disk and standard output, shows how far it is, says what became of it,
+//! and ends with the status's number.
 #![tactic(auto)]
 
-use beacon_terminal::{Progress, run};
+mod explanation;
+mod program;
+mod progress;
+#[cfg(test)]
+mod tests;
+
+use crate::program::run;
+use crate::progress::Progress;
 use std::process::ExitCode;
 
 fn main(rt: HostRuntime) -> ExitCode {

@@ -1,31 +1,53 @@
 -- The command words as the first step of a run.
-use Rattle.std.proofs.Common.{◌≡◌, ℕ, List, [], Some, None, false, refl, sym, append-nil}
+use Rattle.std.proofs.Common.{◌≡◌, ℕ, List, [], Some, None, Err, true, false, refl, sym, append-nil, arith}
 use Rattle.bc_outside.specs.Told.{ShelfTold}
+use Rattle.command_words.specs.Commands.{ReplayFiles, command_of, names_of, replay}
+use Rattle.command_words.specs.inside.Reading.{ReadsCommand}
+use Rattle.command_words.specs.declared.command.WordsStop.{WordsStop}
+use Rattle.command_words.specs.declared.command.WordsStop.TheVariants.{NoCommand, NoMemory}
 use Rattle.spec_replay.specs.Run.{run_of, with_command, with_files}
-use Rattle.spec_replay.specs.Words.{ReplayFiles, replay_files_of, names_of}
 use Rattle.beacon_node.specs.declared.status.Status.{Status}
 use Rattle.beacon_node.specs.declared.status.Status.TheVariants as statuses
 use Rattle.beacon_node.specs.Answers.{Replayed, taken_of, taken_run_of}
-use Rattle.beacon_node.proofs.Reaching.{reaches_none, no_lines}
+use Rattle.beacon_node.proofs.Reaching.{reaches_none, reaches_front, no_lines}
+use Rattle.beacon_node.proofs.Steps.{asks_none}
 
--- the words are a command
-pub replay_answers : (words : List (List ℕ)) (files : ReplayFiles) (status : Status) (s t : ShelfTold) (w x : List ℕ) → Some files ≡ replay_files_of words
-    → Replayed (λ contents. with_files (contents files.config) (contents files.genesis) (contents files.events)) (λ contents opened. with_files (contents files.config) (contents files.genesis) (taken_of 2 opened)) (names_of (Some files)) status s t w x
-    → Replayed (λ contents. run_of contents words) (taken_run_of words) (names_of (replay_files_of words)) status s t w x
+-- the words are the command `replay`
+pub replay_answers : (words : List (List ℕ)) (files : ReplayFiles) (status : Status) (s t : ShelfTold) (w x : List ℕ) → command_of words ≡ Some (replay files)
+    → Replayed (λ contents. with_files (contents files.config) (contents files.genesis) (contents files.events)) (λ contents opened. with_files (contents files.config) (contents files.genesis) (taken_of 2 opened)) (names_of (Some (replay files))) status s t w x
+    → Replayed (λ contents. run_of contents words) (taken_run_of words) (names_of (command_of words)) status s t w x
 unfolding run_of with_command taken_run_of
-replay_answers words files status s t w x is h = record { opened = h.opened; files = h.files; answers = λ c a. rw (← is) (h.answers c a) }
+replay_answers words files status s t w x is h = record { opened = h.opened; files = h.files; answers = λ c a. rw is (h.answers c a) }
 
 -- the words are none
-pub no_answers : (words : List (List ℕ)) (s : ShelfTold) (w : List ℕ) → None ≡ replay_files_of words
-    → Replayed (λ contents. run_of contents words) (taken_run_of words) (names_of (replay_files_of words)) statuses.Words s s w w
+pub no_answers : (words : List (List ℕ)) (s : ShelfTold) (w : List ℕ) → command_of words ≡ None
+    → Replayed (λ contents. run_of contents words) (taken_run_of words) (names_of (command_of words)) statuses.Words s s w w
 unfolding run_of with_command taken_run_of
 no_answers words s w is = record {
   opened = [];
   files = sym (append-nil s.files);
-  answers = λ c a. rw (← is) (record {
+  answers = λ c a. rw is (record {
     ends = λ _. refl;
     lines = no_lines false [] w (reaches_none false);
     pace = no_lines false [] w (reaches_none false);
     asks = record { count = 0; reaches = reaches_none false; names_are = sym (append-nil s.asked) };
   });
+}
+
+-- the answer that they are none
+pub are_none : (words : List (List ℕ)) (stop : WordsStop) → stop ≡ NoCommand → ReadsCommand words (Err stop) → command_of words ≡ None
+are_none words NoCommand is h = h.0
+are_none words NoMemory is h = cc
+
+-- memory ran out before they were read
+pub unread_words : (words : List (List ℕ)) (s : ShelfTold) (w : List ℕ) → Replayed (λ contents. run_of contents words) (taken_run_of words) (names_of (command_of words)) statuses.NoMemory s s w w
+unread_words words s w = record {
+  opened = [];
+  files = sym (append-nil s.files);
+  answers = λ c a. record {
+    ends = λ never. cc;
+    lines = no_lines true _ w (reaches_front 0 _ (omega arith));
+    pace = no_lines true _ w (reaches_front 0 _ (omega arith));
+    asks = asks_none true _ _ s.asked s.asked (reaches_front 0 _ (omega arith)) refl;
+  };
 }

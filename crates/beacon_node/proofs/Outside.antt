@@ -13,7 +13,7 @@ use Rattle.record_file.specs.declared.fault.FrameStop.{FrameStop}
 use Rattle.record_file.specs.declared.fault.FrameStop.TheVariants as frames
 use Rattle.spec_fork_choice.specs.Store.{Store}
 use Rattle.spec_fork_choice.specs.OnEvent.{Accepted}
-use Rattle.spec_replay.specs.Words.{ReplayFiles, replay_files_of, names_of}
+use Rattle.command_words.specs.Commands.{Command, command_of, names_of}
 use Rattle.beacon_node.specs.declared.genesis.GenesisStop.{GenesisStop}
 use Rattle.beacon_node.specs.declared.genesis.GenesisStop.TheVariants as genesis
 use Rattle.beacon_node.specs.declared.status.Status.{Status}
@@ -103,6 +103,6 @@ store_causes (stores.Limit limit) = no_fault statuses.NoMemory (λ is. cc) (λ i
 store_causes stores.NoMemory = no_fault statuses.NoMemory (λ is. cc) (λ is. cc)
 
 -- the words are a command, whose names these are
-pub command_keeps : (words : List (List ℕ)) (files : ReplayFiles) {ended : Option Status} {s t : ShelfTold} {p q : SinkTold} → Some files ≡ replay_files_of words
-    → OutsideKeeps (names_of (Some files)) ended s t p q → OutsideKeeps (names_of (replay_files_of words)) ended s t p q
-command_keeps words files is h = rw (← is) h
+pub command_keeps : (words : List (List ℕ)) (command : Command) {ended : Option Status} {s t : ShelfTold} {p q : SinkTold} → command_of words ≡ Some command
+    → OutsideKeeps (names_of (Some command)) ended s t p q → OutsideKeeps (names_of (command_of words)) ended s t p q
+command_keeps words command is h = rw is h

@@ -21,7 +21,7 @@ use Rattle.spec_fork_choice.specs.GetForkchoiceStore.{get_forkchoice_store}
 use Rattle.spec_fork_choice.specs.OnEvent.{genesis_clash, open_unless, open_store}
 use Rattle.bc_words.specs.Events.{StoreStops}
 use Rattle.spec_replay.specs.Run.{with_files, with_config, with_genesis, with_state, with_store, with_record, with_events}
-use Rattle.spec_replay.specs.Words.{ReplayFiles}
+use Rattle.command_words.specs.Commands.{ReplayFiles}
 use Rattle.beacon_node.specs.declared.status.Status.{Status}
 use Rattle.beacon_node.specs.declared.status.Status.TheVariants as statuses
 use Rattle.beacon_node.specs.declared.genesis.GenesisStop.{GenesisStop}

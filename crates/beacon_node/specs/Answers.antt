@@ -3,7 +3,7 @@ use Rattle.std.specs.Prelude.{◌≡◌, ℕ, zero, suc, ◌≤◌, Bool, true, 
 use Rattle.bc_outside.specs.Told.{FileHanded, ShelfTold, SinkTold, Agrees}
 use Rattle.bc_outside.specs.Calls.{Rose, ShelfKeeps, SinkKeeps}
 use Rattle.spec_replay.specs.Run.{Run, End, done, no_command, bad_config, bad_genesis, bad_record, limited, clash, over, with_files}
-use Rattle.spec_replay.specs.Words.{ReplayFiles, replay_files_of}
+use Rattle.command_words.specs.Commands.{Command, command_of, replay}
 use Rattle.beacon_node.specs.declared.status.Status.{Status}
 use Rattle.beacon_node.specs.declared.status.Status.TheVariants as statuses
 
@@ -71,13 +71,13 @@ taken_of zero (f ∷ files) = Some f.bytes
 taken_of (suc n) (f ∷ files) = taken_of n files
 
 -- the run of the command with as much of the record, the third file, as was taken
-abbrev pub with_taken : (List ℕ → Option (List ℕ)) → List FileHanded → Option ReplayFiles → Run
+abbrev pub with_taken : (List ℕ → Option (List ℕ)) → List FileHanded → Option Command → Run
 with_taken contents opened None = over no_command
-with_taken contents opened (Some files) = with_files (contents files.config) (contents files.genesis) (taken_of 2 opened)
+with_taken contents opened (Some (replay files)) = with_files (contents files.config) (contents files.genesis) (taken_of 2 opened)
 
 -- the same of the command words
 unfoldable pub taken_run_of : List (List ℕ) → (List ℕ → Option (List ℕ)) → List FileHanded → Run
-taken_run_of words contents opened = with_taken contents opened (replay_files_of words)
+taken_run_of words contents opened = with_taken contents opened (command_of words)
 
 -- A fault of the outside is answered only where its count rose.
 pub record HasCauses (status : Status) (shelf shelf_then sink sink_then : ℕ) : Type 0 where

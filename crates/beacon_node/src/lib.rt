@@ -10,9 +10,7 @@ mod reading;
 mod replay;
 mod status;
 mod top;
-mod words;
 
 pub use law::runs_in_memory;
 pub use status::Status;
 pub use top::beacon_main;
-pub use words::{ReplayFiles, replay_files};

@@ -11,11 +11,11 @@ use crate::events::replay_record;
 use crate::genesis::{GenesisStop, MAX_GENESIS_LEN, read_genesis};
 use crate::reading::{read_named, unread};
 use crate::status::Status;
-use crate::words::ReplayFiles;
 use bc_outside::{Shelf, Sink};
 use bc_preset::{Config, MAX_CONFIG_LEN};
 use bc_words::StoreStop;
 use beacon_state::State;
+use command_words::ReplayFiles;
 use fork_store::Store;
 use std::alloc::Global;
 

@@ -2,13 +2,13 @@
 
 ghost use Rattle.std.specs.Prelude.{◌≡◌, ◌<◌, ◌+◌, ◌^◌, ◌↔◌, length, map, string_bytes, Some, None};
 ghost use Rattle.spec_replay.specs.Run.{run_of};
-ghost use Rattle.spec_replay.specs.Words.{replay_files_of, names_of};
+ghost use Rattle.command_words.specs.Commands.{IsDeclined, command_of, names_of};
 ghost use Rattle.beacon_node.specs.Answers.{OutsideKeeps, Replayed, taken_run_of};
 
 use crate::replay::replay;
 use crate::status::Status;
-use crate::words::replay_files;
 use bc_outside::{Shelf, Sink};
+use command_words::{Command, WordsStop, read_command};
 use std::alloc::Global;
 
 /// Runs the command that the words are, over these files, and writes its lines.
@@ -28,20 +28,21 @@ pub fn beacon_main<F: Shelf, O: Sink>(
     // of memory broke the run off. The lines keep pace with the record, also where a file could not be read.
     ensures answers { Replayed (λ contents. run_of contents (map (λ word. string_bytes word) words.now))
         (taken_run_of (map (λ word. string_bytes word) words.now))
-        (names_of (replay_files_of (map (λ word. string_bytes word) words.now)))
+        (names_of (command_of (map (λ word. string_bytes word) words.now)))
         result (F.told shelf.old) (F.told shelf.new) (O.told out.old).taken (O.told out.new).taken }
 
-    // The words alone say whether they are a command.
-    ensures command { (result ≡ Status.Words) ↔ (replay_files_of (map (λ word. string_bytes word) words.now) ≡ None) }
+    // That the words are no command is answered only where clap doesn't take them, or they give none.
+    ensures command { result ≡ Status.Words → IsDeclined (map (λ word. string_bytes word) words.now) }
 
     // A fault of the outside is answered only where its count rose. The shelf is asked for these names at most, and the
     // sink keeps what it must: over a shelf and a sink that have no cause to fail, where all the names are there, no count
     // rises.
-    ensures outside { OutsideKeeps (names_of (replay_files_of (map (λ word. string_bytes word) words.now))) (Some result)
+    ensures outside { OutsideKeeps (names_of (command_of (map (λ word. string_bytes word) words.now))) (Some result)
         (F.told shelf.old) (F.told shelf.new) (O.told out.old) (O.told out.new) }
 {
-    match replay_files(words) {
-        Some(files) => replay(alloc, &files, shelf, out),
-        None => Status::Words,
+    match read_command(alloc, words) {
+        Ok(Command::Replay(files)) => replay(alloc, &files, shelf, out),
+        Err(WordsStop::NoCommand) => Status::Words,
+        Err(WordsStop::NoMemory) => Status::NoMemory,
     }
 }

@@ -32,8 +32,6 @@ mod small_state;
 #[cfg(test)]
 mod ssz;
 #[cfg(test)]
-mod texts;
-#[cfg(test)]
 mod totals;
 #[cfg(test)]
 mod trees;

@@ -17,7 +17,7 @@ use Rattle.spec_fork_choice.specs.Store.{Store}
 use Rattle.spec_fork_choice.specs.GetForkchoiceStore.{get_forkchoice_store}
 use Rattle.spec_fork_choice.specs.OnEvent.{Accepted, on_event, genesis_clash}
 use Rattle.spec_replay.specs.Lines.{event_line, accepted_text, refusal_text}
-use Rattle.spec_replay.specs.Words.{ReplayFiles, replay_files_of}
+use Rattle.command_words.specs.Commands.{Command, command_of, replay}
 
 -- How a run ends: the record was read to its end; the words are no command; the first fault of the configuration, of the
 -- genesis state, or of a record, with which record it is and its event; an event that meets a bound of this program; or one
@@ -109,10 +109,10 @@ with_files None genesis events = missing
 with_files (Some bytes) genesis events = after_file (with_config (config_of bytes) genesis events)
 
 -- the command that the words are, where the names hold these bytes
-unfoldable pub with_command : (List ℕ → Option (List ℕ)) → Option ReplayFiles → Run
+unfoldable pub with_command : (List ℕ → Option (List ℕ)) → Option Command → Run
 with_command contents None = over no_command
-with_command contents (Some files) = with_files (contents files.config) (contents files.genesis) (contents files.events)
+with_command contents (Some (replay files)) = with_files (contents files.config) (contents files.genesis) (contents files.events)
 
 -- the run of the command words, where the names hold these bytes
 unfoldable pub run_of : (List ℕ → Option (List ℕ)) → List (List ℕ) → Run
-run_of contents words = with_command contents (replay_files_of words)
+run_of contents words = with_command contents (command_of words)

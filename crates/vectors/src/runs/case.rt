@@ -91,7 +91,7 @@ fn load_numbers<R: Files + AllocGlobal>(rt: &R, case: &str, name: &str) -> Resul
     Ok(numbers)
 }
 
-/// Adds a word, and the file of that name, if there is one.
+/// Adds a word, and the file of that name, if there is one. The empty word names none.
 fn load_word<R: Files + AllocGlobal>(
     rt: &R,
     name: &str,
@@ -99,6 +99,9 @@ fn load_word<R: Files + AllocGlobal>(
     case: &mut Case,
 ) -> Result<()> {
     case.words.push(word.to_string(rt.alloc())?)?;
+    if word.is_empty() {
+        return Ok(());
+    }
     match load_file(rt, name, word)? {
         Some(bytes) => Ok(case.files.push((word.to_string(rt.alloc())?, bytes))?),
         None => Ok(()),

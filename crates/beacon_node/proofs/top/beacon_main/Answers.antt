@@ -1,19 +1,13 @@
--- The words are the command, and the rest is its run, or they are none.
-use Rattle.std.proofs.Common.{[]}
-use Rattle.beacon_node.specs.declared.status.Status.TheVariants as statuses
+-- The words are a command, and the rest is its run, or they are none, or memory ran out before they were read.
 use Rattle.beacon_node.specs.inside.Files.{files_named}
-use Rattle.beacon_node.proofs.Commands.{replay_answers, no_answers}
-use Rattle.beacon_node.proofs.Outside.{untouched, ends_here, no_fault, command_keeps}
+use Rattle.beacon_node.proofs.Commands.{replay_answers, are_none, no_answers, unread_words}
 use Rattle.beacon_node.proofs.top.beacon_main.Goals as goal
 
-pub returns-in-Some-clause-answers : goal.returns-in-Some-clause-answers
-returns-in-Some-clause-answers g c = replay_answers _ (files_named c.in-Some.files) _ _ _ _ _ c.in-Some.ensures c.replay.ensures.answers
+pub returns-in-Ok-Replay-clause-answers : goal.returns-in-Ok-Replay-clause-answers
+returns-in-Ok-Replay-clause-answers g c = replay_answers _ _ _ _ _ _ _ c.in-Ok-Replay.ensures c.replay.ensures.answers
 
-pub returns-in-None-clause-answers : goal.returns-in-None-clause-answers
-returns-in-None-clause-answers g c = no_answers _ _ _ c.in-None.ensures
+pub returns-in-Err-NoCommand-clause-answers : goal.returns-in-Err-NoCommand-clause-answers
+returns-in-Err-NoCommand-clause-answers g c = no_answers _ _ _ (are_none _ _ c.in-Err-NoCommand.field-0-is c.in-Err-NoCommand.ensures)
 
-pub returns-in-Some-clause-outside : goal.returns-in-Some-clause-outside
-returns-in-Some-clause-outside g c = command_keeps _ (files_named c.in-Some.files) c.in-Some.ensures c.replay.ensures.outside
-
-pub returns-in-None-clause-outside : goal.returns-in-None-clause-outside
-returns-in-None-clause-outside g c = ends_here [] _ (untouched _ _) (no_fault statuses.Words (λ is. cc) (λ is. cc))
+pub returns-in-Err-NoMemory-clause-answers : goal.returns-in-Err-NoMemory-clause-answers
+returns-in-Err-NoMemory-clause-answers g c = unread_words _ _ _

@@ -1,9 +1,10 @@
 //! The texts of the statuses.
 
+use crate::explanation::{Cause, Explanation};
 use bc_preset::ConfigFault;
 use bc_words::{ClashKind, Limit};
 use beacon_node::Status;
-use beacon_terminal::{Cause, Explanation};
+use command_words::{Command, read_command};
 use record_file::RecordFault;
 use spec_state::GenesisFault;
 use std::alloc::{AllocError, Global};
@@ -67,7 +68,7 @@ const TEXTS: &[(Status, Option<Option<&str>>, Option<u64>, &str)] = &[
         Status::Words,
         None,
         None,
-        "Words: expected the words `replay CONFIG GENESIS RECORD`",
+        "Words: no command is named; the commands are `replay CONFIG GENESIS RECORD`",
     ),
     (Status::NoMemory, None, None, "NoMemory: memory ran out"),
     (
@@ -138,7 +139,7 @@ const TEXTS: &[(Status, Option<Option<&str>>, Option<u64>, &str)] = &[
 ];
 
 /// The command words.
-fn command(alloc: Global) -> Result<Vec<String>, AllocError> {
+fn words_of(alloc: Global) -> Result<Vec<String>, AllocError> {
     let mut words = Vec::new(alloc);
     for word in ["replay", "c", "g", "r"].iter() {
         words.push(String::from_str(alloc, word)?)?;
@@ -162,13 +163,14 @@ fn cause_of<'a>(cause: Option<Option<&'a str>>, error: &'a Error) -> Option<Caus
     }
 }
 
-/// Whether the texts are those of the statuses with these command words, where what failed was not found.
-fn texts_hold(alloc: Global, words: &[String], error: &Error) -> bool {
+/// Whether the texts are those of the statuses of this command, where what failed was not found.
+fn texts_hold(alloc: Global, command: Command<'_>, error: &Error) -> bool {
     let mut all = true;
     for (status, cause, event, text) in TEXTS.iter() {
         let explanation = Explanation {
             status,
-            words,
+            command: Some(command),
+            wrong: None,
             cause: cause_of(*cause, error),
             event: *event,
             genesis_len: Some(7056),
@@ -180,9 +182,10 @@ fn texts_hold(alloc: Global, words: &[String], error: &Error) -> bool {
 
 #[test]
 fn texts(rt: HostRuntime) -> Result<(), Fail> {
-    let words = command(rt.alloc())?;
+    let words = words_of(rt.alloc())?;
     let error = Error::from(ErrorKind::NotFound);
-    let holds = texts_hold(rt.alloc(), &words, &error);
+    let command = read_command(rt.alloc(), &words).ok().expect(&rt, "a command");
+    let holds = texts_hold(rt.alloc(), command, &error);
     assert!(rt; holds);
     Ok(())
 }

@@ -4,6 +4,8 @@ use crate::explanation::{Cause, Explanation};
 use crate::progress::{Progress, Watch, WatchedOut, WatchedShelf, WatchedSink};
 use bc_outside::{DiskShelf, StdSink};
 use beacon_node::{Status, beacon_main};
+use command_words::{read_command, what_is_wrong};
+use std::alloc::Global;
 use std::io::{Eprint, Print};
 use std::rt::{Env, Files};
 use std::time::Clock;
@@ -67,6 +69,7 @@ fn event_at<R: Files, W: io::Write>(shelf: &DiskShelf<'_, R>, out: &StdSink<W>) 
 
 /// Says on one line of standard error what a status means, unless the record was read to its end.
 fn explain<R: Eprint + Files, W: io::Write>(
+    alloc: Global,
     rt: &R,
     status: &Status,
     words: &[String],
@@ -74,9 +77,11 @@ fn explain<R: Eprint + Files, W: io::Write>(
     out: &StdSink<W>,
 ) {
     if status.number() != 0 {
+        let wrong = what_is_wrong(alloc, words);
         let explanation = Explanation {
             status,
-            words,
+            command: read_command(alloc, words).ok(),
+            wrong: wrong.as_deref(),
             cause: cause_of(status, shelf, out),
             event: event_at(shelf, out),
             genesis_len: shelf.handed_out(1),
@@ -105,6 +110,6 @@ pub fn run<R: Env + Files + Print + Eprint + Clock + AllocGlobal>(
     let mut out = WatchedSink::new(written, &watch);
     let status = beacon_main(rt.alloc(), &words, &mut shelf, &mut out);
     watch.clear();
-    explain(rt, &status, &words, shelf.shelf(), out.sink());
+    explain(rt.alloc(), rt, &status, &words, shelf.shelf(), out.sink());
     status.number()
 }

@@ -3,8 +3,9 @@
 use bc_preset::Preset;
 use bc_preset::constants::{MAX_PROPOSER_CANDIDATES, MAX_SLOTS};
 use bc_words::{ClashKind, Limit};
-use beacon_node::{Status, replay_files};
+use beacon_node::Status;
 use beacon_state::shortest_state;
+use command_words::{COMMANDS, Command};
 use spec_state::GenesisFault;
 use std::fmt;
 use std::io::Error;
@@ -18,13 +19,15 @@ pub struct Cause<'a> {
     pub error: &'a Error,
 }
 
-/// A status beside the words that it answers. It prints one line.
+/// A status beside the command that it answers. It prints one line.
 #[derive(Drop)]
 pub struct Explanation<'a, 'b> {
     /// The status.
     pub status: &'a Status,
-    /// The command words.
-    pub words: &'a [String],
+    /// The command that the words are, where they are one.
+    pub command: Option<Command<'a>>,
+    /// What is wrong with the words, where they are none and more is known of it.
+    pub wrong: Option<&'a str>,
     /// Why the outside failed, where it is known.
     pub cause: Option<Cause<'b>>,
     /// The event that was read or whose line was written, where the record was opened.
@@ -34,11 +37,23 @@ pub struct Explanation<'a, 'b> {
 }
 
 /// The names of the three files, or placeholders where the words are no command.
-fn names_in(words: &[String]) -> (&str, &str, &str) {
-    match replay_files(words) {
-        Some(files) => (files.config, files.genesis, files.events),
+fn names_in<'a>(command: &Option<Command<'a>>) -> (&'a str, &'a str, &'a str) {
+    match command {
+        Some(Command::Replay(files)) => (files.config, files.genesis, files.events),
         None => ("CONFIG", "GENESIS", "RECORD"),
     }
+}
+
+/// What is wrong with the words, and the commands with their arguments.
+fn write_words<W: fmt::Write>(f: &mut fmt::Formatter<W>, wrong: Option<&str>) -> fmt::Result {
+    match wrong {
+        Some(wrong) => write!(f, "Words: {wrong}; the commands are")?,
+        None => write!(f, "Words: no command is named; the commands are")?,
+    }
+    for form in COMMANDS.iter() {
+        write!(f, " `{form}`")?;
+    }
+    Ok(())
 }
 
 /// A fault of the outside, with what is known of its cause.
@@ -134,13 +149,10 @@ fn write_clash<W: fmt::Write>(
 
 impl fmt::Display for Explanation<'_, '_> {
     fn fmt<W: fmt::Write>(&self, f: &mut fmt::Formatter<W>) -> fmt::Result {
-        let (config, genesis, record) = names_in(self.words);
+        let (config, genesis, record) = names_in(&self.command);
         match self.status {
             Status::Done => write!(f, "Done: {record:?} was read to its end"),
-            Status::Words => write!(
-                f,
-                "Words: expected the words `replay CONFIG GENESIS RECORD`"
-            ),
+            Status::Words => write_words(f, self.wrong),
             Status::Config(fault) => write!(f, "Config: {config:?}: {fault}"),
             Status::Genesis(part) => write_genesis(f, genesis, *part, self.genesis_len),
             Status::Record {
