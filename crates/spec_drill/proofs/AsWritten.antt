@@ -1,6 +1,7 @@
 -- Events as they are written: the store reads each back, so it takes them as the handlers do.
 use Rattle.std.proofs.Common.{◌≡◌, ℕ, true, false, List, [], ◌∷◌, sym, ap, subst}
 use Rattle.std.proofs.lemmas.Nat.{from_le_bytes-to_le_bytes_8}
+use Rattle.hash_tree.specs.Merkle.{uint_to_bytes}
 use Rattle.bc_words.specs.Events.{EventOutcome, accepted, event_refused, event_limited, event_clashes}
 use Rattle.beacon_body.specs.laws.Containers.{signed_block_lawful, attestation_lawful}
 use Rattle.spec_fork_choice.specs.Store.{Store}
@@ -12,7 +13,7 @@ use Rattle.spec_drill.specs.inside.Handled.{handled, IsWritable, AreTaken}
 use Rattle.spec_drill.specs.Make as makes
 
 pub as_written : (store : Store) (event : MadeEvent) → IsWritable event → on_event store (kind_of event) (payload_of event) ≡ handled store event
-unfolding on_event handle_tick handle_block handle_attestation kind_of payload_of handled
+unfolding uint_to_bytes without_block on_event handle_tick handle_block handle_attestation kind_of payload_of handled
 as_written store (makes.tick time) low = ap (λ (t : ℕ). without_block (on_tick store t)) (from_le_bytes-to_le_bytes_8 time low)
 as_written store (makes.block signed) within = ap (handle_block store) (signed_block_lawful.complete signed within)
 as_written store (makes.wire attestation) within = ap (handle_attestation store false) (attestation_lawful.complete attestation within)

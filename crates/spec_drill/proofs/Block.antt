@@ -11,6 +11,7 @@ use Rattle.std.specs.Cmp.{unsigned_Decides}
 use Rattle.std.specs.Cmp.Lexicographic.{pointwise_decides}
 use Rattle.std.proofs.lemmas.Bool.{eq-eqb}
 use Rattle.std.proofs.Math.Nat.{div-le_self, mod-lt}
+use Rattle.ssz_codec.specs.Basic.{bytes32}
 use Rattle.bc_words.specs.Outcome.{Outcome, done, limited, bind, checked_sub, checked_push}
 use Rattle.bc_words.specs.declared.stop.Limit.TheVariants.{Proposer}
 use Rattle.bc_words.specs.declared.refusal.Refusal.TheVariants.{WrongProposer, ProposerSlashed, DepositCount, StateRoot}
@@ -31,7 +32,7 @@ use Rattle.spec_state.specs.Accessors.{get_current_epoch, get_beacon_proposer_in
 use Rattle.spec_blocks.specs.Checks.{check, item_at, each_of}
 use Rattle.spec_blocks.specs.ProcessBlockHeader.{process_block_header, header_of}
 use Rattle.spec_blocks.specs.ProcessRandao.{process_randao}
-use Rattle.spec_blocks.specs.ProcessEth1Data.{process_eth1_data, votes_for}
+use Rattle.spec_blocks.specs.ProcessEth1Data.{process_eth1_data, count_votes}
 use Rattle.spec_blocks.specs.ProcessOperations.{process_operations, check_deposit_count}
 use Rattle.spec_blocks.specs.ProcessAttestation.{process_attestation}
 use Rattle.spec_blocks.specs.ProcessBlock.{process_block}
@@ -43,7 +44,7 @@ use Rattle.spec_drill.proofs.Epoch.{full_stays, epoch_stays}
 use Rattle.spec_drill.proofs.Slots.{few_slots}
 use Rattle.spec_drill.proofs.Proposer.{GivesOrLimit, proposer_gives}
 use Rattle.beacon_body.specs.Containers.{signed_block_codec}
-use Rattle.spec_drill.proofs.Bytes.{state_root_size}
+use Rattle.spec_drill.proofs.Bytes.{state_root_within}
 use Rattle.spec_drill.proofs.Written.{AreSmallVotes, block_within}
 use Rattle.spec_drill.proofs.Voting.{IsVoting, IsBefore, all_votes_give}
 
@@ -99,7 +100,7 @@ eth1_gives s x body preset v few none =
     let voting : (votes : List Eth1Data) (voted : Eth1Data) → length votes ≤ s.slot % n + 1 → voted ≡ zero_eth1 → IsVoting s 0 (record x { eth1_data_votes = votes; eth1_data = voted }) = λ votes voted low none. record { preset = v.preset; slot = v.slot; validators = v.validators; balances = v.balances; slashings = v.slashings; eth1 = none; index = v.index; current_justified = v.current_justified; previous_justified = v.previous_justified; eth1_votes = low; historical = v.historical; previous = v.previous; current = v.current } in
     gives_then (λ ys. ys ≡ x.eth1_data_votes ++ body.eth1_data ∷ []) (IsVoting s 0) (checked_push (votes_limit x.preset) x.eth1_data_votes body.eth1_data) _ (is_gives _ _ (push_gives (votes_limit x.preset) x.eth1_data_votes body.eth1_data (omega arith))) (λ votes is.
     let many = ap length is ∙ length-append x.eth1_data_votes (body.eth1_data ∷ []) in
-    gives_if (IsVoting s 0) (nat_lt (votes_limit x.preset) (votes_for votes body.eth1_data * 2)) _ _
+    gives_if (IsVoting s 0) (nat_lt (votes_limit x.preset) (count_votes votes body.eth1_data * 2)) _ _
     (λ h. gives_done (IsVoting s 0) (record x { eth1_data_votes = votes; eth1_data = body.eth1_data }) (voting votes body.eth1_data (omega arith) none))
     (λ h. gives_done (IsVoting s 0) (record x { eth1_data_votes = votes }) (voting votes x.eth1_data (omega arith) v.eth1)))
 
@@ -203,7 +204,7 @@ pub record IsMade (s : PlainState) (root : List ℕ) (votes : List Attestation) 
   pub calm : IsCalm 1 m.state
   pub at : m.state.slot ≡ s.slot
   pub preset : m.state.preset ≡ s.preset
-  pub written : length root ≡ 32 → AreSmallVotes votes → signed_block_codec.Within m.block
+  pub written : bytes32.Within root → AreSmallVotes votes → signed_block_codec.Within m.block
 
 -- the state root isn't read
 rootless : (s : PlainState) (block : BeaconBlock) (state_root : List ℕ) (config : ConfigValues) → process_block s (record block { state_root = state_root }) config ≡ process_block s block config
@@ -232,7 +233,7 @@ made_gives plan s root slot calm next g =
     let state_root : List ℕ = (state_codec t.preset).hash_tree_root t in
     let h : IsVoting s 4 t × IsSound t = subst (λ (t : PlainState). IsVoting s 4 t × IsSound t) (sym t_is) b.holds in
     gives_done Goal (record { block = record { message = record block { state_root = state_root }; signature = replicate 96 0 }; state = t })
-    (record { processed = rootless s block state_root plan.config ∙ (b.is ∙ ap done (sym t_is)); state_root = refl; slot = refl; parent = refl; attestations = refl; calm = block_calm s t calm h.0 h.1; at = h.0.slot; preset = h.0.preset; written = λ size small. block_within plan s root state_root votes p (few_slots s.preset s.slot calm.preset calm.early) less size (state_root_size t.preset t) small })))
+    (record { processed = rootless s block state_root plan.config ∙ (b.is ∙ ap done (sym t_is)); state_root = refl; slot = refl; parent = refl; attestations = refl; calm = block_calm s t calm h.0 h.1; at = h.0.slot; preset = h.0.preset; written = λ parent small. block_within plan s root state_root votes p (few_slots s.preset s.slot calm.preset calm.early) less parent (state_root_within t.preset t) small })))
 
 low_of : (s : PlainState) → s.slot ≤ 1024 → get_current_epoch s < far_future_epoch
 unfolding get_current_epoch

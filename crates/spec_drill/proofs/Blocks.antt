@@ -29,7 +29,7 @@ use Rattle.spec_transition.specs.StateTransition.{state_transition, IsLatest}
 use Rattle.spec_transition.proofs.HeaderChecks.{Filled, header_fills}
 use Rattle.spec_transition.proofs.HeaderRoot.{block_is_latest}
 use Rattle.spec_fork_choice.specs.Store.{KeptBlock, Store, block_of, is_kept}
-use Rattle.spec_fork_choice.specs.Clash.{clash_of, is_another, place_of}
+use Rattle.spec_fork_choice.specs.Clash.{clash_with, clash_of, is_another, place_of}
 use Rattle.spec_fork_choice.specs.Slots.{get_current_slot, start_slot_of}
 use Rattle.spec_fork_choice.specs.GetAncestor.{get_ancestor}
 use Rattle.spec_fork_choice.specs.StoreTargetCheckpointState.{kept_or}
@@ -45,7 +45,7 @@ use Rattle.spec_drill.specs.Make as makes
 use Rattle.spec_blocks.proofs.Gives.{gives_then, gives_is, is_gives, check_gives}
 use Rattle.spec_drill.proofs.Block.{root_is_same, IsMade, made_is_taken}
 use Rattle.spec_drill.proofs.Linked.{block_linked}
-use Rattle.spec_drill.proofs.Bytes.{block_root_size}
+use Rattle.spec_drill.proofs.Bytes.{block_root_within}
 use Rattle.spec_drill.proofs.Walks.{root_before, ancestor_is, found_more, found_last}
 use Rattle.spec_drill.proofs.Stores.{accepted_is}
 
@@ -56,7 +56,7 @@ record NoClash (blocks : List KeptBlock) (root state_root : List ℕ) (block : B
   same : is_another (option_map (λ kept. kept.block) (block_of blocks root)) block ≡ false
 
 no_clash : (blocks : List KeptBlock) (root state_root : List ℕ) (block : BeaconBlock) → clash_of blocks root state_root block ≡ None → NoClash blocks root state_root block
-unfolding clash_of
+unfolding clash_of clash_with
 no_clash blocks root state_root block none = elim (chosen (same_root root zero_root) (Some ZeroBlock) _ _ none) [
   | inl zeros ↦ absurd (let e = zeros.1 in cc)
   | inr other ↦ elim (chosen (same_root state_root zero_root) (Some ZeroState) _ _ other.1) [
@@ -166,7 +166,7 @@ module _ (config : ConfigValues) (k : KeptBlock) (chain : List KeptBlock) (store
       let bounds = preset_bounds at.state.preset calm.preset in
       let least = bounds.least_slots_per_epoch in
       let q : ℕ = at.state.preset.slots_per_epoch in
-      let move : (c : Checkpoint) → c.epoch ≤ get_previous_epoch at.state → Stands (stands_on (k ∷ chain)) q c → Stands (stands_on (kept ∷ k ∷ chain)) q c = λ c low h. record { there = λ some. h.there some ∙ sym (root_before kept (k ∷ chain) (c.epoch * q) (let l = first_low at.state q c.epoch calm.sound refl low some least in omega arith)); size = h.size } in
+      let move : (c : Checkpoint) → c.epoch ≤ get_previous_epoch at.state → Stands (stands_on (k ∷ chain)) q c → Stands (stands_on (kept ∷ k ∷ chain)) q c = λ c low h. record { there = λ some. h.there some ∙ sym (root_before kept (k ∷ chain) (c.epoch * q) (let l = first_low at.state q c.epoch calm.sound refl low some least in omega arith)); root = h.root } in
       record { previous = move _ calm.sound.previous_justified all.previous; current = move _ calm.sound.current_justified all.current; finalized = move _ calm.sound.finalized all.finalized }
 
   -- the store behind it is on the longer chain
@@ -197,7 +197,7 @@ module _ (config : ConfigValues) (k : KeptBlock) (chain : List KeptBlock) (store
             few = omega arith;
             found = subst (λ (bs : List KeptBlock). AllByRecursion (λ j. block_of bs j.root ≡ Some j) (kept ∷ k ∷ chain)) (sym a.blocks) (found_last store.blocks kept fresh, all_more store.blocks kept (k ∷ chain) on.has.found);
             joined = (made.parent, (let l = later in omega arith), on.has.joined);
-            calm = (record { root = block_root_size block; calm = made.calm; slot = made.at ∙ sym made.slot; preset = made.preset ∙ of }, on.has.calm);
+            calm = (record { root = block_root_within block; calm = made.calm; slot = made.at ∙ sym made.slot; preset = made.preset ∙ of }, on.has.calm);
           };
           only = λ r j e. found_either (λ j. j.block.slot ≤ block.slot) store.blocks kept r j (ap (λ (bs : List KeptBlock). block_of bs r) (sym a.blocks) ∙ e) (λ e. let o = on.only r j e in omega arith) (omega arith);
           genesis_time = a.genesis_time ∙ on.genesis_time;

@@ -30,12 +30,12 @@ use Rattle.spec_epochs.specs.WeighJustificationAndFinalization.{justification_of
 use Rattle.spec_transition.proofs.HeaderChecks.{Filled, header_fills}
 use Rattle.spec_fork_choice.specs.Store.{KeptBlock, block_of}
 use Rattle.spec_fork_choice.specs.GetForkchoiceStore.{genesis_block, get_forkchoice_store}
-use Rattle.spec_fork_choice.specs.Clash.{clash_of}
+use Rattle.spec_fork_choice.specs.Clash.{clash_with, clash_of}
 use Rattle.spec_fork_choice.specs.OnEvent.{genesis_clash}
 use Rattle.spec_drill.proofs.AsWritten.{taken_as_written}
 use Rattle.spec_drill.proofs.Committees.{length_replicate}
 use Rattle.spec_drill.proofs.Block.{root_is_same}
-use Rattle.spec_drill.proofs.Bytes.{block_root_size}
+use Rattle.spec_drill.proofs.Bytes.{zero_root_within, block_root_within}
 use Rattle.spec_drill.proofs.Walks.{root_here}
 use Rattle.spec_drill.proofs.Making.{GoesOn, IsDrilling, made_ends, made_taken}
 
@@ -115,7 +115,7 @@ unfolding header_root_of block_header_of genesis_block made_genesis empty_body_r
 latest_at_genesis preset number = refl
 
 no_clash : (s : PlainState) → genesis_clash s ≡ None → same_root ((state_codec s.preset).hash_tree_root s) zero_root ≡ false
-unfolding genesis_clash clash_of
+unfolding genesis_clash clash_of clash_with
 no_clash s none = elim (chosen (same_root (block_codec.hash_tree_root (genesis_block s)) zero_root) (Some ZeroBlock) _ _ none) [
   | inl zeros ↦ absurd (let e = zeros.1 in cc)
   | inr other ↦ elim (chosen (same_root ((state_codec s.preset).hash_tree_root s) zero_root) (Some ZeroState) _ _ other.1) [
@@ -145,7 +145,7 @@ told_nothing stands root preset number is header filled = record {
   told = record { roots = length_replicate preset.slots_per_historical_root zero_root; told = λ k less near. absurd (omega arith) };
   header = header;
   filled = filled;
-  checkpoints = record { previous = record { there = λ some. absurd (omega arith); size = refl }; current = record { there = λ some. absurd (omega arith); size = refl }; finalized = record { there = λ some. absurd (omega arith); size = refl } };
+  checkpoints = record { previous = record { there = λ some. absurd (omega arith); root = zero_root_within }; current = record { there = λ some. absurd (omega arith); root = zero_root_within }; finalized = record { there = λ some. absurd (omega arith); root = zero_root_within } };
 }
 
 pub slot_zero : (preset : Preset) (number : ℕ) → ((made_genesis preset number).slot ≡ 0) × ((made_genesis preset number).genesis_time ≡ 1000) × ((made_genesis preset number).preset ≡ preset)
@@ -200,7 +200,7 @@ module _ (plan : Plan) (ok : IsPlan plan) where
         let calm = made_genesis_calm plan.config.preset plan.number is in
         record {
           on = record {
-            has = record { config_is = refl; few = omega arith; found = (found_itself k, tt); joined = low; calm = (record { root = block_root_size (genesis_block s); calm = calm; slot = at ∙ sym low; preset = zeros.2 }, tt) };
+            has = record { config_is = refl; few = omega arith; found = (found_itself k, tt); joined = low; calm = (record { root = block_root_within (genesis_block s); calm = calm; slot = at ∙ sym low; preset = zeros.2 }, tt) };
             only = λ root j e. let h = ap (λ (k : KeptBlock). k.block.slot) (found_only k j root e) in omega arith;
             genesis_time = begins;
             finalized = sym (root_here k [] (0 * plan.config.preset.slots_per_epoch) (omega arith));

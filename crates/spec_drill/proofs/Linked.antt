@@ -1,7 +1,8 @@
 -- The states of a chain tell which blocks stand at its slots, and its checkpoints are those blocks.
-use Rattle.std.proofs.Common.{◌≡◌, ◌∙◌, ◌⊎◌, ℕ, zero, suc, ◌+◌, ◌-◌, ◌*◌, ◌/◌, ◌%◌, ◌<◌, ◌≤◌, Bool, true, false, not, nat_lt, List, [], length, refl, sym, ap, subst, inl, inr, arith}
+use Rattle.std.proofs.Common.{◌≡◌, ◌∙◌, ◌⊎◌, ℕ, zero, suc, ◌+◌, ◌-◌, ◌*◌, ◌/◌, ◌%◌, ◌<◌, ◌≤◌, Bool, true, false, not, nat_lt, List, [], refl, sym, ap, subst, inl, inr, arith}
 use Rattle.std.proofs.lemmas.Bool.{false≢true, ltb-true, not-false}
 use Rattle.std.proofs.Math.Nat.{div-add-mod, mod-lt, mul_comm}
+use Rattle.ssz_codec.specs.Basic.{bytes32}
 use Rattle.bc_words.specs.Outcome.{Outcome, done, refused, limited, each_from}
 use Rattle.bc_preset.specs.declared.presets.Preset.{Preset}
 use Rattle.bc_preset.specs.declared.configuration.ConfigValues.{ConfigValues}
@@ -97,11 +98,11 @@ links_checkpoints P s t same all = record {
   finalized = subst P (sym (ap (λ (l : Links). l.finalized) same)) all.finalized;
 }
 
-module _ (stands : ℕ → List ℕ → Type 0) (sizes : (k : ℕ) (r : List ℕ) → stands k r → length r ≡ 32) (root : List ℕ) where
+module _ (stands : ℕ → List ℕ → Type 0) (within : (k : ℕ) (r : List ℕ) → stands k r → bytes32.Within r) (root : List ℕ) where
   -- the root of an epoch's first slot, told behind the slot
   told_root : (s : PlainState) (epoch : ℕ) → HasPresetBounds s.preset → IsTold stands (s.slot + 1) s → epoch * s.preset.slots_per_epoch ≤ s.slot → s.slot ≤ epoch * s.preset.slots_per_epoch + 63 → Stands stands s.preset.slots_per_epoch (record { epoch = epoch; root = get_block_root s epoch })
   unfolding get_block_root
-  told_root s epoch bounds told low near = let h = told.told (epoch * s.preset.slots_per_epoch) (omega arith) (let h = bounds.least_slots_per_historical_root in omega arith) in record { there = λ some. h; size = sizes (epoch * s.preset.slots_per_epoch) _ h }
+  told_root s epoch bounds told low near = let h = told.told (epoch * s.preset.slots_per_epoch) (omega arith) (let h = bounds.least_slots_per_historical_root in omega arith) in record { there = λ some. h; root = within (epoch * s.preset.slots_per_epoch) _ h }
 
   -- the checkpoints behind justification
   justified_checkpoints : (s t : PlainState) → (s ≡ t) ⊎ Weighed s t → HasPresetBounds s.preset → IsTold stands (s.slot + 1) s → AllThree (Stands stands s.preset.slots_per_epoch) (justification_of s) → AllThree (Stands stands s.preset.slots_per_epoch) (justification_of t)

@@ -11,6 +11,7 @@ use Rattle.spec_drill.specs.inside.OnChain.{root_at, IsCalmBlock, HasChain, IsLi
 use Rattle.spec_drill.specs.inside.Handled.{handled, IsWritable, AreTaken}
 use Rattle.std.specs.List.{AllByRecursion, range_with_len}
 use Rattle.std.proofs.Math.Nat.{mul-div_left, mul-le-mul_left, mul_comm, div-le_self}
+use Rattle.ssz_codec.specs.Basic.{bytes32}
 use Rattle.bc_words.specs.Outcome.{Outcome, done, limited}
 use Rattle.bc_words.specs.Events.{EventOutcome, accepted, on_the_way}
 use Rattle.bc_words.specs.declared.stop.Limit.TheVariants.{Proposer}
@@ -191,10 +192,10 @@ module _ (plan : Plan) (ok : IsPlan plan) where
   shorter : (kept k : KeptBlock) (chain : List KeptBlock) (s : Store) → HasChain plan.config (kept ∷ k ∷ chain) s → HasChain plan.config (k ∷ chain) s
   shorter kept k chain s has = let few = has.few in record { config_is = has.config_is; few = omega arith; found = has.found.1; joined = has.joined.2; calm = has.calm.1 }
 
-  chain_sizes : (config : ConfigValues) (ks : List KeptBlock) (s : Store) → HasChain config ks s → (t : ℕ) (r : List ℕ) → stands_on ks t r → length r ≡ 32
-  chain_sizes config ks s has t r h =
+  chain_within : (config : ConfigValues) (ks : List KeptBlock) (s : Store) → HasChain config ks s → (t : ℕ) (r : List ℕ) → stands_on ks t r → bytes32.Within r
+  chain_within config ks s has t r h =
       let j = there (IsCalmBlock config) ks t has.joined has.calm in
-      ap (λ (r : List ℕ). length r) (h ∙ j.root) ∙ j.holds.root
+      subst bytes32.Within (sym (h ∙ j.root)) j.holds.root
 
   -- the events from a slot on
   pub made_taken : (count slot : ℕ) (k : KeptBlock) (chain : List KeptBlock) (store : Store) → IsDrilling k chain slot store → k.block.slot ≤ slot → slot + count ≤ 32 * n → AreTaken store (made_from plan k.state slot count).events
@@ -206,7 +207,7 @@ module _ (plan : Plan) (ok : IsPlan plan) where
       let goes : GoesOn plan slot k.state = record { calm = kc.calm; low = omega arith; preset = kc.preset } in
       let at = at_next slot k.state goes (omega arith) in
       let root_is : header_root_of k.state ≡ k.root = d.on.linked.header in
-      let linked : IsLinked (stands_on (k ∷ chain)) k.root at.value.state = slots_linked (stands_on (k ∷ chain)) (chain_sizes plan.config (k ∷ chain) store d.on.has) k.root plan.config k.state (slot + 1) at.value at.is (preset_bounds k.state.preset kc.calm.preset) (λ t from less. sym (root_here k chain t (omega arith))) d.on.linked in
+      let linked : IsLinked (stands_on (k ∷ chain)) k.root at.value.state = slots_linked (stands_on (k ∷ chain)) (chain_within plan.config (k ∷ chain) store d.on.has) k.root plan.config k.state (slot + 1) at.value at.is (preset_bounds k.state.preset kc.calm.preset) (λ t from less. sym (root_here k chain t (omega arith))) d.on.linked in
       let ready : IsReady plan.config k chain slot at.value.state = record { calm = at.holds.calm; next = at.holds.slot; preset = at.holds.preset ∙ kc.preset; linked = linked; low = low } in
       let votes : List Attestation = votes_of at.value.state (header_root_of k.state) slot in
       let hears : (s : Store) → IsDrilling k chain (slot + 1) s → IsHeard plan.config k chain slot s = λ s e. record { has = e.on.has; now = slot_is k chain (slot + 1) s e } in
@@ -227,7 +228,6 @@ module _ (plan : Plan) (ok : IsPlan plan) where
                   let now : get_current_slot s ≡ at.value.state.slot = slot_is k chain (slot + 1) s q ∙ sym at.holds.slot in
                   let kept : KeptBlock = record { root = block_codec.hash_tree_root m.value.block.message; block = m.value.block.message; state = m.value.state } in
                   let later_events : List MadeEvent = (made_from plan m.value.state (slot + 1) count).events in
-                  let sized : length (header_root_of k.state) ≡ 32 = ap (λ (r : List ℕ). length r) root_is ∙ d.on.has.calm.0.root in
                   let small : AreSmallVotes (votes_of at.value.state k.root slot) = votes_small k chain slot at.value.state ready (IsDrilling k chain (slot + 1)) (λ s t keeps q. record { on = chain_keeps k chain s t keeps.keeps q.on; time = keeps.time ∙ q.time }) hears [] (λ s q. tt) s q in
                   let written_block : signed_block_codec.Within m.value.block = mh.written d.on.has.calm.0.root small in
                   taken_first s (make_block plan at.value.state (header_root_of k.state) votes) m.value _ made_is (

@@ -7,6 +7,7 @@ use Rattle.spec_drill.specs.inside.OnChain.{root_at, IsCalmBlock, HasChain, IsLi
 use Rattle.std.specs.List.{AllByRecursion}
 use Rattle.std.proofs.lemmas.Bool.{false≢true, lt-ltb, le-leb, ltb-true, eq-eqb, not-false}
 use Rattle.std.proofs.Math.Nat.{div-add-mod, mod-lt, mul_comm, div-le_self, mul-le-mul_left}
+use Rattle.ssz_codec.specs.Basic.{bytes32}
 use Rattle.bc_words.specs.Outcome.{done}
 use Rattle.bc_words.specs.declared.refusal.Refusal.TheVariants.{FcTargetTime, FcSlotEpoch, FcTargetUnknown, FcBlockUnknown, FcBlockAfter, FcTargetChain, FcTooEarly, FcCommittee, FcBitsShort, FcEmpty}
 use Rattle.bc_preset.specs.declared.presets.Preset.{Preset}
@@ -34,6 +35,7 @@ use Rattle.spec_drill.proofs.Slots.{next_place, few_slots, slots_give}
 use Rattle.spec_drill.proofs.Committees.{committee_size, count_is, size_is, committees_small, length_replicate, all_members}
 use Rattle.spec_drill.proofs.Block.{root_is_same}
 use Rattle.spec_drill.proofs.Voting.{not_zero}
+use Rattle.spec_drill.proofs.Bytes.{replicate_fits}
 use Rattle.spec_drill.proofs.Written.{IsSmallVote, data_within}
 use Rattle.beacon_types.specs.declared.checkpoint.Checkpoint.{Checkpoint}
 use Rattle.spec_epochs.specs.WeighJustificationAndFinalization.{justification_of}
@@ -157,9 +159,9 @@ module _ (config : ConfigValues) (k : KeptBlock) (chain : List KeptBlock) (slot 
     unfolding get_previous_epoch get_current_epoch
     source_small c low = let d = div-le_self at.slot at.preset.slots_per_epoch in let e = early in let n = ready.next in omega arith
 
-    both_small : (b : Bool) (c d : Checkpoint) → c.epoch < 2 ^ 64 → length c.root ≡ 32 → d.epoch < 2 ^ 64 → length d.root ≡ 32 → ((if b then c else d).epoch < 2 ^ 64) × (length (if b then c else d).root ≡ 32)
-    both_small true c d cl cs dl ds = (cl, cs)
-    both_small false c d cl cs dl ds = (dl, ds)
+    both_small : (b : Bool) (c d : Checkpoint) → c.epoch < 2 ^ 64 → bytes32.Within c.root → d.epoch < 2 ^ 64 → bytes32.Within d.root → ((if b then c else d).epoch < 2 ^ 64) × bytes32.Within (if b then c else d).root
+    both_small true c d cl cr dl dr = (cl, cr)
+    both_small false c d cl cr dl dr = (dl, dr)
 
     -- the vote has a writing
     pub vote_small : (index : ℕ) → index < get_committee_count_per_slot at epoch → IsSmallVote (vote_of at k.root slot index)
@@ -174,13 +176,13 @@ module _ (config : ConfigValues) (k : KeptBlock) (chain : List KeptBlock) (slot 
         let sound = ready.calm.sound in
         let current = ready.linked.checkpoints.current in
         let previous = ready.linked.checkpoints.previous in
-        let source = both_small (epoch == get_current_epoch at) at.current_justified_checkpoint at.previous_justified_checkpoint (source_small at.current_justified_checkpoint sound.current_justified) current.size (source_small at.previous_justified_checkpoint sound.previous_justified) previous.size in
-        let target_size : length (get_block_root at epoch) ≡ 32 = ap (λ (r : List ℕ). length r) target_root ∙ target.holds.1.root in
+        let source = both_small (epoch == get_current_epoch at) at.current_justified_checkpoint at.previous_justified_checkpoint (source_small at.current_justified_checkpoint sound.current_justified) current.root (source_small at.previous_justified_checkpoint sound.previous_justified) previous.root in
+        let root_within : bytes32.Within (get_block_root at epoch) = subst bytes32.Within (sym target_root) target.holds.1.root in
         let d = div-le_self slot at.preset.slots_per_epoch in
         record {
           bits = omega arith;
-          content = data_within (vote_of at k.root slot index).content (omega arith) (omega arith) heard.has.calm.0.root source.0 source.1 (omega arith) target_size;
-          signature = refl;
+          content = data_within (vote_of at k.root slot index).content (omega arith) (omega arith) heard.has.calm.0.root source.0 source.1 (omega arith) root_within;
+          signature = (refl, replicate_fits 96 0 (omega arith));
         }
 
     -- the target's state: full as ever, and of the preset

@@ -1,13 +1,14 @@
 -- What the maker makes has a writing: each part is within its limits.
-use Rattle.std.proofs.Common.{◌≡◌, ℕ, zero, suc, ◌+◌, ◌*◌, ◌^◌, ◌<◌, ◌≤◌, Bool, true, List, [], ◌∷◌, ◌++◌, length, map, replicate, Option, Some, None, refl, ap, arith, length-append}
+use Rattle.std.proofs.Common.{◌≡◌, ℕ, zero, suc, ◌+◌, ◌*◌, ◌^◌, ◌<◌, ◌≤◌, Bool, true, false, ◌==◌, if◌then◌else◌, List, [], ◌∷◌, ◌++◌, length, map, replicate, Option, Some, None, refl, ap, arith, length-append}
 use Rattle.std.specs.List.{AllByRecursion}
 use Rattle.ssz_codec.specs.declared.layout.Field.{Field}
 use Rattle.ssz_codec.specs.declared.layout.Field.TheVariants.{Fixed, Variable}
+use Rattle.ssz_codec.specs.Basic.{bytes32, bytes96}
 use Rattle.ssz_codec.specs.Lawful.{FitFields}
 use Rattle.ssz_codec.specs.Layout.{fixed_length, fixed_parts, variable_parts, joined, OffsetsFit}
 use Rattle.ssz_codec.specs.BitLists.{bit_list_bytes}
-use Rattle.ssz_codec.specs.laws.Layout.{fixed_parts_is_long}
-use Rattle.ssz_codec.specs.laws.BitLists.{bits_bytes_len}
+use Rattle.ssz_codec.specs.laws.Layout.{IsBytes-append, fixed_parts_is_long}
+use Rattle.ssz_codec.specs.laws.Basic.{bits_bytes_len}
 use Rattle.beacon_types.specs.declared.checkpoint.Checkpoint.{Checkpoint}
 use Rattle.beacon_types.specs.declared.attestation_data.AttestationData.{AttestationData}
 use Rattle.beacon_types.specs.Containers.{checkpoint_codec, attestation_data_codec, eth1_data_codec}
@@ -18,15 +19,15 @@ use Rattle.spec_state.specs.declared.plain.PlainState.{PlainState}
 use Rattle.spec_drill.specs.Plan.{Plan, slot_digest, graffiti_in, graffiti_of}
 use Rattle.spec_drill.specs.MakeGenesis.{zero_eth1}
 use Rattle.spec_drill.specs.MakeBlock.{body_of, unrooted}
-use Rattle.spec_drill.proofs.Bytes.{hash_length}
+use Rattle.spec_drill.proofs.Bytes.{hash_within, replicate_fits, zero_root_within}
 
 -- ---- votes
 
-checkpoint_within : (c : Checkpoint) → c.epoch < 2 ^ 64 → length c.root ≡ 32 → checkpoint_codec.Within c
+checkpoint_within : (c : Checkpoint) → c.epoch < 2 ^ 64 → bytes32.Within c.root → checkpoint_codec.Within c
 unfolding OffsetsFit
-checkpoint_within c low size = (((tt, low), size), tt)
+checkpoint_within c low root = (((tt, low), root), tt)
 
-pub data_within : (d : AttestationData) → d.slot < 2 ^ 64 → d.index < 2 ^ 64 → length d.beacon_block_root ≡ 32 → d.source.epoch < 2 ^ 64 → length d.source.root ≡ 32 → d.target.epoch < 2 ^ 64 → length d.target.root ≡ 32 → attestation_data_codec.Within d
+pub data_within : (d : AttestationData) → d.slot < 2 ^ 64 → d.index < 2 ^ 64 → bytes32.Within d.beacon_block_root → d.source.epoch < 2 ^ 64 → bytes32.Within d.source.root → d.target.epoch < 2 ^ 64 → bytes32.Within d.target.root → attestation_data_codec.Within d
 unfolding OffsetsFit
 data_within d slot index root source source_root target target_root =
     ((((((tt, slot), index), root), checkpoint_within d.source source source_root), checkpoint_within d.target target target_root), tt)
@@ -35,7 +36,7 @@ data_within d slot index root source source_root target target_root =
 pub record IsSmallVote (a : Attestation) : Type 0 where
   pub bits : length a.aggregation_bits ≤ 4
   pub content : attestation_data_codec.Within a.content
-  pub signature : length a.signature ≡ 96
+  pub signature : bytes96.Within a.signature
 
 pub vote_within : (a : Attestation) → IsSmallVote a → attestation_codec.Within a
 unfolding OffsetsFit
@@ -52,7 +53,7 @@ unfolding joined variable_parts
 vote_short a small =
     let parts : List (List ℕ) = bit_list_bytes a.aggregation_bits ∷ attestation_data_codec.serialize a.content ∷ a.signature ∷ [] in
     let fields : List Field = Variable ∷ Fixed 128 ∷ Fixed 96 ∷ [] in
-    let first = fixed_parts_is_long fields parts 228 (tt, (attestation_data_lawful.size a.content small.content, (small.signature, tt))) in
+    let first = fixed_parts_is_long fields parts 228 (tt, (attestation_data_lawful.size a.content small.content, (small.signature.0, tt))) in
     let bits = bits_short a.aggregation_bits small.bits in
     let last = length-append (bit_list_bytes a.aggregation_bits) [] in
     let whole = length-append (fixed_parts fields parts 228) (bit_list_bytes a.aggregation_bits ++ []) in
@@ -115,41 +116,46 @@ list_short votes small =
 
 -- ---- blocks
 
-digest_size : (number slot : ℕ) → length (slot_digest number slot) ≡ 32
+pub digest_within : (number slot : ℕ) → bytes32.Within (slot_digest number slot)
 unfolding slot_digest
-digest_size number slot = hash_length _
+digest_within number slot = hash_within _
 
-graffiti_in_size : (which : Option ℕ) (bytes : List ℕ) → length bytes ≡ 32 → length (graffiti_in which bytes) ≡ 32
-graffiti_in_size None bytes e = e
-graffiti_in_size (Some which) bytes e = refl
+one_of_two : (b : Bool) → (if b then 170 else 187) < 256
+one_of_two true = omega arith
+one_of_two false = omega arith
 
-graffiti_size : (plan : Plan) (slot : ℕ) → length (graffiti_of plan slot) ≡ 32
+graffiti_in_within : (which : Option ℕ) (bytes : List ℕ) → bytes32.Within bytes → bytes32.Within (graffiti_in which bytes)
+graffiti_in_within None bytes within = within
+graffiti_in_within (Some which) bytes within = (refl, replicate_fits 32 (if which == 0 then 170 else 187) (one_of_two (which == 0)))
+
+graffiti_within : (plan : Plan) (slot : ℕ) → bytes32.Within (graffiti_of plan slot)
 unfolding graffiti_of
-graffiti_size plan slot = graffiti_in_size plan.which (slot_digest plan.number slot) (digest_size plan.number slot)
+graffiti_within plan slot = graffiti_in_within plan.which (slot_digest plan.number slot) (digest_within plan.number slot)
 
-eth1_within : eth1_data_codec.Within zero_eth1
+pub eth1_within : eth1_data_codec.Within zero_eth1
 unfolding OffsetsFit
-eth1_within = ((((tt, refl), (omega arith)), refl), tt)
+eth1_within = ((((tt, zero_root_within), (omega arith)), zero_root_within), tt)
 
-three_sizes : (m : List ℕ) → length m ≡ 32 → length (m ++ m ++ m) ≡ 96
-three_sizes m size = let a = length-append (m ++ m) m in let b = length-append m m in omega arith
+three_within : (m : List ℕ) → bytes32.Within m → bytes96.Within (m ++ m ++ m)
+three_within m within =
+    let a = length-append (m ++ m) m in let b = length-append m m in let size = within.0 in
+    ((omega arith), IsBytes-append (m ++ m) m (IsBytes-append m m within.1 within.1) within.1)
 
 body_within : (plan : Plan) (s : PlainState) (votes : List Attestation) → AreSmallVotes votes → block_body_codec.Within (body_of plan s votes)
 unfolding body_of OffsetsFit joined fixed_parts variable_parts
 body_within plan s votes small =
     let m : List ℕ = slot_digest plan.number s.slot in
-    let size = digest_size plan.number s.slot in
-    let reveal : length (m ++ m ++ m) ≡ 96 = three_sizes m size in
+    let reveal : bytes96.Within (m ++ m ++ m) = three_within m (digest_within plan.number s.slot) in
     let few = small.few in
     let many = length-map_of attestation_codec.serialize votes in
     let short = list_short votes small in (
-      ((((((((tt, reveal), eth1_within), graffiti_size plan s.slot), (omega arith, tt)), (omega arith, tt, tt)), ((omega arith), all_within votes small.all, offsets_fit (length votes) 240 (4 * length votes) (map attestation_codec.serialize votes) (all_short votes small.all) (omega arith))), (omega arith, tt)), (omega arith, tt)),
+      ((((((((tt, reveal), eth1_within), graffiti_within plan s.slot), (omega arith, tt)), (omega arith, tt, tt)), ((omega arith), all_within votes small.all, offsets_fit (length votes) 240 (4 * length votes) (map attestation_codec.serialize votes) (all_short votes small.all) (omega arith))), (omega arith, tt)), (omega arith, tt)),
       ((omega arith), ((omega arith), ((omega arith), ((omega arith), ((omega arith), tt))))),
     )
 
 -- a made block has a writing
-pub block_within : (plan : Plan) (s : PlainState) (root state_root : List ℕ) (votes : List Attestation) (proposer : ℕ) → s.slot ≤ 1024 → proposer < 64 → length root ≡ 32 → length state_root ≡ 32 → AreSmallVotes votes
+pub block_within : (plan : Plan) (s : PlainState) (root state_root : List ℕ) (votes : List Attestation) (proposer : ℕ) → s.slot ≤ 1024 → proposer < 64 → bytes32.Within root → bytes32.Within state_root → AreSmallVotes votes
     → signed_block_codec.Within (record { message = record (unrooted plan s root votes proposer) { state_root = state_root }; signature = replicate 96 0 })
 unfolding unrooted OffsetsFit
-block_within plan s root state_root votes proposer low few size state_size small =
-    (((tt, (((((((tt, (omega arith)), (omega arith)), size), state_size), body_within plan s votes small)), ((omega arith), tt))), refl), ((omega arith), tt))
+block_within plan s root state_root votes proposer low few parent state small =
+    (((tt, (((((((tt, (omega arith)), (omega arith)), parent), state), body_within plan s votes small)), ((omega arith), tt))), (refl, replicate_fits 96 0 (omega arith))), ((omega arith), tt))

@@ -30,9 +30,9 @@ use Rattle.spec_blocks.specs.ProcessDeposit.{process_deposit, add_validator, cre
 use Rattle.spec_blocks.specs.ProcessVoluntaryExit.{process_voluntary_exit}
 use Rattle.spec_blocks.proofs.Done.{on_the_way, chosen, same_value, item_is, push_is}
 use Rattle.spec_blocks.proofs.Sound.{previous_below, indices_of_changed, indices_of_added}
-use Rattle.spec_blocks.proofs.SoundRegistry.{active_of, still_active, not_yet}
-use Rattle.spec_blocks.proofs.SoundExits.{queue_later}
-use Rattle.spec_blocks.proofs.SoundBlock.{each_keeps}
+use Rattle.spec_blocks.proofs.Registry.{active_of, still_active, not_yet}
+use Rattle.spec_blocks.proofs.Exits.{queue_later}
+use Rattle.spec_blocks.proofs.Each.{each_keeps}
 
 slashed_active : (v : Validator) (withdrawable epoch : ℕ) → is_active_validator (record v { slashed = true; withdrawable_epoch = withdrawable }) epoch ≡ is_active_validator v epoch
 unfolding is_active_validator

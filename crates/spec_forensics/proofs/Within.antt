@@ -16,7 +16,7 @@ use Rattle.beacon_body.specs.declared.attestation.Attestation.{Attestation}
 use Rattle.beacon_body.specs.declared.body.BeaconBlockBody.{BeaconBlockBody}
 use Rattle.beacon_body.specs.declared.block.BeaconBlock.{BeaconBlock}
 use Rattle.spec_state.specs.declared.plain.PlainState.{PlainState}
-use Rattle.spec_state.specs.Constants.{far_future_epoch}
+use Rattle.spec_state.specs.Constants.{domain_beacon_attester, far_future_epoch}
 use Rattle.spec_state.specs.States.{attestations_limit, votes_limit}
 use Rattle.spec_state.specs.Misc.{compute_epoch_at_slot}
 use Rattle.spec_state.specs.Accessors.{get_current_epoch, get_previous_epoch, get_active_validator_indices, get_randao_mix, get_committee_count_per_slot, get_attesting_indices, get_beacon_proposer_index, members_with_bits}
@@ -29,7 +29,7 @@ use Rattle.spec_blocks.specs.ProcessVoluntaryExit.{process_voluntary_exit}
 use Rattle.spec_blocks.specs.ProcessOperations.{process_operations, check_deposit_count}
 use Rattle.spec_blocks.specs.ProcessBlockHeader.{process_block_header}
 use Rattle.spec_blocks.specs.ProcessRandao.{process_randao}
-use Rattle.spec_blocks.specs.ProcessEth1Data.{process_eth1_data, votes_for}
+use Rattle.spec_blocks.specs.ProcessEth1Data.{process_eth1_data, count_votes}
 use Rattle.spec_blocks.specs.ProcessBlock.{process_block}
 use Rattle.beacon_types.specs.Equality.{same_checkpoint, same_root}
 use Rattle.beacon_body.specs.declared.signed_block.SignedBeaconBlock.{SignedBeaconBlock}
@@ -40,9 +40,9 @@ use Rattle.spec_transition.proofs.BlockStays.{block_stays}
 use Rattle.spec_transition.proofs.HeaderChecks.{below}
 use Rattle.spec_blocks.proofs.Done.{on_the_way, chosen, same_value, check_holds}
 use Rattle.spec_blocks.proofs.Sound.{SameCommittees, same_count, same_committee, previous_below, same_previous}
-use Rattle.spec_blocks.proofs.SoundRegistry.{active_of}
+use Rattle.spec_blocks.proofs.Registry.{active_of}
 use Rattle.spec_blocks.proofs.SoundHeads.{same_seed}
-use Rattle.spec_blocks.proofs.SoundBlock.{each_keeps}
+use Rattle.spec_blocks.proofs.Each.{each_keeps}
 use Rattle.spec_forensics.specs.CarriedVotes.{WasProcessed}
 use Rattle.spec_forensics.proofs.Registry.{voluntary_exit_keeps, proposer_slashing_keeps, attester_slashing_keeps, deposit_keeps}
 
@@ -236,8 +236,8 @@ randao_within : (s : PlainState) (body : BeaconBlockBody) → HasPresetBounds s.
 unfolding process_randao get_active_validator_indices
 randao_within s body bounds = record {
   epoch = same_epoch s _;
-  current = record { preset = refl; active = refl; seed = same_seed s (get_current_epoch s) (get_current_epoch s) _ bounds (omega arith) (omega arith) };
-  previous = record { preset = refl; active = refl; seed = let (below, above) = previous_below s in same_seed s (get_previous_epoch s) (get_current_epoch s) _ bounds below (omega arith) };
+  current = record { preset = refl; active = refl; seed = same_seed domain_beacon_attester s (get_current_epoch s) (get_current_epoch s) _ bounds (omega arith) (omega arith) };
+  previous = record { preset = refl; active = refl; seed = let (below, above) = previous_below s in same_seed domain_beacon_attester s (get_previous_epoch s) (get_current_epoch s) _ bounds below (omega arith) };
 }
 
 eth1_within : (s t : PlainState) (body : BeaconBlockBody) → process_eth1_data s body ≡ done t → IsWithin s t
@@ -245,7 +245,7 @@ unfolding process_eth1_data get_current_epoch get_active_validator_indices get_r
 eth1_within s t body is =
     let votes = on_the_way (checked_push (votes_limit s.preset) s.eth1_data_votes body.eth1_data) _ t is in
     let given : (data_voted : Eth1Data) → IsWithin s (record s { eth1_data_votes = votes.value; eth1_data = data_voted }) = λ data_voted. record { epoch = refl; current = record { preset = refl; active = refl; seed = refl }; previous = record { preset = refl; active = refl; seed = refl } } in
-    elim (chosen (nat_lt (votes_limit s.preset) (votes_for votes.value body.eth1_data * 2)) _ _ _ votes.then_done) [
+    elim (chosen (nat_lt (votes_limit s.preset) (count_votes votes.value body.eth1_data * 2)) _ _ _ votes.then_done) [
       | inl won ↦ subst (IsWithin s) (same_value _ t won.1) (given body.eth1_data)
       | inr other ↦ subst (IsWithin s) (same_value _ t other.1) (given s.eth1_data)
     ]

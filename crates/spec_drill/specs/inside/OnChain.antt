@@ -1,6 +1,7 @@
 -- What stays true of the store that takes the events of a made chain: its blocks are that chain.
 use Rattle.std.specs.Prelude.{◌≡◌, ℕ, ◌+◌, ◌*◌, ◌≤◌, ◌<◌, List, [], ◌∷◌, length, leb, false, Some, if◌then◌else◌}
 use Rattle.std.specs.List.{AllByRecursion}
+use Rattle.ssz_codec.specs.Basic.{bytes32}
 use Rattle.bc_preset.specs.declared.configuration.ConfigValues.{ConfigValues}
 use Rattle.beacon_types.specs.declared.checkpoint.Checkpoint.{Checkpoint}
 use Rattle.spec_state.specs.declared.plain.PlainState.{PlainState}
@@ -25,7 +26,7 @@ IsJoined (k ∷ j ∷ chain) = (k.block.parent_root ≡ j.root) × (j.block.slot
 
 -- a block of it, with a calm state at its slot
 pub record IsCalmBlock (config : ConfigValues) (k : KeptBlock) : Type 0 where
-  pub root : length k.root ≡ 32
+  pub root : bytes32.Within k.root
   pub calm : IsCalm 1 k.state
   pub slot : k.state.slot ≡ k.block.slot
   pub preset : k.state.preset ≡ config.preset
@@ -56,7 +57,7 @@ pub record AllThree (P : Checkpoint → Type 0) (j : Justification) : Type 0 whe
 -- a checkpoint above epoch 0 is the block that stands at its epoch's first slot
 pub record Stands (stands : ℕ → List ℕ → Type 0) (n : ℕ) (c : Checkpoint) : Type 0 where
   pub there : 0 < c.epoch → stands (c.epoch * n) c.root
-  pub size : length c.root ≡ 32
+  pub root : bytes32.Within c.root
 
 -- a state behind a block with this root: it tells which blocks stand at the latest slots, and its checkpoints are such blocks
 pub record IsLinked (stands : ℕ → List ℕ → Type 0) (root : List ℕ) (x : PlainState) : Type 0 where
