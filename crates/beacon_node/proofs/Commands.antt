@@ -9,7 +9,7 @@ use Rattle.spec_replay.specs.Run.{run_of, with_command, with_files}
 use Rattle.beacon_node.specs.declared.status.Status.{Status}
 use Rattle.beacon_node.specs.declared.status.Status.TheVariants as statuses
 use Rattle.beacon_node.specs.Answers.{Replayed, taken_of, taken_run_of}
-use Rattle.beacon_node.proofs.Reaching.{reaches_none, reaches_front, no_lines}
+use Rattle.beacon_node.proofs.Reaching.{reaches_none, is_prefix, no_lines}
 use Rattle.beacon_node.proofs.Steps.{asks_none}
 
 -- the words are the command `replay`
@@ -46,8 +46,8 @@ unread_words words s w = record {
   files = sym (append-nil s.files);
   answers = λ c a. record {
     ends = λ never. cc;
-    lines = no_lines true _ w (reaches_front 0 _ (omega arith));
-    pace = no_lines true _ w (reaches_front 0 _ (omega arith));
-    asks = asks_none true _ _ s.asked s.asked (reaches_front 0 _ (omega arith)) refl;
+    lines = no_lines true _ w (is_prefix 0 _ (omega arith));
+    pace = no_lines true _ w (is_prefix 0 _ (omega arith));
+    asks = asks_none true _ _ s.asked s.asked (is_prefix 0 _ (omega arith)) refl;
   };
 }

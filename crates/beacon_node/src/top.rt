@@ -2,14 +2,26 @@
 
 ghost use Rattle.std.specs.Prelude.{◌≡◌, ◌<◌, ◌+◌, ◌^◌, ◌↔◌, length, map, string_bytes, Some, None};
 ghost use Rattle.spec_replay.specs.Run.{run_of};
+ghost use Rattle.command_words.specs.Commands as commands;
 ghost use Rattle.command_words.specs.Commands.{IsDeclined, command_of, names_of};
+ghost use Rattle.command_words.specs.inside.Reading.{command_value};
+ghost use Rattle.beacon_node.specs.inside.Files.{files_named};
 ghost use Rattle.beacon_node.specs.Answers.{OutsideKeeps, Replayed, taken_run_of};
 
 use crate::replay::replay;
 use crate::status::Status;
 use bc_outside::{Shelf, Sink};
-use command_words::{Command, WordsStop, read_command};
+use command_words::{Command, ReplayFiles, WordsStop, read_command};
 use std::alloc::Global;
+
+/// The files of the command `replay`, which is the only one so far.
+fn replayed_by<'a>(command: Command<'a>) -> ReplayFiles<'a>
+    ensures { command_value command.entry ≡ commands.replay (files_named result) }
+{
+    match command {
+        Command::Replay(files) => files,
+    }
+}
 
 /// Runs the command that the words are, over these files, and writes its lines.
 ///
@@ -41,7 +53,7 @@ pub fn beacon_main<F: Shelf, O: Sink>(
         (F.told shelf.old) (F.told shelf.new) (O.told out.old) (O.told out.new) }
 {
     match read_command(alloc, words) {
-        Ok(Command::Replay(files)) => replay(alloc, &files, shelf, out),
+        Ok(command) => replay(alloc, &replayed_by(command), shelf, out),
         Err(WordsStop::NoCommand) => Status::Words,
         Err(WordsStop::NoMemory) => Status::NoMemory,
     }

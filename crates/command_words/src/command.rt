@@ -2,8 +2,8 @@
 
 ghost use Rattle.std.specs.Prelude.{◌≡◌, ◌↔◌, Some, None, Result, Ok, Err, map, option_map, string_bytes, true};
 ghost use Rattle.clap.specs.Words.{first_of, found_of, kind_of, rows_of, takes};
-ghost use Rattle.command_words.specs.Commands.{command_line, named_command, replay, replay_in};
-ghost use Rattle.command_words.specs.inside.Reading.{command_value, files_value, ReadsCommand};
+ghost use Rattle.command_words.specs.Commands.{command_line, named_command, replay_in};
+ghost use Rattle.command_words.specs.inside.Reading.{command_value, ReadsCommand};
 
 use crate::line::line;
 use clap::error::ErrorKind;
@@ -63,15 +63,6 @@ fn named<'a>(name: &str, found: &ArgMatches<'a>) -> Option<Command<'a>>
         replay_in(found)
     } else {
         None
-    }
-}
-
-/// The files of the one command that there is.
-pub fn files_of<'a>(command: Command<'a>) -> ReplayFiles<'a>
-    ensures { command_value command.entry ≡ replay (files_value result) }
-{
-    match command {
-        Command::Replay(files) => files,
     }
 }
 

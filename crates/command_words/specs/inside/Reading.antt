@@ -1,19 +1,14 @@
 -- How an answer of reading the words meets their definition.
 use Rattle.std.specs.Prelude.{◌≡◌, ℕ, List, Some, None, Result, Ok, Err}
-use Rattle.command_words.specs.Commands.{Command, ReplayFiles, IsDeclined, replay, command_of}
+use Rattle.command_words.specs.Commands.{Command, IsDeclined, replay, command_of}
 use Rattle.command_words.specs.declared.command.Command as code
-use Rattle.command_words.specs.declared.command.ReplayFiles as code_files
 use Rattle.command_words.specs.declared.command.Command.TheVariants as commands
 use Rattle.command_words.specs.declared.command.WordsStop.{WordsStop}
 use Rattle.command_words.specs.declared.command.WordsStop.TheVariants.{NoCommand, NoMemory}
 
--- the files that a value of the code names
-abbrev pub files_value : code_files.ReplayFiles → ReplayFiles
-files_value f = record { config = f.config.now; genesis = f.genesis.now; events = f.events.now }
-
 -- the command that a value of the code is
 abbrev pub command_value : code.Command → Command
-command_value (commands.Replay f) = replay (files_value f)
+command_value (commands.Replay f) = replay (record { config = f.config.now; genesis = f.genesis.now; events = f.events.now })
 
 -- The answer is the command that the words are, or that they are none, unless memory ran out.
 abbrev pub ReadsCommand : List (List ℕ) → Result code.Command WordsStop → Type 0
