@@ -1,9 +1,8 @@
 //! The proposers of the slots of a state's current epoch.
 
 ghost use Rattle.std.specs.Prelude.{◌≡◌, ◌++◌, ◌<◌, ◌*◌, ◌+◌, ◌^◌};
-ghost use Rattle.std.specs.Int.{w64, to_le_bytes};
 ghost use Rattle.bc_words.specs.Outcome.{Gives, GivesBy, GivesExactly};
-ghost use Rattle.hash_tree.specs.Merkle.{hash};
+ghost use Rattle.hash_tree.specs.Merkle.{hash, uint_to_bytes};
 ghost use Rattle.spec_state.specs.Accessors.{get_active_validator_indices, get_beacon_proposer_index, get_current_epoch, get_seed};
 ghost use Rattle.spec_state.specs.Constants.{domain_beacon_proposer};
 ghost use Rattle.spec_state.specs.Misc.{compute_epoch_at_slot};
@@ -28,9 +27,9 @@ pub struct ProposerDuty {
 }
 
 /// The seed that the proposer of a slot is picked by, from the seed of its epoch.
-#[tactic(auto, unfolding(hash_tree::specs::Merkle::hash))]
+#[tactic(auto, unfolding(hash_tree::specs::Merkle::hash, hash_tree::specs::Merkle::uint_to_bytes))]
 fn slot_seed(epoch_seed: &Root, slot: u64) -> Root
-    ensures { result ≡ hash (epoch_seed.now ++ to_le_bytes w64 slot) }
+    ensures { result ≡ hash (epoch_seed.now ++ uint_to_bytes slot) }
 {
     let mut hasher = Sha256::new();
     hasher.update(epoch_seed);

@@ -3,8 +3,8 @@
 
 ghost use Rattle.std.specs.Prelude.{◌≡◌, ◌≤◌, ◌*◌, ◌^◌, take, length, IfOk, Ok};
 ghost use Rattle.std.specs.Str.{bytes_eq};
+ghost use Rattle.hash_tree.specs.Merkle.{bytes_to_uint64};
 ghost use Rattle.bc_preset.specs.Presets.{IsPreset};
-ghost use Rattle.ssz_codec.specs.Basic.{number_of};
 ghost use Rattle.spec_state.specs.States.{state_codec};
 ghost use Rattle.spec_state.specs.Writing.{HasWriting};
 ghost use Rattle.spec_genesis.specs.DepositsFile.{deposits_magic, deposits_file_of, genesis_file_of, made_of};
@@ -59,10 +59,9 @@ fn array_of<const N: usize>(bytes: &[u8]) -> [u8; N]
 }
 
 /// The number that eight bytes are, the lowest first.
-#[tactic(auto, unfolding(ssz_codec::specs::Basic::number_of))]
-fn number_of(bytes: &[u8]) -> u64
+fn bytes_to_uint64(bytes: &[u8]) -> u64
     requires { length bytes.now ≡ 8 }
-    ensures { result ≡ number_of bytes.now }
+    ensures { result ≡ bytes_to_uint64 bytes.now }
 {
     u64::from_le_bytes(array_of::<8>(bytes))
 }
@@ -86,7 +85,7 @@ pub fn read_deposits_file(bytes: &[u8]) -> Result<DepositsFile<'_>, DepositsFaul
     match Deposits::of(rest) {
         Some(deposits) => Ok(DepositsFile {
             fork_version: array_of::<4>(&head[4..8]),
-            genesis_time: number_of(&head[8..16]),
+            genesis_time: bytes_to_uint64(&head[8..16]),
             eth1_block_hash: array_of::<32>(&head[16..]),
             deposits,
         }),

@@ -1,6 +1,8 @@
 //! The state that the making begins with: all is zero or empty but what is given.
 
-ghost use Rattle.std.specs.Prelude.{◌≡◌, ◌≤◌, ◌^◌, IfOk, length, replicate};
+ghost use Rattle.std.specs.Prelude.{◌≡◌, ◌≤◌, ◌^◌, IfOk, replicate};
+ghost use Rattle.ssz_codec.specs.Basic.{bytes4, bytes32};
+ghost use Rattle.ssz_codec.specs.Lawful.{IsBytes};
 ghost use Rattle.bc_preset.specs.Presets.{IsPreset};
 ghost use Rattle.beacon_types.specs.declared.checkpoint.Checkpoint.{Checkpoint};
 ghost use Rattle.spec_genesis.specs.InitializeBeaconStateFromEth1.{empty_header, state_before_deposits, zero_checkpoint};
@@ -100,13 +102,20 @@ fn plain_before_deposits(
     })
 }
 
-/// What a genesis is given has its lengths. It does nothing when it runs.
+/// Bytes are below 256.
+fn are_bytes(bytes: &[u8])
+    ensures { IsBytes bytes.now }
+{}
+
+/// What a genesis is given is bytes, as many as it wants. It does nothing when it runs.
 pub(crate) fn given_in_range(version: &[u8; 4], eth1_block_hash: &Root)
-    ensures version { length version.now ≡ 4 }
-    ensures hash { length eth1_block_hash.now ≡ 32 }
+    ensures version { bytes4.Within version.now }
+    ensures hash { bytes32.Within eth1_block_hash.now }
 {
     let _version = *version;
+    are_bytes(version);
     let _hash = *eth1_block_hash;
+    are_bytes(eth1_block_hash);
 }
 
 /// The state before so many deposits.

@@ -6,9 +6,8 @@ use Rattle.std.proofs.lemmas.Bool.{lt-ltb, ltb-true}
 use Rattle.std.proofs.lemmas.List.{length-map, length-set, length_push, map_push, get_or_push}
 use Rattle.std.proofs.lemmas.List.Quantifiers.{position-Some}
 use Rattle.std.proofs.lemmas.Option.{slice_get-get_or}
-use Rattle.sha2.proofs.Facts256.{length-sha256}
-use Rattle.hash_tree.specs.Merkle.{hash, merkle_root, merkleize, mix_in_length, depth_of, depth_from}
-use Rattle.ssz_codec.specs.Basic.{uint64}
+use Rattle.hash_tree.specs.Merkle.{merkle_root, merkleize, mix_in_length, depth_of, depth_from}
+use Rattle.ssz_codec.specs.Basic.{uint64, bytes32, bytes48}
 use Rattle.bc_words.specs.Outcome.{Outcome, done, refused, bind, checked_add, checked_push}
 use Rattle.bc_words.specs.declared.refusal.Refusal.TheVariants.{DpBranch, ListFull, Overflow}
 use Rattle.beacon_types.specs.declared.deposit.Deposit.{Deposit}
@@ -25,6 +24,7 @@ use Rattle.spec_blocks.specs.IsValidMerkleBranch.{is_valid_merkle_branch}
 use Rattle.spec_blocks.specs.ProcessDeposit.{same_pubkey, index_of_pubkey, add_validator, credit_deposit, process_deposit}
 use Rattle.spec_genesis.specs.Branches.{deposits_codec, deposit_leaves, branch_of}
 use Rattle.spec_genesis.specs.InitializeBeaconStateFromEth1.{Initialized, made, refused_at, deposit_then, with_deposit_root, process_genesis_deposit, process_genesis_deposits}
+use Rattle.spec_genesis.proofs.Bytes.{hash_within}
 use Rattle.spec_genesis.proofs.Subtrees.{branch_holds}
 
 -- ---- the branch of the last deposit
@@ -33,9 +33,9 @@ pub deposits_root_is : (deposits : List DepositData) → mix_in_length (merkle_r
 unfolding merkleize depth_of depth_from
 deposits_root_is deposits = ap (mix_in_length (merkle_root 32 (deposit_leaves deposits))) (length-map deposits deposit_data_codec.hash_tree_root)
 
-pub deposits_root_long : (deposits : List DepositData) → length (deposits_codec.hash_tree_root deposits) ≡ 32
-unfolding mix_in_length hash
-deposits_root_long deposits = length-sha256 _
+pub deposits_root_within : (deposits : List DepositData) → bytes32.Within (deposits_codec.hash_tree_root deposits)
+unfolding mix_in_length
+deposits_root_within deposits = hash_within _
 
 -- the branch of the last deposit leads to the root of the deposits so far
 pub last_branch_holds : (before : List DepositData) (deposit : DepositData) → length before < 2 ^ 32
@@ -95,8 +95,8 @@ topped c d k b is =
 
 -- a validator that a deposit brought: it hasn't asked for anything yet
 pub record IsFresh (v : Validator) : Type 0 where
-  pub pubkey : length v.pubkey ≡ 48
-  pub credentials : length v.withdrawal_credentials ≡ 32
+  pub pubkey : bytes48.Within v.pubkey
+  pub credentials : bytes32.Within v.withdrawal_credentials
   pub slashed : v.slashed ≡ false
   pub eligibility : v.activation_eligibility_epoch ≡ far_future_epoch
   pub activation : v.activation_epoch ≡ far_future_epoch
@@ -123,7 +123,7 @@ grown start eth1_data index validators balances = record start { eth1_data = eth
 pub record IsBehind (start : PlainState) (count : ℕ) (s : PlainState) : Type 0 where
   pub same : s ≡ grown start s.eth1_data count s.validators s.balances
   pub eth1_data : s.eth1_data ≡ record start.eth1_data { deposit_root = s.eth1_data.deposit_root }
-  pub root : length s.eth1_data.deposit_root ≡ 32
+  pub root : bytes32.Within s.eth1_data.deposit_root
   pub paired : length s.balances ≡ length s.validators
   pub few : length s.validators ≤ count
   pub validators : AllByRecursion IsFresh s.validators
@@ -158,7 +158,7 @@ module _ (start : PlainState) (limit : 2 ^ 32 ≤ start.preset.validator_registr
       record {
         same = ap₂ (λ (x : PlainState) (n : ℕ). record x { eth1_data = c.eth1_data; eth1_deposit_index = n + 1; validators = s.validators ++ new ∷ []; balances = s.balances ++ deposit.amount ∷ [] }) behind.same at;
         eth1_data = ap (λ (e : Eth1Data). record e { deposit_root = c.eth1_data.deposit_root }) behind.eth1_data;
-        root = deposits_root_long (before ++ deposit ∷ []);
+        root = deposits_root_within (before ++ deposit ∷ []);
         paired = length_push s.balances deposit.amount ∙ ap (λ (n : ℕ). n + 1) behind.paired ∙ sym (length_push s.validators new);
         few = let few = behind.few in omega (arith, length_push s.validators new);
         validators = all_push IsFresh s.validators new behind.validators (fresh c d within);
@@ -174,7 +174,7 @@ module _ (start : PlainState) (limit : 2 ^ 32 ≤ start.preset.validator_registr
       record {
         same = ap₂ (λ (x : PlainState) (m : ℕ). record x { eth1_data = c.eth1_data; eth1_deposit_index = m + 1; validators = s.validators; balances = slice_set s.balances k n }) behind.same at;
         eth1_data = ap (λ (e : Eth1Data). record e { deposit_root = c.eth1_data.deposit_root }) behind.eth1_data;
-        root = deposits_root_long (before ++ deposit ∷ []);
+        root = deposits_root_within (before ++ deposit ∷ []);
         paired = length-set s.balances k n ∙ behind.paired;
         few = let few = behind.few in omega arith;
         validators = behind.validators;

@@ -4,7 +4,7 @@ use Rattle.std.specs.List.{AllByRecursion}
 use Rattle.std.specs.Str.{bytes_eq}
 use Rattle.std.proofs.lemmas.Bool.{ltb-false, eq-eqb}
 use Rattle.std.proofs.lemmas.List.{length-take, length-drop}
-use Rattle.ssz_codec.specs.Basic.{number_of}
+use Rattle.hash_tree.specs.Merkle.{bytes_to_uint64}
 use Rattle.ssz_codec.specs.Lawful.{IsBytes}
 use Rattle.ssz_codec.specs.laws.Basic.{uint64_lawful}
 use Rattle.ssz_codec.specs.laws.Lists.{list_lawful}
@@ -43,8 +43,8 @@ same_ok : {A : Type 0} (x y : A) → (let l : Result A DepositsFault = Ok x in l
 unfolding value_or
 same_ok x y e = ap (value_or x) e
 
-time_fits : (bytes : List ℕ) → IsBytes bytes → length bytes ≡ 8 → number_of bytes < 2 ^ 64
-time_fits bytes fits long = (uint64_lawful.sound bytes (number_of bytes) fits (ap (λ (b : Bool). cond b (Some (number_of bytes)) None) (eq-eqb (length bytes) 8 long))).0
+time_fits : (bytes : List ℕ) → IsBytes bytes → length bytes ≡ 8 → bytes_to_uint64 bytes < 2 ^ 64
+time_fits bytes fits long = (uint64_lawful.sound bytes (bytes_to_uint64 bytes) fits (ap (λ (b : Bool). cond b (Some (bytes_to_uint64 bytes)) None) (eq-eqb (length bytes) 8 long))).0
 
 file_by : (bytes : List ℕ) (file : DepositsFile) (o : Option (List DepositData)) → IsBytes bytes → length bytes ≤ 2 ^ 30 → 48 ≤ length bytes → deposits_codec.deserialize (drop 48 bytes) ≡ o → with_deposits (take 48 bytes) o ≡ Ok file → IsFile file
 unfolding with_deposits
@@ -52,13 +52,14 @@ file_by bytes file None fits low high read is = absurd cc
 file_by bytes file (Some deposits) fits low high read is =
     let head = take 48 bytes in
     let long : length head ≡ 48 = omega (arith, length-take 48 bytes) in
+    let head_fits : IsBytes head = IsBytes-take 48 bytes fits in
     let list = (list_lawful deposit_data_codec (2 ^ 32) deposit_data_fixed deposit_data_lawful).sound (drop 48 bytes) deposits (IsBytes-drop 48 bytes fits) read in
     let count : length (drop 48 bytes) ≡ length deposits * 184 = ap length list.1 ∙ sized 184 deposit_data_codec deposits (λ d w. deposit_data_lawful.size d w) list.0.1 in
     subst IsFile (same_ok _ file is) (record {
       given = record {
-        version_long = length-take 4 (drop 4 head) ∙ omega (arith, length-drop 4 head);
-        time_fits = time_fits (take 8 (drop 8 head)) (IsBytes-take 8 (drop 8 head) (IsBytes-drop 8 head (IsBytes-take 48 bytes fits))) (length-take 8 (drop 8 head) ∙ omega (arith, length-drop 8 head));
-        hash_long = length-drop 16 head ∙ omega arith;
+        version_within = (length-take 4 (drop 4 head) ∙ omega (arith, length-drop 4 head), IsBytes-take 4 (drop 4 head) (IsBytes-drop 4 head head_fits));
+        time_fits = time_fits (take 8 (drop 8 head)) (IsBytes-take 8 (drop 8 head) (IsBytes-drop 8 head head_fits)) (length-take 8 (drop 8 head) ∙ omega (arith, length-drop 8 head));
+        hash_within = (length-drop 16 head ∙ omega arith, IsBytes-drop 16 head head_fits);
         few = list.0.0;
       };
       within = list.0.1;

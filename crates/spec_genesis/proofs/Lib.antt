@@ -1,3 +1,4 @@
+pub mod Bytes
 pub mod Subtrees
 pub mod Deposits
 pub mod MadeState

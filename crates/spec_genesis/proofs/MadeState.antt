@@ -3,9 +3,8 @@ use Rattle.std.proofs.Common.{◌≡◌, ◌∙◌, ◌⊎◌, inl, inr, ℕ, ze
 use Rattle.std.specs.List.{AllByRecursion, list_all}
 use Rattle.std.proofs.lemmas.Bool.{le-ltb, eq-eqb}
 use Rattle.std.proofs.lemmas.List.{length-replicate}
-use Rattle.sha2.proofs.Facts256.{length-sha256}
-use Rattle.hash_tree.specs.Merkle.{hash, merkle_root, merkleize, mix_in_length, depth_of, depth_from}
-use Rattle.ssz_codec.specs.Basic.{uint64, bytes32}
+use Rattle.hash_tree.specs.Merkle.{merkle_root, merkleize, mix_in_length, depth_of, depth_from}
+use Rattle.ssz_codec.specs.Basic.{uint64, bytes4, bytes32}
 use Rattle.ssz_codec.specs.Layout.{OffsetsFit}
 use Rattle.bc_preset.specs.declared.presets.Preset.{Preset}
 use Rattle.bc_preset.specs.Presets.{IsPreset}
@@ -21,6 +20,7 @@ use Rattle.spec_state.specs.Constants.{far_future_epoch}
 use Rattle.spec_state.specs.Limits.{IsState, IsInRange}
 use Rattle.spec_state.specs.Genesis.{zero_root, is_genesis_header, validator_fault, validators_fault, or_later, genesis_fault}
 use Rattle.spec_genesis.specs.InitializeBeaconStateFromEth1.{empty_header, state_before_deposits, genesis_validator, genesis_validators, with_activations}
+use Rattle.spec_genesis.proofs.Bytes.{hash_within, zero_root_within}
 use Rattle.spec_genesis.proofs.Subtrees.{same_roots}
 use Rattle.spec_genesis.proofs.Deposits.{IsFresh, IsBehind, grown}
 
@@ -136,13 +136,9 @@ made_has_no_fault p version eth1_hash time count n t behind =
 
 -- ---- its limits
 
-pub root_long : (depth : ℕ) (chunks : List (List ℕ)) → length (merkle_root (suc depth) chunks) ≡ 32
-unfolding merkle_root hash
-root_long depth chunks = length-sha256 _
-
-body_root_long : length empty_body_root ≡ 32
-unfolding empty_body_root merkleize depth_of depth_from
-body_root_long = root_long 2 _
+body_root_within : bytes32.Within empty_body_root
+unfolding empty_body_root merkleize merkle_root depth_of depth_from
+body_root_within = hash_within _
 
 all_same : {A : Type 0} (P : A → Type 0) (n : ℕ) (x : A) → P x → AllByRecursion P (replicate n x)
 all_same P zero x h = tt
@@ -150,18 +146,18 @@ all_same P (suc n) x h = (h, all_same P n x h)
 
 -- what a genesis is made of
 pub record IsGiven (version eth1_hash : List ℕ) (time : ℕ) (count : ℕ) : Type 0 where
-  pub version_long : length version ≡ 4
+  pub version_within : bytes4.Within version
   pub time_fits : time < 2 ^ 64
-  pub hash_long : length eth1_hash ≡ 32
+  pub hash_within : bytes32.Within eth1_hash
   pub few : count ≤ 2 ^ 32
 
 header_within : block_header_codec.Within empty_header
 unfolding OffsetsFit
-header_within = ((((((tt, omega arith), omega arith), refl), refl), body_root_long), tt)
+header_within = ((((((tt, omega arith), omega arith), zero_root_within), zero_root_within), body_root_within), tt)
 
-data_within : (version : List ℕ) (eth1_hash root : List ℕ) (time : ℕ) (count : ℕ) → IsGiven version eth1_hash time count → length root ≡ 32 → eth1_data_codec.Within (record { deposit_root = root; deposit_count = count; block_hash = eth1_hash })
+data_within : (version : List ℕ) (eth1_hash root : List ℕ) (time : ℕ) (count : ℕ) → IsGiven version eth1_hash time count → bytes32.Within root → eth1_data_codec.Within (record { deposit_root = root; deposit_count = count; block_hash = eth1_hash })
 unfolding OffsetsFit
-data_within version eth1_hash root time count given long = ((((tt, long), omega (arith, given.few)), given.hash_long), tt)
+data_within version eth1_hash root time count given root_within = ((((tt, root_within), omega (arith, given.few)), given.hash_within), tt)
 
 state_of : (p : Preset) (version eth1_hash : List ℕ) (time : ℕ) (count n : ℕ) (eth1_data : Eth1Data) (root : List ℕ) (vs : List Validator) (bs : List ℕ) → IsPreset p → length bs ≡ length vs → length vs ≤ 2 ^ 32
     → IsState (record (behind_of p version eth1_hash time count eth1_data n vs bs) { genesis_validators_root = root })
@@ -191,32 +187,32 @@ made_is_state p version eth1_hash time count n t preset low behind =
     let u : PlainState = with_activations (behind_of p version eth1_hash time count t.eth1_data n t.validators t.balances) in
     state_of p version eth1_hash time count n t.eth1_data u.genesis_validators_root (genesis_validators p t.validators t.balances) t.balances preset (behind.paired ∙ sym long) (omega arith))
 
-range_of : (p : Preset) (version eth1_hash : List ℕ) (time : ℕ) (count n : ℕ) (eth1_data : Eth1Data) (root : List ℕ) (vs : List Validator) (bs : List ℕ) → IsGiven version eth1_hash time count → eth1_data_codec.Within eth1_data → length root ≡ 32 → n ≤ 2 ^ 32
+range_of : (p : Preset) (version eth1_hash : List ℕ) (time : ℕ) (count n : ℕ) (eth1_data : Eth1Data) (root : List ℕ) (vs : List Validator) (bs : List ℕ) → IsGiven version eth1_hash time count → eth1_data_codec.Within eth1_data → bytes32.Within root → n ≤ 2 ^ 32
     → AllByRecursion validator_codec.Within vs → AllByRecursion uint64.Within bs → IsInRange (record (behind_of p version eth1_hash time count eth1_data n vs bs) { genesis_validators_root = root })
 unfolding state_before_deposits OffsetsFit
-range_of p version eth1_hash time count n eth1_data root vs bs given eth1 long low validators balances =
+range_of p version eth1_hash time count n eth1_data root vs bs given eth1 root_within low validators balances =
     record {
       genesis_time = given.time_fits;
-      genesis_validators_root = long;
+      genesis_validators_root = root_within;
       slot = omega arith;
-      fork = ((((tt, given.version_long), given.version_long), omega arith), tt);
+      fork = ((((tt, given.version_within), given.version_within), omega arith), tt);
       latest_block_header = header_within;
-      block_roots = all_same bytes32.Within p.slots_per_historical_root zero_root refl;
-      state_roots = all_same bytes32.Within p.slots_per_historical_root zero_root refl;
+      block_roots = all_same bytes32.Within p.slots_per_historical_root zero_root zero_root_within;
+      state_roots = all_same bytes32.Within p.slots_per_historical_root zero_root zero_root_within;
       historical_roots = tt;
       eth1_data = eth1;
       eth1_data_votes = tt;
       eth1_deposit_index = omega arith;
       validators = validators;
       balances = balances;
-      randao_mixes = all_same bytes32.Within p.epochs_per_historical_vector eth1_hash given.hash_long;
+      randao_mixes = all_same bytes32.Within p.epochs_per_historical_vector eth1_hash given.hash_within;
       slashings = all_same uint64.Within p.epochs_per_slashings_vector 0 (omega arith);
       previous_epoch_attestations = tt;
       current_epoch_attestations = tt;
       justification_bits = refl;
-      previous_justified_checkpoint = (((tt, omega arith), refl), tt);
-      current_justified_checkpoint = (((tt, omega arith), refl), tt);
-      finalized_checkpoint = (((tt, omega arith), refl), tt);
+      previous_justified_checkpoint = (((tt, omega arith), zero_root_within), tt);
+      current_justified_checkpoint = (((tt, omega arith), zero_root_within), tt);
+      finalized_checkpoint = (((tt, omega arith), zero_root_within), tt);
     }
 
 data_of : (p : Preset) (version eth1_hash : List ℕ) (time : ℕ) (count n : ℕ) (t : PlainState) → IsGiven version eth1_hash time count → IsBehind (state_before_deposits p version eth1_hash time count) n t → eth1_data_codec.Within t.eth1_data
@@ -224,18 +220,18 @@ unfolding state_before_deposits
 data_of p version eth1_hash time count n t given behind = subst eth1_data_codec.Within (sym behind.eth1_data) (data_within version eth1_hash t.eth1_data.deposit_root time count given behind.root)
 
 pub made_is_in_range : (p : Preset) (version eth1_hash : List ℕ) (time : ℕ) (count : ℕ) (n : ℕ) (t : PlainState) → IsPreset p → IsGiven version eth1_hash time count → n ≤ 2 ^ 32 → IsBehind (state_before_deposits p version eth1_hash time count) n t → IsInRange (with_activations t)
-unfolding with_activations state_before_deposits mix_in_length hash
+unfolding with_activations state_before_deposits mix_in_length
 made_is_in_range p version eth1_hash time count n t preset given low behind =
     subst (λ (x : PlainState). IsInRange (with_activations x)) (sym behind.same)
     (let most : p.max_effective_balance < 2 ^ 64 = (let e = (preset_bounds p preset).max_effective_balance in omega arith) in
     let u : PlainState = with_activations (behind_of p version eth1_hash time count t.eth1_data n t.validators t.balances) in
-    range_of p version eth1_hash time count n t.eth1_data u.genesis_validators_root (genesis_validators p t.validators t.balances) t.balances given (data_of p version eth1_hash time count n t given behind) (length-sha256 _) low
+    range_of p version eth1_hash time count n t.eth1_data u.genesis_validators_root (genesis_validators p t.validators t.balances) t.balances given (data_of p version eth1_hash time count n t given behind) (hash_within _) low
     (validators_all validator_codec.Within p (λ v b is. validator_within p v b most is) t.validators t.balances behind.paired behind.validators) behind.balances)
 
 -- the state before the deposits is behind none
 pub none_behind : (p : Preset) (version eth1_hash : List ℕ) (time : ℕ) (count : ℕ) → IsBehind (state_before_deposits p version eth1_hash time count) 0 (state_before_deposits p version eth1_hash time count)
 unfolding state_before_deposits
-none_behind p version eth1_hash time count = record { same = refl; eth1_data = refl; root = refl; paired = refl; few = omega arith; validators = tt; balances = tt }
+none_behind p version eth1_hash time count = record { same = refl; eth1_data = refl; root = zero_root_within; paired = refl; few = omega arith; validators = tt; balances = tt }
 
 pub limit_of : (p : Preset) (version eth1_hash : List ℕ) (time : ℕ) (count : ℕ) → IsPreset p → 2 ^ 32 ≤ (state_before_deposits p version eth1_hash time count).preset.validator_registry_limit
 unfolding state_before_deposits
@@ -249,4 +245,4 @@ start_is_state p version eth1_hash time count preset = state_of p version eth1_h
 pub start_is_in_range : (p : Preset) (version eth1_hash : List ℕ) (time : ℕ) (count : ℕ) → IsGiven version eth1_hash time count → IsInRange (state_before_deposits p version eth1_hash time count)
 unfolding state_before_deposits
 start_is_in_range p version eth1_hash time count given =
-    range_of p version eth1_hash time count 0 (record { deposit_root = zero_root; deposit_count = count; block_hash = eth1_hash }) zero_root [] [] given (data_within version eth1_hash zero_root time count given refl) refl (omega arith) tt tt
+    range_of p version eth1_hash time count 0 (record { deposit_root = zero_root; deposit_count = count; block_hash = eth1_hash }) zero_root [] [] given (data_within version eth1_hash zero_root time count given zero_root_within) zero_root_within (omega arith) tt tt

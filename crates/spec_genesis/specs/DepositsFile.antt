@@ -2,7 +2,7 @@
 -- deposits to its end; and the genesis file that it makes.
 use Rattle.std.specs.Prelude.{ℕ, not, List, length, take, drop, codes, Option, Some, None, Result, Ok, Err, nat_lt, if◌then◌else◌}
 use Rattle.std.specs.Str.{bytes_eq}
-use Rattle.ssz_codec.specs.Basic.{number_of}
+use Rattle.hash_tree.specs.Merkle.{bytes_to_uint64}
 use Rattle.bc_preset.specs.declared.presets.Preset.{Preset}
 use Rattle.beacon_types.specs.declared.deposit_data.DepositData.{DepositData}
 use Rattle.spec_state.specs.Constants.{max_genesis_len}
@@ -31,7 +31,7 @@ deposits_head_len = 48
 unfoldable pub with_deposits : List ℕ → Option (List DepositData) → Result DepositsFile DepositsFault
 with_deposits head None = Err faults.Torn
 with_deposits head (Some deposits) =
-    Ok (record { fork_version = take 4 (drop 4 head); genesis_time = number_of (take 8 (drop 8 head)); eth1_block_hash = drop 16 head; deposits = deposits })
+    Ok (record { fork_version = take 4 (drop 4 head); genesis_time = bytes_to_uint64 (take 8 (drop 8 head)); eth1_block_hash = drop 16 head; deposits = deposits })
 
 -- what the bytes hold, or their first fault
 unfoldable pub deposits_file_of : List ℕ → Result DepositsFile DepositsFault

@@ -9,8 +9,8 @@ from_plain-requires-clause-state c = subst IsState (sym c.in_ok-plain.ensures) (
 pub from_plain-requires-clause-range : goal.from_plain-requires-clause-range
 from_plain-requires-clause-range c =
     subst IsInRange (sym c.in_ok-plain.ensures) (start_is_in_range c.args.preset.now c.args.version c.args.eth1_block_hash c.args.time c.args.count (record {
-      version_long = c.given_in_range.ensures.version;
+      version_within = c.given_in_range.ensures.version;
       time_fits = c.ranges.time.fits;
-      hash_long = c.given_in_range.ensures.hash;
+      hash_within = c.given_in_range.ensures.hash;
       few = c.requires.few;
     }))
