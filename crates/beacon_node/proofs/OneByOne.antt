@@ -1,5 +1,5 @@
 -- The events of a record, one after the other.
-use Rattle.std.proofs.Common.{◌≡◌, ◌≢◌, ℕ, ◌+◌, ◌≤◌, true, false, List, [], ◌∷◌, ◌++◌, length, take, Some, None, Result, Ok, Err, refl, sym, ap, ◌∙◌, append_assoc, append-nil, arith}
+use Rattle.std.proofs.Common.{◌≡◌, ◌≢◌, ℕ, ◌+◌, ◌≤◌, true, false, List, [], ◌∷◌, ◌++◌, length, take, Some, None, Ok, Err, refl, sym, ap, ◌∙◌, append_assoc, append-nil, arith}
 use Rattle.bc_outside.specs.Told.{ShelfTold}
 use Rattle.bc_outside.specs.Calls.{WritesAll}
 use Rattle.bc_outside.specs.declared.trouble.Trouble.{Trouble}
@@ -14,7 +14,7 @@ use Rattle.record_file.specs.declared.event.Event.{Event}
 use Rattle.record_file.specs.declared.fault.FrameStop.{FrameStop}
 use Rattle.record_file.specs.declared.fault.FrameStop.TheVariants as stops
 use Rattle.spec_fork_choice.specs.Store.{Store}
-use Rattle.spec_fork_choice.specs.OnEvent.{Accepted, on_event}
+use Rattle.spec_fork_choice.specs.OnEvent.{Accepted}
 use Rattle.bc_words.specs.declared.stop.Limit.{Limit}
 use Rattle.bc_words.specs.declared.store_stop.ClashKind.{ClashKind}
 use Rattle.spec_replay.specs.Run.{Run, End, done, no_command, limited, clash, over, after_lines, event_then, replay_events, record_end, with_events}
