@@ -68,11 +68,11 @@ fn event_at<R: Files, W: io::Write>(shelf: &DiskShelf<'_, R>, out: &StdSink<W>) 
 }
 
 /// Says on one line of standard error what a status means, unless the record was read to its end.
-fn explain<R: Eprint + Files, W: io::Write>(
+fn explain<'a, R: Eprint + Files, W: io::Write>(
     alloc: Global,
     rt: &R,
-    status: &Status,
-    words: &[String],
+    status: &'a Status,
+    words: &'a [String],
     shelf: &DiskShelf<'_, R>,
     out: &StdSink<W>,
 ) {
