@@ -184,7 +184,9 @@ fn texts_hold(alloc: Global, command: Command<'_>, error: &Error) -> bool {
 fn texts(rt: HostRuntime) -> Result<(), Fail> {
     let words = words_of(rt.alloc())?;
     let error = Error::from(ErrorKind::NotFound);
-    let command = read_command(rt.alloc(), &words).ok().expect(&rt, "a command");
+    let command = read_command(rt.alloc(), &words)
+        .ok()
+        .expect(&rt, "a command");
     let holds = texts_hold(rt.alloc(), command, &error);
     assert!(rt; holds);
     Ok(())

@@ -1,10 +1,10 @@
 //! The root of the default body, operations copied and compared, and clashes. Whole blocks, read and damaged, are in vectors.
 
 use beacon_body::{Attestation, AttesterSlashing, BeaconBlock, SignedBeaconBlock, empty_body_root};
+use fork_store::clash;
 use hash_tree::{Leaf, Root};
 use ssz_codec::{ListValue, Ssz, one_writing, reads_back};
 use std::alloc::Global;
-use fork_store::clash;
 
 // The roots below were computed beside this code, from simple-serialize.md alone.
 const DEFAULT_BODY: Root = [
