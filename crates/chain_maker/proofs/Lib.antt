@@ -1,0 +1,4 @@
+pub mod Committees
+pub mod Fields
+pub mod NextVotes
+pub mod Steps

@@ -1,0 +1,4 @@
+-- Words of this crate's own contracts.
+pub mod Views
+pub mod Votes
+pub mod Standing

@@ -1,0 +1,13 @@
+//! Chains that are made from a number: the genesis state, and event after event of a record that a store accepts.
+//!
+//! A configuration and a number come from the program; the events go to the store as those of a record's file do.
+#![tactic(auto)]
+
+mod attestations;
+mod block;
+mod genesis;
+mod maker;
+mod plan;
+mod votes;
+
+pub use maker::Maker;
