@@ -14,7 +14,8 @@ use Rattle.committees.specs.Committees.{Committees, compute_committee, committee
 use Rattle.committees.proofs.Parts.{active_are_members}
 use Rattle.spec_state.specs.declared.plain.PlainState.{PlainState}
 use Rattle.spec_state.specs.Misc.{compute_epoch_at_slot}
-use Rattle.spec_state.specs.Accessors.{get_active_validator_indices, get_committee_count_per_slot, get_beacon_committee, get_attesting_indices, members_with_bits, epoch_committees}
+use Rattle.spec_state.specs.Accessors.{get_active_validator_indices, get_committee_count_per_slot, get_beacon_committee, get_attesting_indices, members_with_bits}
+use Rattle.spec_state.specs.inside.EpochCommittees.{epoch_committees}
 use Rattle.spec_blocks.specs.Checks.{check}
 use Rattle.spec_blocks.specs.ProcessAttestation.{check_committee}
 use Rattle.attest_ops.specs.inside.Bits.{is_set}
@@ -78,7 +79,7 @@ behind (Err (stops.Limit bound)) (limited other) is_so e = let same : other ≡ 
 behind (Err stops.NoMemory) checked is_so e = e
 
 abbrev flag : PlainState → AttestationData → List Bool → Bool
-flag state voted bits = not (nat_eq (length (get_attesting_indices state voted bits)) 0)
+flag state content bits = not (nat_eq (length (get_attesting_indices state content bits)) 0)
 
 behind_check : (holds x y : Bool) → (holds ≡ true → x ≡ y) → bind (check holds AtBits) (λ _. done x) ≡ bind (check holds AtBits) (λ _. done y)
 behind_check true x y is = ap done (is refl)
@@ -101,12 +102,12 @@ len_here state slot index = length-map-range_with_len _ _ _
 len_is : (state : PlainState) (epoch slot index : ℕ) → compute_epoch_at_slot state.preset slot ≡ epoch → length (get_beacon_committee state slot index) ≡ committee_len state.preset (length (get_active_validator_indices state epoch)) slot index
 len_is state epoch slot index e = len_here state slot index ∙ ap (λ n. committee_len state.preset (length (get_active_validator_indices state n)) slot index) e
 
-attested_is : (state : PlainState) (voted : AttestationData) (bits : List Bool) → compute_epoch_at_slot state.preset voted.slot ≡ voted.target.epoch
-    → attested_among state.preset (length (get_active_validator_indices state voted.target.epoch)) voted.slot voted.index bits ≡ bind (check_committee state voted bits) (λ _. done (flag state voted bits))
+attested_is : (state : PlainState) (content : AttestationData) (bits : List Bool) → compute_epoch_at_slot state.preset content.slot ≡ content.target.epoch
+    → attested_among state.preset (length (get_active_validator_indices state content.target.epoch)) content.slot content.index bits ≡ bind (check_committee state content bits) (λ _. done (flag state content bits))
 unfolding check_committee get_committee_count_per_slot get_attesting_indices
-attested_is state voted bits slot =
-    ap (λ n. cond (ltb voted.index (committee_count_per_slot state.preset (length (get_active_validator_indices state voted.target.epoch)))) (attested_with n bits) (refused AtIndex)) (sym (len_is state voted.target.epoch voted.slot voted.index slot))
-    ∙ either_way (get_beacon_committee state voted.slot voted.index) bits (ltb voted.index (committee_count_per_slot state.preset (length (get_active_validator_indices state voted.target.epoch))))
+attested_is state content bits slot =
+    ap (λ n. cond (ltb content.index (committee_count_per_slot state.preset (length (get_active_validator_indices state content.target.epoch)))) (attested_with n bits) (refused AtIndex)) (sym (len_is state content.target.epoch content.slot content.index slot))
+    ∙ either_way (get_beacon_committee state content.slot content.index) bits (ltb content.index (committee_count_per_slot state.preset (length (get_active_validator_indices state content.target.epoch))))
 
 pub attests : (state : PlainState) (attestation : Attestation) (active : ℕ) (result : Result Bool Stop)
     → compute_epoch_at_slot state.preset attestation.content.slot ≡ attestation.content.target.epoch

@@ -3,7 +3,8 @@
 ghost use Rattle.std.specs.Prelude.{◌≡◌, length, OnOk};
 ghost use Rattle.bc_words.specs.Outcome.{Changes, GivesExactly, done};
 ghost use Rattle.spec_state.specs.Misc.{compute_epoch_at_slot};
-ghost use Rattle.spec_state.specs.Accessors.{get_current_epoch, get_previous_epoch, get_active_validator_indices, epoch_committees};
+ghost use Rattle.spec_state.specs.Accessors.{get_current_epoch, get_previous_epoch, get_active_validator_indices};
+ghost use Rattle.spec_state.specs.inside.EpochCommittees.{epoch_committees};
 ghost use Rattle.spec_blocks.specs.ProcessAttestation.{check_times, check_committee, process_attestation};
 ghost use Rattle.attest_ops.specs.inside.Attested.{is_attested, Attests, IsTimely};
 

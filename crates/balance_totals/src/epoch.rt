@@ -1,7 +1,8 @@
 //! The committees of an epoch of a state.
 
 ghost use Rattle.std.specs.Prelude.{◌≡◌, ◌≤◌, ◌^◌, IfOk};
-ghost use Rattle.spec_state.specs.Accessors.{epoch_committees, get_committee_count_per_slot, get_seed};
+ghost use Rattle.spec_state.specs.Accessors.{get_committee_count_per_slot, get_seed};
+ghost use Rattle.spec_state.specs.inside.EpochCommittees.{epoch_committees};
 ghost use Rattle.spec_state.specs.Constants.{domain_beacon_attester};
 ghost use Rattle.balance_totals.specs.inside.PerSlot.{ArePublished};
 

@@ -1,7 +1,8 @@
 //! Who attested in the previous epoch.
 
 ghost use Rattle.std.specs.Prelude.{◌≡◌, IfOk};
-ghost use Rattle.spec_state.specs.Accessors.{get_previous_epoch, epoch_committees};
+ghost use Rattle.spec_state.specs.Accessors.{get_previous_epoch};
+ghost use Rattle.spec_state.specs.inside.EpochCommittees.{epoch_committees};
 ghost use Rattle.spec_state.specs.Soundness.{IsSoundWithinEpoch};
 ghost use Rattle.spec_epochs.specs.Helpers.{get_matching_source_attestations};
 ghost use Rattle.participation.specs.inside.Inclusions.{inclusion_entries};

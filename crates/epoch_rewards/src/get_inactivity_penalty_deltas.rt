@@ -8,7 +8,8 @@ ghost use Rattle.participation.specs.inside.Marks.{flagged};
 ghost use Rattle.spec_epochs.specs.GetBaseReward.{get_base_reward};
 ghost use Rattle.epoch_rewards.specs.inside.Stakes.{stakes_of};
 ghost use Rattle.epoch_rewards.specs.inside.Leak.{leak_penalty, penalties_of, leak_deltas};
-ghost use Rattle.spec_state.specs.Accessors.{get_previous_epoch, epoch_committees};
+ghost use Rattle.spec_state.specs.Accessors.{get_previous_epoch};
+ghost use Rattle.spec_state.specs.inside.EpochCommittees.{epoch_committees};
 ghost use Rattle.spec_state.specs.Soundness.{IsSoundWithinEpoch};
 
 use crate::amounts::{Amounts, all_amounts};

@@ -2,7 +2,8 @@
 
 ghost use Rattle.std.specs.Prelude.{◌≡◌, ◌≤◌, length, IfOk, List, Bool};
 ghost use Rattle.bc_words.specs.Outcome.{Changes, GivesBy, GivesExactly, bind, done};
-ghost use Rattle.spec_state.specs.Accessors.{get_previous_epoch, epoch_committees};
+ghost use Rattle.spec_state.specs.Accessors.{get_previous_epoch};
+ghost use Rattle.spec_state.specs.inside.EpochCommittees.{epoch_committees};
 ghost use Rattle.spec_state.specs.Soundness.{IsSoundWithinEpoch};
 ghost use Rattle.spec_epochs.specs.ProcessRewardsAndPenalties.{process_rewards_and_penalties};
 ghost use Rattle.spec_epochs.specs.Helpers.{get_matching_source_attestations, get_matching_target_attestations, get_matching_head_attestations};

@@ -10,7 +10,7 @@ use Rattle.ffg_law.specs.Weights.{among, IsTwoThirds, IsThird}
 
 -- the link that an attestation votes for
 abbrev pub link_of : AttestationData → Link
-link_of d = record { source = d.source; target = d.target }
+link_of content = record { source = content.source; target = content.target }
 
 -- a link with the validators that voted for it
 pub record Voted : Type 0 where

@@ -20,7 +20,7 @@ use Rattle.beacon_body.specs.declared.attestation.Attestation.{Attestation}
 use Rattle.committees.specs.Committees.{Committees, committee_at}
 use Rattle.spec_state.specs.declared.plain.PlainState.{PlainState}
 use Rattle.spec_state.specs.Misc.{compute_epoch_at_slot}
-use Rattle.spec_state.specs.Accessors.{epoch_committees}
+use Rattle.spec_state.specs.inside.EpochCommittees.{epoch_committees}
 use Rattle.spec_blocks.proofs.Done.{on_the_way, same_value}
 use Rattle.spec_fork_choice.specs.Store.{KeptBlock, Store, block_of}
 use Rattle.spec_fork_choice.specs.Slots.{start_slot_of}

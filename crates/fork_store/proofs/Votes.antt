@@ -18,7 +18,8 @@ use Rattle.beacon_body.specs.declared.attestation.Attestation.{Attestation}
 use Rattle.committees.specs.Committees.{Committees, committees_of, committee_at, compute_committee}
 use Rattle.spec_state.specs.declared.plain.PlainState.{PlainState}
 use Rattle.spec_state.specs.Misc.{compute_epoch_at_slot}
-use Rattle.spec_state.specs.Accessors.{epoch_committees, get_committee_count_per_slot, get_beacon_committee, get_attesting_indices, get_active_validator_indices, get_seed, members_with_bits}
+use Rattle.spec_state.specs.Accessors.{get_committee_count_per_slot, get_beacon_committee, get_attesting_indices, get_active_validator_indices, get_seed, members_with_bits}
+use Rattle.spec_state.specs.inside.EpochCommittees.{epoch_committees}
 use Rattle.spec_state.specs.Constants.{domain_beacon_attester}
 use Rattle.spec_fork_choice.specs.Store.{Store, is_kept}
 use Rattle.spec_fork_choice.specs.StoreTargetCheckpointState.{store_target_checkpoint_state}
@@ -154,10 +155,10 @@ attestation_done store attestation is_from_block indices voters new e same is =
 pub voted_is_kept : (store : Store) (attestation : Attestation) (is_from_block : Bool) (indices : List ℕ) → judged store attestation is_from_block ≡ done indices → is_kept store.blocks attestation.content.beacon_block_root ≡ true
 unfolding judged validate_on_attestation
 voted_is_kept store attestation is_from_block indices is =
-    let voted = attestation.content in
+    let content = attestation.content in
     let valid = on_the_way (validate_on_attestation store attestation is_from_block) _ indices is in
     let time = on_the_way (check_time store attestation is_from_block) _ _ valid.first in
-    let epoch = on_the_way (check (voted.target.epoch == compute_epoch_at_slot store.config.preset voted.slot) FcSlotEpoch) _ _ time.then_done in
-    let target = on_the_way (check (is_kept store.blocks voted.target.root) FcTargetUnknown) _ _ epoch.then_done in
-    let known = on_the_way (check (is_kept store.blocks voted.beacon_block_root) FcBlockUnknown) _ _ target.then_done in
-    check_holds (is_kept store.blocks voted.beacon_block_root) FcBlockUnknown _ known.first
+    let epoch = on_the_way (check (content.target.epoch == compute_epoch_at_slot store.config.preset content.slot) FcSlotEpoch) _ _ time.then_done in
+    let target = on_the_way (check (is_kept store.blocks content.target.root) FcTargetUnknown) _ _ epoch.then_done in
+    let known = on_the_way (check (is_kept store.blocks content.beacon_block_root) FcBlockUnknown) _ _ target.then_done in
+    check_holds (is_kept store.blocks content.beacon_block_root) FcBlockUnknown _ known.first

@@ -5,7 +5,7 @@
 ghost use Rattle.std.specs.Prelude.{◌≡◌, [], leb, filter};
 ghost use Rattle.std.specs.Option.{option_map};
 ghost use Rattle.bc_words.specs.Outcome.{Becomes};
-ghost use Rattle.spec_state.specs.Accessors.{epoch_committees};
+ghost use Rattle.spec_state.specs.inside.EpochCommittees.{epoch_committees};
 ghost use Rattle.fork_store.specs.inside.Kept.{checkpoint_state_of, with_checkpoint_state};
 
 use bc_words::NoMemory;
@@ -25,7 +25,7 @@ pub struct CheckpointState {
 
 impl Model for CheckpointState {
     ghost use Rattle.std.specs.Prelude.{◌≡◌};
-    ghost use Rattle.spec_state.specs.Accessors.{epoch_committees};
+    ghost use Rattle.spec_state.specs.inside.EpochCommittees.{epoch_committees};
     ghost use Rattle.fork_store.specs.inside.Kept.{CheckpointState as PlainCheckpointState};
 
     ghost Value = { PlainCheckpointState };

@@ -56,12 +56,12 @@ fn attesters_among(
 fn attesters_at(
     alloc: Global,
     committees: &EpochCommittees,
-    voted: &AttestationData,
+    content: &AttestationData,
     bits: &AggregationBits,
 ) -> Result<Vec<u64>, Stop>
-    ensures { GivesBy (λ members. members.items) result (attesters_among (committee_at committees.now voted.now.slot voted.now.index) bits.now) }
+    ensures { GivesBy (λ members. members.items) result (attesters_among (committee_at committees.now content.now.slot content.now.index) bits.now) }
 {
-    match committees.committee(voted.slot, voted.index) {
+    match committees.committee(content.slot, content.index) {
         Some(committee) => attesters_among(alloc, committee, bits),
         None => Err(Stop::Refused(Refusal::FcCommittee)),
     }

@@ -2,7 +2,8 @@
 
 ghost use Rattle.std.specs.Prelude.{◌≡◌, ◌≤◌, ◌+◌, true, slice_set, IfOk};
 ghost use Rattle.std.specs.List.{AllByRecursion};
-ghost use Rattle.spec_state.specs.Accessors.{get_current_epoch, epoch_committees, members_with_bits, get_block_root, get_attesting_indices};
+ghost use Rattle.spec_state.specs.Accessors.{get_current_epoch, members_with_bits, get_block_root, get_attesting_indices};
+ghost use Rattle.spec_state.specs.inside.EpochCommittees.{epoch_committees};
 ghost use Rattle.spec_state.specs.Soundness.{IsSoundPending};
 ghost use Rattle.spec_epochs.specs.Helpers.{get_matching_source_attestations};
 ghost use Rattle.participation.specs.inside.Votes.{matching, chosen};

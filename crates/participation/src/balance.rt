@@ -4,7 +4,8 @@ ghost use Rattle.std.specs.Prelude.{◌≡◌, ◌≤◌, false, slice_index_or}
 ghost use Rattle.std.specs.List.{AllByRecursion};
 ghost use Rattle.bc_words.specs.Outcome.{Gives, GivesExactly, checked_sum_by};
 ghost use Rattle.spec_state.specs.Misc.{effective_balance};
-ghost use Rattle.spec_state.specs.Accessors.{get_current_epoch, get_total_balance, epoch_committees};
+ghost use Rattle.spec_state.specs.Accessors.{get_current_epoch, get_total_balance};
+ghost use Rattle.spec_state.specs.inside.EpochCommittees.{epoch_committees};
 ghost use Rattle.spec_state.specs.Soundness.{IsSoundPending};
 ghost use Rattle.spec_epochs.specs.Helpers.{get_matching_source_attestations, get_attesting_balance};
 ghost use Rattle.participation.specs.inside.Votes.{matching};

@@ -3,7 +3,8 @@
 
 ghost use Rattle.std.specs.Prelude.{◌≡◌, ◌≤◌, ◌+◌, None, map, slice_index_or, slice_set, Option, Some, IfOk};
 ghost use Rattle.std.specs.List.{AllByRecursion};
-ghost use Rattle.spec_state.specs.Accessors.{get_current_epoch, epoch_committees, members_with_bits};
+ghost use Rattle.spec_state.specs.Accessors.{get_current_epoch, members_with_bits};
+ghost use Rattle.spec_state.specs.inside.EpochCommittees.{epoch_committees};
 ghost use Rattle.spec_state.specs.Soundness.{IsSoundPending};
 ghost use Rattle.spec_epochs.specs.Helpers.{get_matching_source_attestations};
 ghost use Rattle.participation.specs.inside.Inclusions.{entry_of, better, put, all_put, put_from, attesters_of, inclusion_entries};

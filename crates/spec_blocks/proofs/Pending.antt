@@ -30,11 +30,11 @@ module _ (P : PlainState → Type 0)
   pub attestation_keeps : (proposer : ℕ) (s t : PlainState) (attestation : Attestation) → process_attestation s attestation proposer ≡ done t → P s → P t
   unfolding process_attestation
   attestation_keeps proposer s t attestation is holds =
-      let voted = attestation.content in
-      let times = on_the_way (check_times s voted) _ t is in
-      let committee = on_the_way (check_committee s voted attestation.aggregation_bits) _ t times.then_done in
-      let delay = on_the_way (checked_sub s.slot voted.slot) _ t committee.then_done in
-      let pending : PendingAttestation = record { aggregation_bits = attestation.aggregation_bits; content = voted; inclusion_delay = delay.value; proposer_index = proposer } in
+      let content = attestation.content in
+      let times = on_the_way (check_times s content) _ t is in
+      let committee = on_the_way (check_committee s content attestation.aggregation_bits) _ t times.then_done in
+      let delay = on_the_way (checked_sub s.slot content.slot) _ t committee.then_done in
+      let pending : PendingAttestation = record { aggregation_bits = attestation.aggregation_bits; content = content; inclusion_delay = delay.value; proposer_index = proposer } in
       let next = on_the_way (with_pending s pending) _ t delay.then_done in
-      let some = on_the_way (check (not (length (get_attesting_indices s voted attestation.aggregation_bits) == 0)) AtEmpty) _ t next.then_done in
+      let some = on_the_way (check (not (length (get_attesting_indices s content attestation.aggregation_bits) == 0)) AtEmpty) _ t next.then_done in
       subst P (same_value next.value t some.then_done) (pending_keeps s next.value pending next.first holds)

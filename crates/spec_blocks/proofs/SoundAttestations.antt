@@ -73,47 +73,47 @@ early_enough : (slot delay earliest now : ℕ) → delay ≡ 1 → checked_add s
 early_enough slot delay earliest now one sum low = let is = sum_is slot delay earliest sum in let below = leb-true earliest now low in omega arith
 
 -- what the checks of the vote's time say
-record InTime (s : PlainState) (voted : AttestationData) : Type 0 where
-  target : (voted.target.epoch ≡ get_previous_epoch s) ⊎ (voted.target.epoch ≡ get_current_epoch s)
-  epoch : voted.target.epoch ≡ compute_epoch_at_slot s.preset voted.slot
-  early : voted.slot + 1 ≤ s.slot
+record InTime (s : PlainState) (content : AttestationData) : Type 0 where
+  target : (content.target.epoch ≡ get_previous_epoch s) ⊎ (content.target.epoch ≡ get_current_epoch s)
+  epoch : content.target.epoch ≡ compute_epoch_at_slot s.preset content.slot
+  early : content.slot + 1 ≤ s.slot
 
-in_time : (s : PlainState) (voted : AttestationData) (x : Unit {0}) → check_times s voted ≡ done x → HasPresetBounds s.preset → InTime s voted
+in_time : (s : PlainState) (content : AttestationData) (x : Unit {0}) → check_times s content ≡ done x → HasPresetBounds s.preset → InTime s content
 unfolding check_times
-in_time s voted x is bounds =
-    let target = on_the_way (check ((voted.target.epoch == get_previous_epoch s) || (voted.target.epoch == get_current_epoch s)) AtTargetEpoch) _ x is in
-    let slot = on_the_way (check (voted.target.epoch == compute_epoch_at_slot s.preset voted.slot) AtSlotEpoch) _ x target.then_done in
-    let earliest = on_the_way (checked_add voted.slot s.preset.min_attestation_inclusion_delay) _ x slot.then_done in
+in_time s content x is bounds =
+    let target = on_the_way (check ((content.target.epoch == get_previous_epoch s) || (content.target.epoch == get_current_epoch s)) AtTargetEpoch) _ x is in
+    let slot = on_the_way (check (content.target.epoch == compute_epoch_at_slot s.preset content.slot) AtSlotEpoch) _ x target.then_done in
+    let earliest = on_the_way (checked_add content.slot s.preset.min_attestation_inclusion_delay) _ x slot.then_done in
     let early = on_the_way (check (leb earliest.value s.slot) AtEarly) _ x earliest.then_done in
     record {
-      target = either_epoch s voted.target.epoch (check_holds _ AtTargetEpoch _ target.first);
+      target = either_epoch s content.target.epoch (check_holds _ AtTargetEpoch _ target.first);
       epoch = eqb-true _ _ (check_holds _ AtSlotEpoch _ slot.first);
-      early = early_enough voted.slot s.preset.min_attestation_inclusion_delay earliest.value s.slot bounds.min_attestation_inclusion_delay earliest.first (check_holds _ AtEarly _ early.first);
+      early = early_enough content.slot s.preset.min_attestation_inclusion_delay earliest.value s.slot bounds.min_attestation_inclusion_delay earliest.first (check_holds _ AtEarly _ early.first);
     }
 
 -- and those of its committee
-record HasCommittee (s : PlainState) (voted : AttestationData) (bits : List Bool) : Type 0 where
-  index : voted.index < get_committee_count_per_slot s voted.target.epoch
-  members : length bits ≡ length (get_beacon_committee s voted.slot voted.index)
+record HasCommittee (s : PlainState) (content : AttestationData) (bits : List Bool) : Type 0 where
+  index : content.index < get_committee_count_per_slot s content.target.epoch
+  members : length bits ≡ length (get_beacon_committee s content.slot content.index)
 
-has_committee : (s : PlainState) (voted : AttestationData) (bits : List Bool) (x : Unit {0}) → check_committee s voted bits ≡ done x → HasCommittee s voted bits
+has_committee : (s : PlainState) (content : AttestationData) (bits : List Bool) (x : Unit {0}) → check_committee s content bits ≡ done x → HasCommittee s content bits
 unfolding check_committee
-has_committee s voted bits x is =
-    let index = on_the_way (check (nat_lt voted.index (get_committee_count_per_slot s voted.target.epoch)) AtIndex) _ x is in
+has_committee s content bits x is =
+    let index = on_the_way (check (nat_lt content.index (get_committee_count_per_slot s content.target.epoch)) AtIndex) _ x is in
     record { index = ltb-true _ _ (check_holds _ AtIndex _ index.first); members = eqb-true _ _ (check_holds _ AtBits x index.then_done) }
 
 -- an attestation
 pub attestation_sound : (s t : PlainState) (attestation : Attestation) (proposer : ℕ) → process_attestation s attestation proposer ≡ done t → HasPresetBounds s.preset → proposer < length s.validators → IsSound s → IsSound t
 unfolding process_attestation
 attestation_sound s t attestation proposer is bounds known sound =
-    let voted : AttestationData = attestation.content in
-    let times = on_the_way (check_times s voted) _ t is in
-    let committee = on_the_way (check_committee s voted attestation.aggregation_bits) _ t times.then_done in
-    let delay = on_the_way (checked_sub s.slot voted.slot) _ t committee.then_done in
-    let pending : PendingAttestation = record { aggregation_bits = attestation.aggregation_bits; content = voted; inclusion_delay = delay.value; proposer_index = proposer } in
+    let content : AttestationData = attestation.content in
+    let times = on_the_way (check_times s content) _ t is in
+    let committee = on_the_way (check_committee s content attestation.aggregation_bits) _ t times.then_done in
+    let delay = on_the_way (checked_sub s.slot content.slot) _ t committee.then_done in
+    let pending : PendingAttestation = record { aggregation_bits = attestation.aggregation_bits; content = content; inclusion_delay = delay.value; proposer_index = proposer } in
     let next = on_the_way (with_pending s pending) _ t delay.then_done in
-    let some = on_the_way (check (not (length (get_attesting_indices s voted attestation.aggregation_bits) == 0)) AtEmpty) _ t next.then_done in
-    let timely = in_time s voted times.value times.first bounds in
-    let seated = has_committee s voted attestation.aggregation_bits committee.value committee.first in
-    let waits : IsSoundPending s voted.target.epoch pending = waits_sound s pending timely.epoch timely.early seated.index seated.members (difference_is s.slot voted.slot delay.value delay.first) known in
+    let some = on_the_way (check (not (length (get_attesting_indices s content attestation.aggregation_bits) == 0)) AtEmpty) _ t next.then_done in
+    let timely = in_time s content times.value times.first bounds in
+    let seated = has_committee s content attestation.aggregation_bits committee.value committee.first in
+    let waits : IsSoundPending s content.target.epoch pending = waits_sound s pending timely.epoch timely.early seated.index seated.members (difference_is s.slot content.slot delay.value delay.first) known in
     subst IsSound (same_value next.value t some.then_done) (with_pending_sound s next.value pending next.first timely.target waits sound)

@@ -24,7 +24,7 @@ use Rattle.spec_blocks.specs.IsValidMerkleBranch.{is_valid_merkle_branch}
 use Rattle.spec_blocks.specs.ProcessDeposit.{same_pubkey, index_of_pubkey, add_validator, credit_deposit, process_deposit}
 use Rattle.spec_genesis.specs.Branches.{deposits_codec, deposit_leaves, branch_of}
 use Rattle.spec_genesis.specs.InitializeBeaconStateFromEth1.{Initialized, made, refused_at, deposit_then, with_deposit_root, process_genesis_deposit, process_genesis_deposits}
-use Rattle.spec_genesis.proofs.Bytes.{hash_within}
+use Rattle.spec_state.proofs.Digests.{hash_within}
 use Rattle.spec_genesis.proofs.Subtrees.{branch_holds}
 
 -- ---- the branch of the last deposit

@@ -1,4 +1,3 @@
-pub mod Bytes
 pub mod Subtrees
 pub mod Deposits
 pub mod MadeState

@@ -20,7 +20,7 @@ use Rattle.spec_state.specs.Constants.{far_future_epoch}
 use Rattle.spec_state.specs.Limits.{IsState, IsInRange}
 use Rattle.spec_state.specs.Genesis.{zero_root, is_genesis_header, validator_fault, validators_fault, or_later, genesis_fault}
 use Rattle.spec_genesis.specs.InitializeBeaconStateFromEth1.{empty_header, state_before_deposits, genesis_validator, genesis_validators, with_activations}
-use Rattle.spec_genesis.proofs.Bytes.{hash_within, zero_root_within}
+use Rattle.spec_state.proofs.Digests.{hash_within, zero_root_within}
 use Rattle.spec_genesis.proofs.Subtrees.{same_roots}
 use Rattle.spec_genesis.proofs.Deposits.{IsFresh, IsBehind, grown}
 

@@ -9,7 +9,8 @@ use Rattle.bc_preset.proofs.Bounds.{preset_bounds}
 use Rattle.committees.specs.Committees.{committees_of, committee_at}
 use Rattle.spec_state.specs.declared.plain.PlainState.{PlainState}
 use Rattle.spec_state.specs.Misc.{compute_epoch_at_slot}
-use Rattle.spec_state.specs.Accessors.{epoch_committees, get_committee_count_per_slot, get_beacon_committee}
+use Rattle.spec_state.specs.Accessors.{get_committee_count_per_slot, get_beacon_committee}
+use Rattle.spec_state.specs.inside.EpochCommittees.{epoch_committees}
 
 at : {A : Type 0} (f : ℕ → A) (count k : ℕ) (d : A) → k < count → slice_get (map f (range_with_len 0 count)) k ≡ Some (f k)
 at f count k d less =

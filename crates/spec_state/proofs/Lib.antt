@@ -4,3 +4,4 @@ pub mod StateLaws
 pub mod Limits
 pub mod Writings
 pub mod Genesis
+pub mod Digests

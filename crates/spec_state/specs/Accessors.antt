@@ -7,7 +7,7 @@ use Rattle.hash_tree.specs.Merkle.{hash, uint_to_bytes}
 use Rattle.beacon_types.specs.declared.attestation_data.AttestationData.{AttestationData}
 use Rattle.beacon_types.specs.declared.validator.Validator.{Validator}
 use Rattle.committees.specs.Seeds.{seed_from}
-use Rattle.committees.specs.Committees.{Committees, committee_count_per_slot, compute_committee, committees_of}
+use Rattle.committees.specs.Committees.{committee_count_per_slot, compute_committee}
 use Rattle.spec_state.specs.declared.plain.PlainState.{PlainState}
 use Rattle.spec_state.specs.Constants.{domain_beacon_proposer, domain_beacon_attester}
 use Rattle.spec_state.specs.Predicates.{is_active_validator}
@@ -66,10 +66,6 @@ get_beacon_committee state slot index =
     let committees_per_slot : ℕ = get_committee_count_per_slot state epoch in
     compute_committee state.preset.shuffle_round_count (get_active_validator_indices state epoch) (get_seed state epoch domain_beacon_attester)
     (slot % state.preset.slots_per_epoch * committees_per_slot + index) (committees_per_slot * state.preset.slots_per_epoch)
-
--- all committees of an epoch, in order of slot and index: committee_at gives get_beacon_committee of each slot and index
-abbrev pub epoch_committees : PlainState → ℕ → Committees
-epoch_committees state epoch = committees_of state.preset (get_seed state epoch domain_beacon_attester) (get_active_validator_indices state epoch)
 
 -- get_beacon_proposer_index
 unfoldable pub get_beacon_proposer_index : PlainState → Outcome ℕ

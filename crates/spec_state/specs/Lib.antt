@@ -7,3 +7,4 @@ pub mod Limits
 pub mod Writing
 pub mod Genesis
 pub mod Soundness
+pub mod inside

@@ -9,7 +9,8 @@ use Rattle.committees.specs.Committees.{Committees, committees_of}
 use Rattle.spec_state.specs.declared.plain.PlainState.{PlainState}
 use Rattle.spec_state.specs.Constants.{domain_beacon_attester}
 use Rattle.spec_state.specs.Predicates.{is_active_validator}
-use Rattle.spec_state.specs.Accessors.{get_previous_epoch, epoch_committees, get_active_validator_indices, get_randao_mix, indices_from}
+use Rattle.spec_state.specs.Accessors.{get_previous_epoch, get_active_validator_indices, get_randao_mix, indices_from}
+use Rattle.spec_state.specs.inside.EpochCommittees.{epoch_committees}
 use Rattle.spec_blocks.proofs.Sound.{same_previous}
 use Rattle.spec_epochs.specs.ProcessJustificationAndFinalization.{process_justification_and_finalization}
 use Rattle.spec_epochs.proofs.SoundWithin.{epoch_of}

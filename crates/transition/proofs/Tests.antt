@@ -6,7 +6,8 @@ use Rattle.bc_preset.specs.Presets.{IsPreset}
 use Rattle.beacon_types.specs.declared.pending_attestation.PendingAttestation.{PendingAttestation}
 use Rattle.spec_state.specs.declared.plain.PlainState.{PlainState}
 use Rattle.spec_state.specs.Misc.{compute_epoch_at_slot}
-use Rattle.spec_state.specs.Accessors.{get_current_epoch, get_previous_epoch, epoch_committees, get_committee_count_per_slot, get_beacon_committee}
+use Rattle.spec_state.specs.Accessors.{get_current_epoch, get_previous_epoch, get_committee_count_per_slot, get_beacon_committee}
+use Rattle.spec_state.specs.inside.EpochCommittees.{epoch_committees}
 use Rattle.spec_state.proofs.BeaconCommittees.{count_is_published, committee_is_published}
 use Rattle.spec_state.specs.Soundness.{IsSoundPending, IsSoundTo}
 use Rattle.transition.specs.inside.Tests.{bits_test, pending_test, figures_test}

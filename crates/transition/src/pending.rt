@@ -3,7 +3,7 @@
 ghost use Rattle.std.specs.Prelude.{◌≡◌, ◌≤◌, ◌<◌, ◌^◌, length, IfOk};
 ghost use Rattle.std.specs.List.{list_all, slice_get};
 ghost use Rattle.std.specs.Option.{option_map};
-ghost use Rattle.spec_state.specs.Accessors.{epoch_committees};
+ghost use Rattle.spec_state.specs.inside.EpochCommittees.{epoch_committees};
 ghost use Rattle.transition.specs.inside.Tests.{attestations_of, epoch_of, bits_test, pending_test, passes_at};
 
 use balance_totals::committees_of_epoch;

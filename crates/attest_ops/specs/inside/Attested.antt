@@ -18,6 +18,6 @@ Attests (Ok attested) checked is_so = (checked ≡ done tt) × (attested ≡ is_
 Attests (Err stop) checked is_so = StopsExactly stop checked
 
 -- the target's epoch is one of the two, and that of the slot
-pub record IsTimely (state : PlainState) (voted : AttestationData) : Type 0 where
-  pub epoch : (voted.target.epoch ≡ get_current_epoch state → ⊥) → voted.target.epoch ≡ get_previous_epoch state
-  pub slot : compute_epoch_at_slot state.preset voted.slot ≡ voted.target.epoch
+pub record IsTimely (state : PlainState) (content : AttestationData) : Type 0 where
+  pub epoch : (content.target.epoch ≡ get_current_epoch state → ⊥) → content.target.epoch ≡ get_previous_epoch state
+  pub slot : compute_epoch_at_slot state.preset content.slot ≡ content.target.epoch

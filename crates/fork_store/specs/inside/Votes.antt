@@ -19,21 +19,21 @@ use Rattle.spec_fork_choice.specs.OnAttestation.{check_target_committee}
 
 -- the last three checks of a vote; the two before and those; and the one before and those
 unfoldable pub check_voted : Store → AttestationData → Outcome (Unit {0})
-check_voted store voted = do
-  check (leb (slot_of store.blocks voted.beacon_block_root) voted.slot) FcBlockAfter
-  check (same_root (get_ancestor store voted.beacon_block_root (start_slot_of store voted.target)) voted.target.root) FcTargetChain
-  check (nat_lt voted.slot (get_current_slot store)) FcTooEarly
+check_voted store content = do
+  check (leb (slot_of store.blocks content.beacon_block_root) content.slot) FcBlockAfter
+  check (same_root (get_ancestor store content.beacon_block_root (start_slot_of store content.target)) content.target.root) FcTargetChain
+  check (nat_lt content.slot (get_current_slot store)) FcTooEarly
 
 unfoldable pub check_known : Store → AttestationData → Outcome (Unit {0})
-check_known store voted = do
-  check (is_kept store.blocks voted.target.root) FcTargetUnknown
-  check (is_kept store.blocks voted.beacon_block_root) FcBlockUnknown
-  check_voted store voted
+check_known store content = do
+  check (is_kept store.blocks content.target.root) FcTargetUnknown
+  check (is_kept store.blocks content.beacon_block_root) FcBlockUnknown
+  check_voted store content
 
 unfoldable pub check_vote : Store → AttestationData → Outcome (Unit {0})
-check_vote store voted = do
-  check (voted.target.epoch == compute_epoch_at_slot store.config.preset voted.slot) FcSlotEpoch
-  check_known store voted
+check_vote store content = do
+  check (content.target.epoch == compute_epoch_at_slot store.config.preset content.slot) FcSlotEpoch
+  check_known store content
 
 -- the members of a committee that attest. There is such a committee, it has no more members than there are bits, and
 -- somebody attests

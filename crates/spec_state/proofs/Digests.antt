@@ -9,7 +9,7 @@ use Rattle.ssz_codec.specs.Basic.{bytes32}
 use Rattle.ssz_codec.specs.Lawful.{IsBytes}
 use Rattle.ssz_codec.specs.laws.Layout.{IsBytes-append}
 
-byte_low : (i n : ℕ) → byte_at i n < 256
+pub byte_low : (i n : ℕ) → byte_at i n < 256
 byte_low zero n = mod-lt n (omega arith)
 byte_low (suc i) n = mod-lt (n / 256 ^ suc i) (omega arith)
 
@@ -23,7 +23,7 @@ unfolding digest_bytes
 digest_fits h zero i = omega arith
 digest_fits h (suc n) i = IsBytes-append (digest_bytes h n) (to_be_bytes w32 (slice_index h n)) (digest_fits h n) (high_fits 4 (slice_index h n)) i
 
-hash_fits : (m : List ℕ) → IsBytes (hash m)
+pub hash_fits : (m : List ℕ) → IsBytes (hash m)
 unfolding hash sha256
 hash_fits m = digest_fits _ 8
 
@@ -34,7 +34,8 @@ hash_long m = length-sha256 m
 pub hash_within : (m : List ℕ) → bytes32.Within (hash m)
 hash_within m = (hash_long m, hash_fits m)
 
-replicate_fits : (n b : ℕ) → b < 256 → IsBytes (replicate n b)
+-- one byte again and again
+pub replicate_fits : (n b : ℕ) → b < 256 → IsBytes (replicate n b)
 replicate_fits zero b low i = omega arith
 replicate_fits (suc n) b low zero = low
 replicate_fits (suc n) b low (suc i) = replicate_fits n b low i

@@ -1,0 +1,2 @@
+-- Words of contracts.
+pub mod EpochCommittees
