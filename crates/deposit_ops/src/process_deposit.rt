@@ -2,7 +2,7 @@
 
 ghost use Rattle.std.specs.Prelude.{◌≡◌, ◌+◌, None, Some, OnOk, OnErr};
 ghost use Rattle.bc_words.specs.Outcome.{Changes, Gives};
-ghost use Rattle.spec_blocks.specs.ProcessDeposit.{process_deposit, credit_deposit};
+ghost use Rattle.spec_blocks.specs.ProcessDeposit.{credit_deposit, index_of_pubkey, process_deposit};
 ghost use Rattle.deposit_ops.specs.Indexes.{Indexes, index_in};
 ghost use Rattle.deposit_ops.specs.inside.Branches.{leads_to_root};
 
@@ -76,6 +76,29 @@ fn join(
     Ok(())
 }
 
+/// The amount goes to the first validator with the deposit's key, or to one that joins, and the next deposit has this index: what
+/// `process_deposit` does behind its checks. The map is that of the state's keys before the call, and of those behind it.
+///
+/// Refused, in this order: `ListFull` where the registry is full and the key new, `Overflow` where the balance doesn't fit. After a
+/// stop the state and the map are as before.
+pub fn credit(
+    state: &mut State,
+    deposit: &Deposit,
+    next_index: u64,
+    keys: &mut PubkeyIndex,
+) -> Result<(), Stop>
+    requires { Indexes keys.old state.old.validators }
+    ensures state { Changes result state.old state.new
+        (credit_deposit (record state.old { eth1_deposit_index = next_index }) deposit.now (index_of_pubkey state.old.validators deposit.now.content.pubkey)) }
+    ensures keys { OnOk result (Indexes keys.new state.new.validators) }
+    ensures err { OnErr result (keys.new ≡ keys.old) }
+{
+    match keys.first(&deposit.content.pubkey) {
+        Some(index) => top_up(state, deposit, next_index, index),
+        None => join(state, deposit, next_index, keys),
+    }
+}
+
 /// The amount goes to the first validator with the deposit's key, or to one that joins (beacon-chain.md, `process_deposit`). The
 /// signature isn't checked. The map is that of the state's keys before the call, and of those behind it.
 ///
@@ -97,8 +120,5 @@ pub fn process_deposit(
         return Err(Stop::Refused(Refusal::DpBranch));
     }
     let next_index = checked_add(state.eth1_deposit_index(), 1)?;
-    match keys.first(&deposit.content.pubkey) {
-        Some(index) => top_up(state, deposit, next_index, index),
-        None => join(state, deposit, next_index, keys),
-    }
+    credit(state, deposit, next_index, keys)
 }
