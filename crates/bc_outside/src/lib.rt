@@ -7,6 +7,7 @@
 
 mod disk;
 mod faults;
+mod hash_sink;
 mod memory_shelf;
 mod memory_sink;
 mod names;
@@ -18,6 +19,7 @@ mod trouble;
 mod whole;
 
 pub use disk::{DiskShelf, StdSink};
+pub use hash_sink::HashSink;
 pub use memory_shelf::{MemoryFile, MemoryShelf};
 pub use memory_sink::MemorySink;
 pub use names::AskedName;

@@ -2,3 +2,4 @@ pub mod Committees
 pub mod Fields
 pub mod NextVotes
 pub mod Steps
+pub mod Sourced

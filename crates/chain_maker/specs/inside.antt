@@ -2,3 +2,4 @@
 pub mod Views
 pub mod Votes
 pub mod Standing
+pub mod Stops

@@ -8,6 +8,8 @@ mod block;
 mod genesis;
 mod maker;
 mod plan;
+mod source;
 mod votes;
 
 pub use maker::Maker;
+pub use source::MadeEvents;

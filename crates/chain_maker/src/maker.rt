@@ -117,7 +117,7 @@ impl Maker {
     }
 
     /// The law that every maker has a plan. It does nothing when it runs.
-    fn is_planned(&self)
+    pub(crate) fn is_planned(&self)
         ensures { IsPlan self.now.plan }
     {
         let _ = &self.plan;

@@ -9,30 +9,55 @@ use Rattle.record_file.specs.Frames.{Reading, Gives, Nexts, Moves, coming, IsPla
 use Rattle.std.proofs.lemmas.Bool.{and_parts}
 use Rattle.std.proofs.lemmas.Bool.Decides.{nat_tests}
 use Rattle.record_file.specs.Record.{is_kind}
+use Rattle.record_file.specs.Stops.{StopsBy, SourceStopsBy}
+use Rattle.record_file.specs.declared.source.SourceStop.{SourceStop}
+use Rattle.record_file.specs.inside.Sourced.{source_answer}
 use Rattle.record_file.specs.Sources.{record_source, IsOpenedFile, TakesFrom, Supplies, NextOf, Counts}
 
-gives_supplies : (result : Result (Option Event) FrameStop) (bytes : List ℕ) (met : Bool) (old new : Reading) → Gives result bytes met old new → Supplies result bytes met (record_source old) (record_source new)
-gives_supplies (Ok (Some event)) bytes met old new h = h
-gives_supplies (Ok None) bytes met old new h = λ behind can. h.1 behind ∙ ap (coming new) (can h.0) ∙ h.2
-gives_supplies (Err (Fault reason)) bytes met old new h = h
-gives_supplies (Err ReadFault) bytes met old new h = h
-gives_supplies (Err NoMemory) bytes met old new h = h
+module _ (old new : Reading) where
+  gives_supplies : (result : Result (Option Event) FrameStop) (bytes : List ℕ) (met : Bool) → Gives result bytes met old new → Moves result old new
+      → Supplies (source_answer new.events result) bytes met (record_source old) (record_source new)
+  gives_supplies (Ok (Some event)) bytes met h moves = h
+  gives_supplies (Ok None) bytes met h moves = λ behind can. h.1 behind ∙ ap (coming new) (can h.0) ∙ h.2
+  gives_supplies (Err (Fault reason)) bytes met h moves = rw moves.0 h
+  gives_supplies (Err ReadFault) bytes met h moves = h
+  gives_supplies (Err NoMemory) bytes met h moves = h
 
-pub supplied : (result : Result (Option Event) FrameStop) (old new : Reading) (s t : ShelfTold) → Nexts result old new s t → NextOf result (record_source old) (record_source new) s t
-supplied result old new s t h = record { bytes = h.bytes; met = h.met; taken = h.taken; supplies = gives_supplies result h.bytes h.met old new h.gives }
+  pub supplied : (result : Result (Option Event) FrameStop) (answer : Result (Option Event) SourceStop) (s t : ShelfTold) → answer ≡ source_answer new.events result
+      → Nexts result old new s t → Moves result old new → NextOf answer (record_source old) (record_source new) s t
+  supplied result answer s t is h moves =
+      rw is (record { bytes = h.bytes; met = h.met; taken = h.taken; supplies = gives_supplies result h.bytes h.met h.gives moves })
 
-pub counted : (result : Result (Option Event) FrameStop) (old new : Reading) → Moves result old new → IsPlace new.place new.events → Counts result (record_source old) (record_source new)
-counted (Ok (Some event)) old new h place = (h.0, subst (λ p. IsPlace p new.events) h.1 place)
-counted (Ok None) old new h place = h.0
-counted (Err (Fault reason)) old new h place = h.0
-counted (Err ReadFault) old new h place = h
-counted (Err NoMemory) old new h place = h
+  counts : (result : Result (Option Event) FrameStop) → Moves result old new → IsPlace new.place new.events → Counts (source_answer new.events result) (record_source old) (record_source new)
+  counts (Ok (Some event)) h place = (h.0, subst (λ p. IsPlace p new.events) h.1 place)
+  counts (Ok None) h place = h.0
+  counts (Err (Fault reason)) h place = h.0
+  counts (Err ReadFault) h place = h
+  counts (Err NoMemory) h place = h
 
--- an event is of one of the four kinds
-pub of_kind : (result : Result (Option Event) FrameStop) (old new : Reading) → Moves result old new → IfOk result (λ next. IfSome next (λ event. is_kind event.kind ≡ true))
-of_kind (Ok (Some event)) old new h = h.2
-of_kind (Ok None) old new h = tt
-of_kind (Err stop) old new h = tt
+  pub counted : (result : Result (Option Event) FrameStop) (answer : Result (Option Event) SourceStop) → answer ≡ source_answer new.events result
+      → Moves result old new → IsPlace new.place new.events → Counts answer (record_source old) (record_source new)
+  counted result answer is h place = rw is (counts result h place)
+
+  -- an event is of one of the four kinds
+  kind_of : (result : Result (Option Event) FrameStop) → Moves result old new → IfOk (source_answer new.events result) (λ next. IfSome next (λ event. is_kind event.kind ≡ true))
+  kind_of (Ok (Some event)) h = h.2
+  kind_of (Ok None) h = tt
+  kind_of (Err stop) h = tt
+
+  pub of_kind : (result : Result (Option Event) FrameStop) (answer : Result (Option Event) SourceStop) → answer ≡ source_answer new.events result
+      → Moves result old new → IfOk answer (λ next. IfSome next (λ event. is_kind event.kind ≡ true))
+  of_kind result answer is h = rw is (kind_of result h)
+
+stops : (events : ℕ) (result : Result (Option Event) FrameStop) (before now : ℕ) → StopsBy result before now → SourceStopsBy (source_answer events result) before now
+stops events (Ok next) before now h = h
+stops events (Err (Fault reason)) before now h = h
+stops events (Err ReadFault) before now h = h
+stops events (Err NoMemory) before now h = h
+
+pub stopped : (events : ℕ) (result : Result (Option Event) FrameStop) (answer : Result (Option Event) SourceStop) (before now : ℕ) → answer ≡ source_answer events result
+    → StopsBy result before now → SourceStopsBy answer before now
+stopped events result answer before now is h = rw is (stops events result before now h)
 
 pub kind_first : (kind : ℕ) → is_kind kind ≡ true → 1 ≤ kind
 kind_first kind is = let low : nat_le 1 kind ≡ true = (and_parts (nat_le 1 kind) (nat_le kind 4) is).0 in grind (arith, nat_tests)

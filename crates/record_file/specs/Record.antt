@@ -3,6 +3,7 @@
 use Rattle.std.specs.Prelude.{ℕ, zero, suc, ◌+◌, Bool, ◌&&◌, List, [], ◌∷◌, length, take, drop, nat_lt, nat_le, ◌==◌, if◌then◌else◌}
 use Rattle.std.specs.Int.{w32, from_le_bytes}
 use Rattle.std.specs.Str.{bytes_eq}
+use Rattle.bc_words.specs.declared.stop.Limit.{Limit}
 use Rattle.record_file.specs.declared.event.Event.{Event}
 use Rattle.record_file.specs.declared.fault.RecordFault.{RecordFault}
 use Rattle.record_file.specs.declared.fault.RecordFault.TheVariants.{BadMagic, TooMany, BadKind, Torn, TooLong}
@@ -50,12 +51,14 @@ frame_of events (kind ∷ bytes) =
     else if is_kind kind then sized_of kind bytes
     else faulted (BadKind kind)
 
--- How a record ends: it was read to its end, or the event with this number could not be read.
+-- How events end: they were read to their end; or the event with this number could not be read, or, where events are made and not
+-- read, it could not be made because of a bound of this program.
 pub data End : Type 0 where
   done : End
   fault : ℕ → RecordFault → End
+  limited : ℕ → Limit → End
 
--- The events of a record, in order, and its end.
+-- Events, in order, and their end.
 pub record Events : Type 0 where
   pub events : List Event
   pub end : End

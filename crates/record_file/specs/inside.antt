@@ -1,3 +1,4 @@
 pub mod Found
 pub mod Fetched
 pub mod Given
+pub mod Sourced

@@ -18,4 +18,4 @@ pub use fault::{FrameStop, RecordFault};
 pub use frames::Frames;
 pub use law::written_is_read_again;
 pub use place::Place;
-pub use source::EventSource;
+pub use source::{EventSource, SourceStop};

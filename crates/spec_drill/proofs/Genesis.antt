@@ -35,7 +35,8 @@ use Rattle.spec_fork_choice.specs.OnEvent.{genesis_clash}
 use Rattle.spec_drill.proofs.AsWritten.{taken_as_written}
 use Rattle.spec_drill.proofs.Committees.{length_replicate}
 use Rattle.spec_drill.proofs.Block.{root_is_same}
-use Rattle.spec_drill.proofs.Bytes.{zero_root_within, block_root_within}
+use Rattle.spec_state.proofs.Digests.{zero_root_within}
+use Rattle.spec_drill.proofs.Bytes.{block_root_within}
 use Rattle.spec_drill.proofs.Walks.{root_here}
 use Rattle.spec_drill.proofs.Making.{GoesOn, IsDrilling, made_ends, made_taken}
 
@@ -172,7 +173,7 @@ module _ (plan : Plan) (ok : IsPlan plan) where
   unfolding last_slot
   last_low = let h = few_epochs plan.which in mul-le-mul_right plan.config.preset.slots_per_epoch h
 
-  goes : GoesOn plan 0 s
+  pub goes : GoesOn plan 0 s
   goes =
       let zeros = slot_zero plan.config.preset plan.number in
       let at : s.slot ≡ 0 = zeros.0 in

@@ -17,7 +17,7 @@ use Rattle.beacon_body.specs.Containers.{empty_body_root, block_body_codec, defa
 use Rattle.spec_state.specs.Limits.{IsState, IsInRange}
 use Rattle.spec_drill.specs.Plan.{slot_digest}
 use Rattle.spec_drill.specs.MakeGenesis.{made_validator, made_genesis}
-use Rattle.spec_drill.proofs.Bytes.{hash_within, replicate_fits, zero_root_within}
+use Rattle.spec_state.proofs.Digests.{hash_within, replicate_fits, zero_root_within}
 use Rattle.spec_drill.proofs.Committees.{length_replicate}
 use Rattle.spec_drill.proofs.Written.{digest_within, eth1_within}
 use Rattle.spec_drill.proofs.Genesis.{all_replicated, all_made}

@@ -20,6 +20,7 @@ pub mod Blocks
 pub mod Making
 pub mod Genesis
 pub mod AsWritten
+pub mod Few
 pub mod Maker
 pub mod Steps
 pub mod GenesisRange

@@ -67,7 +67,7 @@ module _ (plan : Plan) (ok : IsPlan plan) where
   n = plan.config.preset.slots_per_epoch
 
   -- the state at the next slot
-  at_next : (slot : ℕ) (state : PlainState) → GoesOn plan slot state → slot + 1 ≤ 32 * n → Gives (IsAt (slot + 1) state.preset) (process_slots state (slot + 1) plan.config)
+  pub at_next : (slot : ℕ) (state : PlainState) → GoesOn plan slot state → slot + 1 ≤ 32 * n → Gives (IsAt (slot + 1) state.preset) (process_slots state (slot + 1) plan.config)
   at_next slot state goes early =
       let low = goes.low in
       slots_give plan.config state (slot + 1) ok.ejection goes.calm (omega arith) (subst (λ (p : Preset). slot + 1 ≤ 32 * p.slots_per_epoch) (sym goes.preset) early)

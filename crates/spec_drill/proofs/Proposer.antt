@@ -17,7 +17,8 @@ use Rattle.spec_state.specs.Misc.{effective_balance}
 use Rattle.spec_state.specs.Accessors.{get_current_epoch, get_seed, get_beacon_proposer_index}
 use Rattle.spec_blocks.proofs.Gives.{gives_done, gives_then, gives_if, gives_more, mul_gives}
 use Rattle.spec_drill.proofs.Lists.{range_all}
-use Rattle.spec_drill.proofs.Bytes.{IsByte, hash_bytes, index_or_zero}
+use Rattle.spec_state.proofs.Digests.{hash_fits}
+use Rattle.spec_drill.proofs.Bytes.{index_or_zero}
 use Rattle.spec_drill.proofs.Registry.{all_active, most_balance}
 
 -- a value of which something holds, or the limit
@@ -28,7 +29,7 @@ passes_give : (preset : Preset) (effective : ℕ → ℕ) (indices seed : List �
 unfolding candidate_passes weighs_enough random_byte
 passes_give preset effective indices seed i bounds low =
     let byte : ℕ = slice_index (hash (seed ++ uint_to_bytes (i / 32))) (i % 32) in
-    let byte_low : byte < 256 = index_or_zero IsByte (hash (seed ++ uint_to_bytes (i / 32))) (i % 32) (hash_bytes (seed ++ uint_to_bytes (i / 32))) (omega arith) in
+    let byte_low : byte < 256 = hash_fits (seed ++ uint_to_bytes (i / 32)) (i % 32) in
     let balance = low (candidate preset indices seed i) in
     let product : preset.max_effective_balance * byte ≡ 32_000_000_000 * byte = ap (λ n. n * byte) bounds.max_effective_balance in
     gives_then (λ n. Unit {0}) (λ b. Unit {0}) (checked_mul (effective (candidate preset indices seed i)) 255) _ (gives_more (λ c. c ≡ effective (candidate preset indices seed i) * 255) (λ n. Unit {0}) _ (λ c h. tt) (mul_gives (effective (candidate preset indices seed i)) 255 (omega arith))) (λ weighed any.

@@ -35,7 +35,7 @@ use Rattle.spec_drill.proofs.Slots.{next_place, few_slots, slots_give}
 use Rattle.spec_drill.proofs.Committees.{committee_size, count_is, size_is, committees_small, length_replicate, all_members}
 use Rattle.spec_drill.proofs.Block.{root_is_same}
 use Rattle.spec_drill.proofs.Voting.{not_zero}
-use Rattle.spec_drill.proofs.Bytes.{replicate_fits}
+use Rattle.spec_state.proofs.Digests.{replicate_fits}
 use Rattle.spec_drill.proofs.Written.{IsSmallVote, data_within}
 use Rattle.beacon_types.specs.declared.checkpoint.Checkpoint.{Checkpoint}
 use Rattle.spec_epochs.specs.WeighJustificationAndFinalization.{justification_of}

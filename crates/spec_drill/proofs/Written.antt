@@ -19,7 +19,7 @@ use Rattle.spec_state.specs.declared.plain.PlainState.{PlainState}
 use Rattle.spec_drill.specs.Plan.{Plan, slot_digest, graffiti_in, graffiti_of}
 use Rattle.spec_drill.specs.MakeGenesis.{zero_eth1}
 use Rattle.spec_drill.specs.MakeBlock.{body_of, unrooted}
-use Rattle.spec_drill.proofs.Bytes.{hash_within, replicate_fits, zero_root_within}
+use Rattle.spec_state.proofs.Digests.{hash_within, replicate_fits, zero_root_within}
 
 -- ---- votes
 

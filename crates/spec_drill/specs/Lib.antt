@@ -3,6 +3,7 @@ pub mod MakeGenesis
 pub mod MakeVotes
 pub mod MakeBlock
 pub mod Make
+pub mod AsEvents
 pub mod Taken
 pub mod Maker
 pub mod inside
