@@ -14,7 +14,7 @@ use std::alloc::Global;
 use std::marker::Model;
 
 /// How many bytes the writing of a deposit has.
-const DEPOSIT_LEN: usize = 184;
+pub const DEPOSIT_LEN: usize = 184;
 
 /// The most deposits of a list (`2 ** DEPOSIT_CONTRACT_TREE_DEPTH`).
 const MAX_DEPOSITS: u64 = 1 << 32;

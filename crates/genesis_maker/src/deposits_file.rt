@@ -24,7 +24,7 @@ use std::alloc::Global;
 pub const MAX_DEPOSITS_LEN: usize = 1 << 30;
 
 /// How many bytes stand before the deposits: the magic, the fork version, the genesis time and the eth1 block's hash.
-const HEAD_LEN: usize = 48;
+pub const DEPOSITS_HEAD_LEN: usize = 48;
 
 /// What a file of deposits holds.
 #[derive(Drop)]
@@ -78,10 +78,10 @@ pub fn read_deposits_file(bytes: &[u8]) -> Result<DepositsFile<'_>, DepositsFaul
     if !has_magic(bytes) {
         return Err(DepositsFault::BadMagic);
     }
-    if bytes.len() < HEAD_LEN {
+    if bytes.len() < DEPOSITS_HEAD_LEN {
         return Err(DepositsFault::Torn);
     }
-    let (head, rest) = bytes.split_at(HEAD_LEN);
+    let (head, rest) = bytes.split_at(DEPOSITS_HEAD_LEN);
     match Deposits::of(rest) {
         Some(deposits) => Ok(DepositsFile {
             fork_version: array_of::<4>(&head[4..8]),

@@ -125,7 +125,7 @@ pub fn make_genesis(
     ensures preset { IfOk result (λ state. state.preset ≡ preset.now) }
     ensures writing { length deposits.entry * 184 ≤ 2 ^ 30 → IfOk result (λ state. HasWriting state) }
 {
-    given_in_range(&version, &eth1_block_hash);
+    given_in_range(version, &eth1_block_hash);
     let count = deposits.len();
     let start = state_before_deposits(alloc, preset, version, eth1_block_hash, time, count)?;
     made_from(alloc, start, deposits)

@@ -15,8 +15,10 @@ mod state_before_deposits;
 mod stops;
 
 pub use deposit_tree::DepositTree;
-pub use deposits::Deposits;
-pub use deposits_file::{DepositsFile, MAX_DEPOSITS_LEN, genesis_of_file, read_deposits_file};
+pub use deposits::{DEPOSIT_LEN, Deposits};
+pub use deposits_file::{
+    DEPOSITS_HEAD_LEN, DepositsFile, MAX_DEPOSITS_LEN, genesis_of_file, read_deposits_file,
+};
 pub use initialize_beacon_state_from_eth1::make_genesis;
 pub use layer::Layer;
 pub use stops::{DepositsStop, MakeStop};

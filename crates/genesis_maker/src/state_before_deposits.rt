@@ -2,7 +2,6 @@
 
 ghost use Rattle.std.specs.Prelude.{◌≡◌, ◌≤◌, ◌^◌, IfOk, replicate};
 ghost use Rattle.ssz_codec.specs.Basic.{bytes4, bytes32};
-ghost use Rattle.ssz_codec.specs.Lawful.{IsBytes};
 ghost use Rattle.bc_preset.specs.Presets.{IsPreset};
 ghost use Rattle.beacon_types.specs.declared.checkpoint.Checkpoint.{Checkpoint};
 ghost use Rattle.spec_genesis.specs.InitializeBeaconStateFromEth1.{empty_header, state_before_deposits, zero_checkpoint};
@@ -15,6 +14,7 @@ use beacon_types::{BeaconBlockHeader, Checkpoint, Eth1Data, Fork};
 use hash_tree::Root;
 use spec_state::PlainState;
 use ssz_codec::Items;
+use state_parts::{fork_in_range, root_in_range};
 use std::alloc::Global;
 
 /// The checkpoint of nothing.
@@ -52,6 +52,17 @@ fn empty_header() -> BeaconBlockHeader
     }
 }
 
+/// The fork that a genesis begins with.
+fn genesis_fork(version: [u8; 4]) -> Fork
+    ensures { result ≡ record { previous_version = version; current_version = version; epoch = 0 } }
+{
+    Fork {
+        previous_version: version,
+        current_version: version,
+        epoch: 0,
+    }
+}
+
 /// The fields of the state before so many deposits.
 #[tactic(auto, unfolding(spec_genesis::specs::InitializeBeaconStateFromEth1::state_before_deposits))]
 fn plain_before_deposits(
@@ -73,11 +84,7 @@ fn plain_before_deposits(
         genesis_time: time,
         genesis_validators_root: [0; 32],
         slot: 0,
-        fork: Fork {
-            previous_version: version,
-            current_version: version,
-            epoch: 0,
-        },
+        fork: genesis_fork(version),
         latest_block_header: empty_header(),
         block_roots,
         state_roots,
@@ -102,20 +109,14 @@ fn plain_before_deposits(
     })
 }
 
-/// Bytes are below 256.
-fn are_bytes(bytes: &[u8])
-    ensures { IsBytes bytes.now }
-{}
-
 /// What a genesis is given is bytes, as many as it wants. It does nothing when it runs.
-pub(crate) fn given_in_range(version: &[u8; 4], eth1_block_hash: &Root)
-    ensures version { bytes4.Within version.now }
+#[tactic(auto, unfolding(ssz_codec::specs::Layout::OffsetsFit))]
+pub(crate) fn given_in_range(version: [u8; 4], eth1_block_hash: &Root)
+    ensures version { bytes4.Within version }
     ensures hash { bytes32.Within eth1_block_hash.now }
 {
-    let _version = *version;
-    are_bytes(version);
-    let _hash = *eth1_block_hash;
-    are_bytes(eth1_block_hash);
+    fork_in_range(&genesis_fork(version));
+    root_in_range(eth1_block_hash);
 }
 
 /// The state before so many deposits.
@@ -132,6 +133,6 @@ pub(crate) fn state_before_deposits(
     ensures { IfOk result (λ state. state ≡ state_before_deposits preset.now version eth1_block_hash time count) }
 {
     let plain = plain_before_deposits(alloc, preset, version, eth1_block_hash, time, count)?;
-    given_in_range(&version, &eth1_block_hash);
+    given_in_range(version, &eth1_block_hash);
     State::from_plain(plain)
 }
