@@ -12,7 +12,8 @@ use Rattle.bc_words.specs.Outcome.{done, checked_mul, GivesBy, Stops, StopsExact
 use Rattle.bc_words.specs.declared.stop.Stop.{Stop}
 use Rattle.bc_words.specs.declared.stop.Stop.TheVariants as stops
 use Rattle.spec_state.specs.declared.plain.PlainState.{PlainState}
-use Rattle.spec_state.specs.Accessors.{epoch_committees, get_beacon_committee, get_committee_count_per_slot, get_current_epoch}
+use Rattle.spec_state.specs.Accessors.{get_beacon_committee, get_committee_count_per_slot, get_current_epoch}
+use Rattle.spec_state.specs.inside.EpochCommittees.{epoch_committees}
 use Rattle.duties.specs.Duties.{CommitteeDuty, committee_duties, current_proposers, duty_lists, get_duties, proposer_duties, slot_committees, table_committees}
 use Rattle.duties.specs.declared.duties.Duties.{Duties}
 use Rattle.duties.specs.declared.proposers.ProposerDuty.{ProposerDuty}
@@ -67,7 +68,7 @@ proposers_stop state epoch end same (stops.Limit bound) is fits h = rw (rw (slot
 proposers_stop state epoch end same stops.NoMemory is fits h = tt
 
 -- two functions that agree on numbers in a row
-flat_same : {A : Type 0} (f g : ℕ → List A) (a n : ℕ) → ((k : ℕ) → a ≤ k → k < a + n → f k ≡ g k) → flat_map f (range_with_len a n) ≡ flat_map g (range_with_len a n)
+pub flat_same : {A : Type 0} (f g : ℕ → List A) (a n : ℕ) → ((k : ℕ) → a ≤ k → k < a + n → f k ≡ g k) → flat_map f (range_with_len a n) ≡ flat_map g (range_with_len a n)
 flat_same f g a zero same = refl
 flat_same {A} f g a (suc n) same = ap₂ (λ (x y : List A). x ++ y) (same a (omega arith) (omega arith)) (flat_same f g (a + 1) n (λ k low high. same k (omega arith) (omega arith)))
 

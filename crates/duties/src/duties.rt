@@ -1,7 +1,9 @@
 //! The duties of an epoch of a state.
 
-ghost use Rattle.std.specs.Prelude.{◌≡◌, ◌<◌, ◌+◌, ◌*◌, ◌^◌, ◌≤◌};
+ghost use Rattle.std.specs.Prelude.{◌≡◌, ◌<◌, ◌+◌, ◌*◌, ◌^◌, ◌≤◌, IfOk};
 ghost use Rattle.bc_words.specs.Outcome.{GivesBy};
+ghost use Rattle.spec_state.specs.Misc.{compute_start_slot_at_epoch};
+ghost use Rattle.spec_state.specs.inside.EpochCommittees.{epoch_committees};
 ghost use Rattle.duties.specs.Duties.{AnswersDuties, current_proposers, duty_lists, duty_stop, get_duties};
 
 use crate::proposers::{ProposerDuty, proposers_of};
@@ -62,7 +64,8 @@ fn current_proposers(alloc: Global, state: &State, epoch: u64) -> Result<Vec<Pro
 /// The duties of an epoch whose proposers are known, or are not asked for.
 fn found(alloc: Global, state: &State, epoch: u64) -> Result<Duties, Stop>
     requires { epoch ≤ 2 ^ 61 + 1 }
-    ensures { GivesBy duty_lists result (get_duties state.now epoch) }
+    ensures exact { GivesBy duty_lists result (get_duties state.now epoch) }
+    ensures table { IfOk result (λ duties. (duties.first_slot ≡ compute_start_slot_at_epoch state.now.preset epoch) × (duties.committees ≡ epoch_committees state.now epoch)) }
 {
     let preset = state.preset();
     preset.bounds();
@@ -83,8 +86,10 @@ fn found(alloc: Global, state: &State, epoch: u64) -> Result<Duties, Stop>
 ///
 /// Refused as an overflow where the epoch's end doesn't fit in 64 bits; then by slot, each slot's first stop: as `NoActive`
 /// where nobody is active, as an overflow where a balance is too great to be weighed, limited where no candidate passes.
+/// `committees` is the table of the epoch's committees, from its first slot on.
 pub fn duties_of(alloc: Global, state: &State, epoch: u64) -> Result<Duties, DutyStop>
-    ensures { AnswersDuties state.now epoch result }
+    ensures answers { AnswersDuties state.now epoch result }
+    ensures table { IfOk result (λ duties. (duties.first_slot ≡ compute_start_slot_at_epoch state.now.preset epoch) × (duties.committees ≡ epoch_committees state.now epoch)) }
 {
     let current = current_epoch(state);
     if epoch != current && epoch != current + 1 {

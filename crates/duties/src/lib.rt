@@ -5,9 +5,11 @@
 #![tactic(auto)]
 
 mod duties;
+mod fault;
 mod law;
 mod proposers;
 
 pub use duties::{Duties, DutyStop, duties_of};
+pub use fault::DutiesFault;
 pub use law::validators_stand_once;
 pub use proposers::ProposerDuty;
