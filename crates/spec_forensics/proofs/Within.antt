@@ -94,9 +94,9 @@ with_pending_within s t a is = elim (chosen (a.content.target.epoch == get_curre
 ]
 
 -- the target is of the previous or the current epoch, and of the slot's
-record IsRecent (s : PlainState) (voted : AttestationData) : Type 0 where
-  target : (voted.target.epoch ≡ get_previous_epoch s) ⊎ (voted.target.epoch ≡ get_current_epoch s)
-  epoch : voted.target.epoch ≡ compute_epoch_at_slot s.preset voted.slot
+record IsRecent (s : PlainState) (content : AttestationData) : Type 0 where
+  target : (content.target.epoch ≡ get_previous_epoch s) ⊎ (content.target.epoch ≡ get_current_epoch s)
+  epoch : content.target.epoch ≡ compute_epoch_at_slot s.preset content.slot
 
 either_epoch : (s : PlainState) (epoch : ℕ) → ((epoch == get_previous_epoch s) || (epoch == get_current_epoch s)) ≡ true → (epoch ≡ get_previous_epoch s) ⊎ (epoch ≡ get_current_epoch s)
 either_epoch s epoch is = elim (or_cases (epoch == get_previous_epoch s) (epoch == get_current_epoch s) is) [
@@ -104,20 +104,20 @@ either_epoch s epoch is = elim (or_cases (epoch == get_previous_epoch s) (epoch 
   | inr current ↦ inr (eqb-true _ _ current)
 ]
 
-recent : (s : PlainState) (voted : AttestationData) (x : Unit {0}) → check_times s voted ≡ done x → IsRecent s voted
+recent : (s : PlainState) (content : AttestationData) (x : Unit {0}) → check_times s content ≡ done x → IsRecent s content
 unfolding check_times
-recent s voted x is =
-    let target = on_the_way (check ((voted.target.epoch == get_previous_epoch s) || (voted.target.epoch == get_current_epoch s)) AtTargetEpoch) _ x is in
-    let slot = on_the_way (check (voted.target.epoch == compute_epoch_at_slot s.preset voted.slot) AtSlotEpoch) _ x target.then_done in
+recent s content x is =
+    let target = on_the_way (check ((content.target.epoch == get_previous_epoch s) || (content.target.epoch == get_current_epoch s)) AtTargetEpoch) _ x is in
+    let slot = on_the_way (check (content.target.epoch == compute_epoch_at_slot s.preset content.slot) AtSlotEpoch) _ x target.then_done in
     record {
-      target = either_epoch s voted.target.epoch (check_holds _ AtTargetEpoch _ target.first);
+      target = either_epoch s content.target.epoch (check_holds _ AtTargetEpoch _ target.first);
       epoch = eqb-true _ _ (check_holds _ AtSlotEpoch _ slot.first);
     }
 
-seated : (s : PlainState) (voted : AttestationData) (bits : List Bool) (x : Unit {0}) → check_committee s voted bits ≡ done x → voted.index < get_committee_count_per_slot s voted.target.epoch
+seated : (s : PlainState) (content : AttestationData) (bits : List Bool) (x : Unit {0}) → check_committee s content bits ≡ done x → content.index < get_committee_count_per_slot s content.target.epoch
 unfolding check_committee
-seated s voted bits x is =
-    let index = on_the_way (check (nat_lt voted.index (get_committee_count_per_slot s voted.target.epoch)) AtIndex) _ x is in
+seated s content bits x is =
+    let index = on_the_way (check (nat_lt content.index (get_committee_count_per_slot s content.target.epoch)) AtIndex) _ x is in
     ltb-true _ _ (check_holds _ AtIndex _ index.first)
 
 record IsTaken (x y : PlainState) (attestation : Attestation) (proposer : ℕ) : Type 0 where
@@ -127,14 +127,14 @@ record IsTaken (x y : PlainState) (attestation : Attestation) (proposer : ℕ) :
 taken : (x y : PlainState) (attestation : Attestation) (proposer : ℕ) → process_attestation x attestation proposer ≡ done y → IsTaken x y attestation proposer
 unfolding process_attestation
 taken x y attestation proposer is =
-    let voted : AttestationData = attestation.content in
-    let times = on_the_way (check_times x voted) _ y is in
-    let committee = on_the_way (check_committee x voted attestation.aggregation_bits) _ y times.then_done in
-    let delay = on_the_way (checked_sub x.slot voted.slot) _ y committee.then_done in
-    let a : PendingAttestation = record { aggregation_bits = attestation.aggregation_bits; content = voted; inclusion_delay = delay.value; proposer_index = proposer } in
+    let content : AttestationData = attestation.content in
+    let times = on_the_way (check_times x content) _ y is in
+    let committee = on_the_way (check_committee x content attestation.aggregation_bits) _ y times.then_done in
+    let delay = on_the_way (checked_sub x.slot content.slot) _ y committee.then_done in
+    let a : PendingAttestation = record { aggregation_bits = attestation.aggregation_bits; content = content; inclusion_delay = delay.value; proposer_index = proposer } in
     let next = on_the_way (with_pending x a) _ y delay.then_done in
-    let some = on_the_way (check (not (length (get_attesting_indices x voted attestation.aggregation_bits) == 0)) AtEmpty) _ y next.then_done in
-    let timely = recent x voted times.value times.first in
+    let some = on_the_way (check (not (length (get_attesting_indices x content attestation.aggregation_bits) == 0)) AtEmpty) _ y next.then_done in
+    let timely = recent x content times.value times.first in
     record {
       within = subst (IsWithin x) (same_value next.value y some.then_done) (with_pending_within x next.value a next.first);
       was = record {
@@ -144,7 +144,7 @@ taken x y attestation proposer is =
         processed = is;
         attesters = refl;
         recent = elim timely.target [ inl e ↦ inl (sym timely.epoch ∙ e) | inr e ↦ inr (sym timely.epoch ∙ e) ];
-        index = subst (λ (e : ℕ). voted.index < get_committee_count_per_slot x e) timely.epoch (seated x voted attestation.aggregation_bits committee.value committee.first);
+        index = subst (λ (e : ℕ). content.index < get_committee_count_per_slot x e) timely.epoch (seated x content attestation.aggregation_bits committee.value committee.first);
       };
     }
 
@@ -152,19 +152,19 @@ taken x y attestation proposer is =
 moves : (s t : PlainState) (attestation : Attestation) → IsWithin s t → WasProcessed s attestation → WasProcessed t attestation
 unfolding get_attesting_indices
 moves s t attestation within was =
-    let voted : AttestationData = attestation.content in
-    let same : SameCommittees s t (compute_epoch_at_slot s.preset voted.slot) = at_epoch s t (compute_epoch_at_slot s.preset voted.slot) within was.recent in
-    let slot : compute_epoch_at_slot t.preset voted.slot ≡ compute_epoch_at_slot s.preset voted.slot = ap (λ (p : Preset). compute_epoch_at_slot p voted.slot) within.current.preset in
-    let count = same_count s t (compute_epoch_at_slot s.preset voted.slot) same in
-    let low : voted.index < get_committee_count_per_slot t (compute_epoch_at_slot s.preset voted.slot) = let i = was.index in omega arith in
+    let content : AttestationData = attestation.content in
+    let same : SameCommittees s t (compute_epoch_at_slot s.preset content.slot) = at_epoch s t (compute_epoch_at_slot s.preset content.slot) within was.recent in
+    let slot : compute_epoch_at_slot t.preset content.slot ≡ compute_epoch_at_slot s.preset content.slot = ap (λ (p : Preset). compute_epoch_at_slot p content.slot) within.current.preset in
+    let count = same_count s t (compute_epoch_at_slot s.preset content.slot) same in
+    let low : content.index < get_committee_count_per_slot t (compute_epoch_at_slot s.preset content.slot) = let i = was.index in omega arith in
     record {
       by = was.by;
       next = was.next;
       proposer = was.proposer;
       processed = was.processed;
-      attesters = was.attesters ∙ sym (ap (λ (committee : List ℕ). members_with_bits committee attestation.aggregation_bits) (same_committee s t voted.slot voted.index same));
+      attesters = was.attesters ∙ sym (ap (λ (committee : List ℕ). members_with_bits committee attestation.aggregation_bits) (same_committee s t content.slot content.index same));
       recent = elim was.recent [ inl e ↦ inl (slot ∙ e ∙ sym (same_previous s t within.epoch)) | inr e ↦ inr (slot ∙ e ∙ sym within.epoch) ];
-      index = subst (λ (e : ℕ). voted.index < get_committee_count_per_slot t e) (sym slot) low;
+      index = subst (λ (e : ℕ). content.index < get_committee_count_per_slot t e) (sym slot) low;
     }
 
 -- and backwards

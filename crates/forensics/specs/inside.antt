@@ -1,0 +1,4 @@
+pub mod Added
+pub mod BlockVotes
+pub mod Kept
+pub mod Whole

@@ -1,0 +1,14 @@
+-- The entries of a map as kept blocks, and kept blocks with one more.
+use Rattle.std.specs.Prelude.{ℕ, List, [], ◌∷◌, ◌++◌, map, if◌then◌else◌}
+use Rattle.spec_fork_choice.specs.Store.{KeptBlock, is_kept}
+use Rattle.forensics.specs.declared.kept_blocks.Kept.{Kept}
+
+abbrev pub kept_block : List ℕ × Kept → KeptBlock
+kept_block e = record { root = e.0; block = e.1.block; state = e.1.state.value }
+
+unfoldable pub kept_blocks : List (List ℕ × Kept) → List KeptBlock
+kept_blocks entries = map kept_block entries
+
+-- a block more, unless its root is kept
+unfoldable pub with_kept : List KeptBlock → KeptBlock → List KeptBlock
+with_kept blocks kept = if is_kept blocks kept.root then blocks else blocks ++ kept ∷ []

@@ -1,0 +1,36 @@
+-- What is kept of a book, and when it stands for one.
+use Rattle.std.specs.Prelude.{◌≡◌, ℕ, List, ◌∷◌, ◌++◌, length, if◌then◌else◌, ◌==◌}
+use Rattle.bc_preset.specs.declared.configuration.ConfigValues.{ConfigValues}
+use Rattle.spec_state.specs.declared.plain.PlainState.{PlainState}
+use Rattle.spec_forensics.specs.Histories.{AcceptedBlock, IsHistory}
+use Rattle.vote_spans.specs.Carried.{Carried, Held, Holds}
+use Rattle.forensics.specs.Books.{IsBeginning}
+use Rattle.forensics.specs.inside.BlockVotes.{carried_by}
+
+-- one history on its genesis
+pub record PlainHistory : Type 0 where
+  pub genesis : PlainState
+  pub blocks : List AcceptedBlock
+
+unfoldable pub with_latest : PlainHistory → AcceptedBlock → PlainHistory
+with_latest history b = record history { blocks = b ∷ history.blocks }
+
+-- the attestations of both histories, those of the first before those of the second
+unfoldable pub carried_in : List AcceptedBlock → List AcceptedBlock → List Carried
+carried_in first second = carried_by 0 first ++ carried_by 1 second
+
+-- Two histories on one genesis, whose votes are held
+pub record IsBook (config : ConfigValues) (first second : PlainHistory) (votes : Held) : Type 0 where
+  pub one_genesis : second.genesis ≡ first.genesis
+  pub beginning : IsBeginning first.genesis
+  pub first_is : IsHistory config first.genesis first.blocks
+  pub second_is : IsHistory config first.genesis second.blocks
+  pub holds : Holds votes (carried_in first.blocks second.blocks)
+  pub validators : length votes.spans.spans ≡ length first.genesis.validators
+
+-- the histories with a block more in the one with a number
+unfoldable pub with_first : ℕ → PlainHistory → AcceptedBlock → PlainHistory
+with_first which history b = if which == 0 then with_latest history b else history
+
+unfoldable pub with_second : ℕ → PlainHistory → AcceptedBlock → PlainHistory
+with_second which history b = if which == 0 then history else with_latest history b
