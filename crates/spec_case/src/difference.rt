@@ -1,0 +1,78 @@
+//! The first difference between what the calls give and what a case expects, in the order of the fields.
+
+mod lists;
+mod parts;
+mod states;
+
+use crate::verdict::Verdict;
+use anyhow::Result;
+pub use states::compare_states;
+use std::alloc::Global;
+
+/// The first difference that was noted.
+#[derive(Drop)]
+pub struct Difference {
+    alloc: Global,
+    first: Option<String>,
+}
+
+impl Difference {
+    /// None is noted yet.
+    pub fn new(alloc: Global) -> Difference {
+        Difference { alloc, first: None }
+    }
+
+    /// What becomes of the case.
+    pub fn verdict(self) -> Verdict {
+        match self.first {
+            Some(first) => Verdict::Failed(first),
+            None => Verdict::Passed,
+        }
+    }
+
+    /// Notes a difference, where none is noted yet.
+    fn note(&mut self, text: String) {
+        if self.first.is_none() {
+            self.first = Some(text);
+        }
+    }
+
+    /// Notes where two numbers differ.
+    pub fn number(&mut self, name: &str, ours: u64, theirs: u64) -> Result<()> {
+        if ours != theirs {
+            self.note(format!(in self.alloc; "{name}: {ours}, and not {theirs}")?);
+        }
+        Ok(())
+    }
+
+    /// Notes where two strings of bytes differ.
+    pub fn bytes(&mut self, name: &str, ours: &[u8], theirs: &[u8]) -> Result<()> {
+        if ours != theirs {
+            let ours = hex::encode(self.alloc, ours)?;
+            let theirs = hex::encode(self.alloc, theirs)?;
+            self.note(format!(in self.alloc; "{name}: 0x{ours}, and not 0x{theirs}")?);
+        }
+        Ok(())
+    }
+
+    /// Notes where two truths differ.
+    pub fn truth(&mut self, name: &str, ours: bool, theirs: bool) -> Result<()> {
+        if ours != theirs {
+            self.note(format!(in self.alloc; "{name}: {ours}, and not {theirs}")?);
+        }
+        Ok(())
+    }
+
+    /// Notes where two lists of numbers differ: in length, or at the first place where they do.
+    pub fn numbers(&mut self, name: &str, ours: &[u64], theirs: &[u64]) -> Result<()> {
+        let length = format!(in self.alloc; "length of {name}")?;
+        self.number(length.as_str(), ours.len() as u64, theirs.len() as u64)?;
+        for (index, (one, other)) in ours.iter().zip(theirs.iter()).enumerate() {
+            if one != other {
+                let place = format!(in self.alloc; "{name}[{index}]")?;
+                return self.number(place.as_str(), *one, *other);
+            }
+        }
+        Ok(())
+    }
+}

@@ -1,0 +1,77 @@
+//! The parts of epoch processing, each by its published name without `process_` (beacon-chain.md, "Epoch processing").
+
+use crate::case::Case;
+use crate::verdict::{Outside, Verdict, judged};
+use anyhow::Result;
+use balance_totals::{committees_of_epoch, current_epoch, previous_epoch};
+use bc_preset::Config;
+use bc_words::Stop;
+use beacon_state::State;
+use epoch_close::process_effective_balance_updates::process_effective_balances;
+use epoch_close::process_eth1_data_reset::process_eth1_reset;
+use epoch_close::process_historical_roots_update::process_historical_roots;
+use epoch_close::process_participation_record_updates::process_rotation;
+use epoch_close::process_randao_mixes_reset::process_randao_reset;
+use epoch_close::process_slashings::process_slashings;
+use epoch_close::process_slashings_reset::process_slashings_reset;
+use registry_queue::process_registry_updates::process_registry;
+use std::alloc::Global;
+use std::rt::Files;
+use transition::{is_sound, is_sound_within_epoch};
+
+/// Justifies what the votes of the state's two epochs are enough for. None where the state isn't sound.
+fn justify(alloc: Global, state: &mut State) -> Result<Option<Result<(), Stop>>> {
+    if !is_sound(alloc, state)? {
+        return Ok(None);
+    }
+    let previous = committees_of_epoch(alloc, state, previous_epoch(state))?;
+    let current = committees_of_epoch(alloc, state, current_epoch(state))?;
+    Ok(Some(justification::process_justification(alloc, state, &previous, &current)))
+}
+
+/// Pays what the votes of the previous epoch bring and cost. None where the state isn't sound.
+fn pay(alloc: Global, state: &mut State) -> Result<Option<Result<(), Stop>>> {
+    if !is_sound_within_epoch(alloc, state)? {
+        return Ok(None);
+    }
+    let previous = committees_of_epoch(alloc, state, previous_epoch(state))?;
+    Ok(Some(epoch_rewards::process_rewards(alloc, state, &previous)))
+}
+
+/// A part that may be given any state. None where there is none of this name.
+fn process(
+    alloc: Global,
+    state: &mut State,
+    handler: &str,
+    config: &Config,
+) -> Option<Result<(), Stop>> {
+    match handler {
+        "registry_updates" => Some(process_registry(alloc, state, config)),
+        "slashings" => Some(process_slashings(alloc, state)),
+        "eth1_data_reset" => Some(process_eth1_reset(state)),
+        "effective_balance_updates" => Some(process_effective_balances(alloc, state)),
+        "slashings_reset" => Some(process_slashings_reset(state)),
+        "randao_mixes_reset" => Some(process_randao_reset(state)),
+        "historical_roots_update" => Some(process_historical_roots(state)),
+        "participation_record_updates" => Some(process_rotation(state)),
+        _ => None,
+    }
+}
+
+/// Runs a case of `epoch_processing`.
+pub fn run(rt: &(impl Files + AllocGlobal), case: &Case, handler: &str) -> Result<Verdict> {
+    let alloc = rt.alloc();
+    let mut state = case.state(rt, "pre")?;
+    let (outcome, otherwise) = match handler {
+        "justification_and_finalization" => (justify(alloc, &mut state)?, Outside::Unsound),
+        "rewards_and_penalties" => (pay(alloc, &mut state)?, Outside::Unsound),
+        _ => (
+            process(alloc, &mut state, handler, case.config()),
+            Outside::Handler,
+        ),
+    };
+    match outcome {
+        Some(outcome) => judged(rt, case, &state, outcome),
+        None => Ok(Verdict::Outside(otherwise)),
+    }
+}

@@ -1,0 +1,61 @@
+//! Gives one case of the published consensus tests to the calls that the blocks of `beacon` take, and prints what became of it.
+//!
+//! The words are the configuration's file, the runner, the handler and the case's folder. The folder has each container's bytes as
+//! `NAME.ssz`, and in the file `given` what the case's YAML files say, one `KEY VALUE` a line. `tools/spec_tests/run` unpacks cases so.
+//!
+//! The line is `passed`, `passed: refused NUMBER NAME`, `failed: DIFFERENCE` or `outside: REASON`, where a condition of the calls isn't met. Status 0
+//! says that there is a line.
+#![tactic(auto)]
+
+mod blocks;
+mod case;
+mod difference;
+mod epoch_processing;
+mod genesis;
+mod operations;
+mod rewards;
+mod shuffling_core;
+mod slots;
+mod ssz_static;
+mod verdict;
+
+use crate::case::Case;
+use crate::verdict::{Outside, Verdict};
+use anyhow::{Context, Result};
+use std::env;
+use std::rt::Files;
+
+/// Runs the case by its runner and handler.
+fn run(
+    rt: &(impl Files + AllocGlobal),
+    case: &Case,
+    runner: &str,
+    handler: &str,
+) -> Result<Verdict> {
+    match runner {
+        "operations" => operations::run(rt, case, handler),
+        "epoch_processing" => epoch_processing::run(rt, case, handler),
+        "sanity" if handler == "slots" => slots::run(rt, case),
+        "sanity" | "finality" | "random" => blocks::run(rt, case),
+        "rewards" => rewards::run(rt, case),
+        "shuffling" => shuffling_core::run(rt.alloc(), case),
+        "ssz_static" => ssz_static::run(rt, case, handler),
+        "genesis" => genesis::run(rt, case, handler),
+        _ => Ok(Verdict::Outside(Outside::Runner)),
+    }
+}
+
+fn main(rt: HostRuntime) -> Result<()> {
+    let mut words = env::args(&rt)?;
+    let _program = words.next();
+    let config = words
+        .next()
+        .context("CONFIG RUNNER HANDLER FOLDER are wanted")?;
+    let runner = words.next().context("RUNNER HANDLER FOLDER are wanted")?;
+    let handler = words.next().context("HANDLER FOLDER are wanted")?;
+    let folder = words.next().context("FOLDER is wanted")?;
+    let case = Case::load(&rt, config.as_str(), folder.as_str())?;
+    let verdict = run(&rt, &case, runner.as_str(), handler.as_str())?;
+    println!(rt; "{verdict}")?;
+    Ok(())
+}

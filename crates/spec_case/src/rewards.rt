@@ -1,0 +1,130 @@
+//! The five parts of rewards and penalties (beacon-chain.md, "Rewards and penalties").
+
+ghost use Rattle.std.specs.Prelude.{◌≡◌};
+ghost use Rattle.spec_state.specs.Accessors.{get_previous_epoch};
+ghost use Rattle.spec_state.specs.inside.EpochCommittees.{epoch_committees};
+ghost use Rattle.spec_state.specs.Soundness.{IsSoundWithinEpoch};
+
+use crate::case::Case;
+use crate::difference::Difference;
+use crate::verdict::{Outside, Verdict, not_accepted};
+use anyhow::Result;
+use balance_totals::{committees_of_epoch, previous_epoch};
+use bc_words::Stop;
+use beacon_state::State;
+use committees::EpochCommittees;
+use epoch_rewards::{
+    Deltas, head_deltas, inactivity_deltas, inclusion_deltas, source_deltas, target_deltas,
+};
+use ssz_codec::{Field, Items, cut, read_list};
+use std::alloc::Global;
+use std::rt::Files;
+use transition::is_sound_within_epoch;
+
+/// The most validators that a registry has (`VALIDATOR_REGISTRY_LIMIT`).
+const VALIDATOR_REGISTRY_LIMIT: u64 = 1 << 40;
+
+/// A part of rewards and penalties.
+#[derive(Clone, Copy)]
+enum Part {
+    Source,
+    Target,
+    Head,
+    InclusionDelay,
+    InactivityPenalty,
+}
+
+/// All parts.
+const PARTS: [Part; 5] = [
+    Part::Source,
+    Part::Target,
+    Part::Head,
+    Part::InclusionDelay,
+    Part::InactivityPenalty,
+];
+
+impl Part {
+    /// The name of the case's container.
+    fn name(self) -> &'static str {
+        match self {
+            Part::Source => "source_deltas",
+            Part::Target => "target_deltas",
+            Part::Head => "head_deltas",
+            Part::InclusionDelay => "inclusion_delay_deltas",
+            Part::InactivityPenalty => "inactivity_penalty_deltas",
+        }
+    }
+
+    /// What it gives.
+    fn deltas(
+        self,
+        alloc: Global,
+        state: &State,
+        previous: &EpochCommittees,
+    ) -> Result<Deltas, Stop>
+        requires sound { IsSoundWithinEpoch state.now }
+        requires committees { previous.now ≡ epoch_committees state.now (get_previous_epoch state.now) }
+    {
+        match self {
+            Part::Source => source_deltas(alloc, state, previous),
+            Part::Target => target_deltas(alloc, state, previous),
+            Part::Head => head_deltas(alloc, state, previous),
+            Part::InclusionDelay => inclusion_deltas(alloc, state, previous),
+            Part::InactivityPenalty => inactivity_deltas(alloc, state, previous),
+        }
+    }
+}
+
+/// Notes where numbers are others than those whose writing these bytes are.
+fn compare_numbers(
+    alloc: Global,
+    name: &str,
+    ours: &Items<u64>,
+    bytes: &[u8],
+    difference: &mut Difference,
+) -> Result<()> {
+    let theirs = read_list(alloc, bytes, 8, VALIDATOR_REGISTRY_LIMIT)?;
+    difference.numbers(name, ours.as_slice(), theirs.as_slice())
+}
+
+/// Notes where deltas are others than those whose writing these bytes are.
+fn compare(
+    alloc: Global,
+    part: Part,
+    ours: &Deltas,
+    bytes: &[u8],
+    difference: &mut Difference,
+) -> Result<()> {
+    let mut parts: [&[u8]; 2] = [&[], &[]];
+    cut(bytes, &[Field::Variable, Field::Variable], &mut parts)?;
+    let name = part.name();
+    let rewards = format!(in alloc; "{name}.rewards")?;
+    compare_numbers(alloc, rewards.as_str(), &ours.rewards, parts[0], difference)?;
+    let penalties = format!(in alloc; "{name}.penalties")?;
+    compare_numbers(
+        alloc,
+        penalties.as_str(),
+        &ours.penalties,
+        parts[1],
+        difference,
+    )
+}
+
+/// Runs a case of `rewards`.
+pub fn run(rt: &(impl Files + AllocGlobal), case: &Case) -> Result<Verdict> {
+    let alloc = rt.alloc();
+    let state = case.state(rt, "pre")?;
+    if !is_sound_within_epoch(alloc, &state)? {
+        return Ok(Verdict::Outside(Outside::Unsound));
+    }
+    let previous = committees_of_epoch(alloc, &state, previous_epoch(&state))?;
+    let mut difference = Difference::new(alloc);
+    for part in PARTS {
+        let bytes = case.bytes(rt, part.name())?;
+        match part.deltas(alloc, &state, &previous) {
+            Ok(deltas) => compare(alloc, part, &deltas, bytes.as_slice(), &mut difference)?,
+            Err(stop) => return not_accepted(stop),
+        }
+    }
+    Ok(difference.verdict())
+}
