@@ -1,11 +1,14 @@
 //! What a status says to a person: its name, the file, the place in it, and the cause.
 
-use bc_preset::Preset;
 use bc_preset::constants::{MAX_PROPOSER_CANDIDATES, MAX_SLOTS};
-use bc_words::{ClashKind, Limit};
+use bc_preset::{ConfigFault, Key, Preset};
+use bc_words::{ClashKind, Limit, Refusal};
 use beacon_node::Status;
 use beacon_state::shortest_state;
 use command_words::{COMMANDS, Command};
+use duties::DutiesFault;
+use genesis_maker::{DEPOSIT_LEN, DEPOSITS_HEAD_LEN};
+use spec_genesis::DepositsFault;
 use spec_state::GenesisFault;
 use std::fmt;
 use std::io::Error;
@@ -32,15 +35,65 @@ pub struct Explanation<'a, 'b> {
     pub cause: Option<Cause<'b>>,
     /// The event that was read or whose line was written, where the record was opened.
     pub event: Option<u64>,
-    /// How many bytes were taken of the genesis file, where it was opened.
+    /// How many bytes were taken of the second file, which holds a state or deposits, where it was opened.
     pub genesis_len: Option<usize>,
 }
 
-/// The names of the three files, or placeholders where the words are no command.
-fn names_in<'a>(command: &Option<Command<'a>>) -> (&'a str, &'a str, &'a str) {
-    match command {
-        Some(Command::Replay(files)) => (files.config, files.genesis, files.events),
-        None => ("CONFIG", "GENESIS", "RECORD"),
+/// Where a genesis or events are from. It prints a file's name in quotes.
+#[derive(Clone, Copy)]
+enum Origin<'a> {
+    /// The file of this name.
+    File(&'a str),
+    /// What the program makes itself.
+    Made(&'a str),
+}
+
+impl fmt::Display for Origin<'_> {
+    fn fmt<W: fmt::Write>(&self, f: &mut fmt::Formatter<W>) -> fmt::Result {
+        match self {
+            Origin::File(name) => write!(f, "{name:?}"),
+            Origin::Made(what) => write!(f, "{what}"),
+        }
+    }
+}
+
+/// What a command reads or makes: the configuration, the genesis or what stands in its place, and the events.
+#[derive(Clone, Copy)]
+struct Origins<'a> {
+    config: Origin<'a>,
+    genesis: Origin<'a>,
+    events: Origin<'a>,
+}
+
+/// What the command reads or makes, or placeholders where it has none or the words are no command.
+fn origins_of<'a>(command: &Option<Command<'a>>) -> Origins<'a> {
+    let (config, genesis, events) = match command {
+        Some(Command::Replay(files)) => (
+            files.config,
+            Origin::File(files.genesis),
+            Origin::File(files.events),
+        ),
+        Some(Command::Drill(words)) => (
+            words.config,
+            Origin::Made("the made genesis"),
+            Origin::Made("the made chain"),
+        ),
+        Some(Command::Genesis(files)) => (
+            files.config,
+            Origin::File(files.deposits),
+            Origin::File("RECORD"),
+        ),
+        Some(Command::Duties(words)) => (
+            words.config,
+            Origin::File(words.state),
+            Origin::File("RECORD"),
+        ),
+        None => ("CONFIG", Origin::File("GENESIS"), Origin::File("RECORD")),
+    };
+    Origins {
+        config: Origin::File(config),
+        genesis,
+        events,
     }
 }
 
@@ -79,16 +132,26 @@ fn write_cause<W: fmt::Write>(
     }
 }
 
-/// A fault of the genesis state; where the file holds no state, its size beside those that a state has at least.
-fn write_genesis<W: fmt::Write>(
+/// A fault of the configuration. A chain is made only where its validators aren't ejected, whatever else the key allows.
+fn write_config<W: fmt::Write>(
     f: &mut fmt::Formatter<W>,
-    name: &str,
-    part: GenesisFault,
-    len: Option<usize>,
+    command: &Option<Command<'_>>,
+    config: Origin<'_>,
+    fault: ConfigFault,
 ) -> fmt::Result {
-    write!(f, "Genesis: {name:?}: {part}")?;
-    match (part, len) {
-        (GenesisFault::NotAWriting, Some(len)) => {
+    match (command, fault) {
+        (Some(Command::Drill(_)), ConfigFault::OutOfRange(Key::EjectionBalance)) => write!(
+            f,
+            "Config: {config}: EJECTION_BALANCE is out of range: expected less than 32000000000, the balance of the made validators"
+        ),
+        _ => write!(f, "Config: {config}: {fault}"),
+    }
+}
+
+/// The size of a file that holds no state, where it is known, beside those that a state has at least.
+fn write_sizes<W: fmt::Write>(f: &mut fmt::Formatter<W>, len: Option<usize>) -> fmt::Result {
+    match len {
+        Some(len) => {
             let minimal = shortest_state(&Preset::minimal());
             let mainnet = shortest_state(&Preset::mainnet());
             write!(
@@ -96,18 +159,82 @@ fn write_genesis<W: fmt::Write>(
                 ": the file has {len} bytes, and a state has at least {minimal} under the preset minimal and {mainnet} under mainnet"
             )
         }
+        None => Ok(()),
+    }
+}
+
+/// A fault of the genesis state; where the file holds no state, its size beside those that a state has at least.
+fn write_genesis<W: fmt::Write>(
+    f: &mut fmt::Formatter<W>,
+    name: Origin<'_>,
+    part: GenesisFault,
+    len: Option<usize>,
+) -> fmt::Result {
+    write!(f, "Genesis: {name}: {part}")?;
+    match part {
+        GenesisFault::NotAWriting => write_sizes(f, len),
         _ => Ok(()),
     }
 }
 
-/// A bound of this program that an event meets.
-fn write_limit<W: fmt::Write>(
+/// Where a file of deposits that has so many bytes ends too early.
+fn write_torn<W: fmt::Write>(f: &mut fmt::Formatter<W>, len: usize) -> fmt::Result {
+    match len.checked_sub(DEPOSITS_HEAD_LEN) {
+        Some(rest) => {
+            let (deposit, part) = (rest / DEPOSIT_LEN, rest % DEPOSIT_LEN);
+            write!(
+                f,
+                ": it has {len} bytes, the last {part} of which are of deposit {deposit}, and a deposit has {DEPOSIT_LEN}"
+            )
+        }
+        None => write!(
+            f,
+            ": it has {len} bytes, and its head has {DEPOSITS_HEAD_LEN}"
+        ),
+    }
+}
+
+/// A fault of a file of deposits, with its length or the place of the deposit. Deposits count from 0.
+fn write_deposits<W: fmt::Write>(
     f: &mut fmt::Formatter<W>,
-    record: &str,
-    event: u32,
-    limit: Limit,
+    deposits: Origin<'_>,
+    fault: DepositsFault,
+    len: Option<usize>,
 ) -> fmt::Result {
-    write!(f, "Limit: {record:?}: event {event}: ")?;
+    write!(f, "Deposits: {deposits}: {fault}")?;
+    match (fault, len) {
+        (DepositsFault::Torn, Some(len)) => write_torn(f, len),
+        (DepositsFault::Overflow(deposit), _) => {
+            let before = deposit.saturating_mul(DEPOSIT_LEN as u64);
+            let begin = before.saturating_add(DEPOSITS_HEAD_LEN as u64);
+            write!(
+                f,
+                ": the deposit stands behind the file's first {begin} bytes"
+            )
+        }
+        _ => Ok(()),
+    }
+}
+
+/// Where a bound of this program was met: the event of the record, or the epoch of the state.
+fn write_place<W: fmt::Write>(
+    f: &mut fmt::Formatter<W>,
+    command: &Option<Command<'_>>,
+    event: u32,
+) -> fmt::Result {
+    let Origins {
+        genesis,
+        events,
+        ..
+    } = origins_of(command);
+    match command {
+        Some(Command::Duties(words)) => write!(f, "Limit: {genesis}: epoch {}: ", words.epoch),
+        _ => write!(f, "Limit: {events}: event {event}: "),
+    }
+}
+
+/// A bound of this program.
+fn write_limit<W: fmt::Write>(f: &mut fmt::Formatter<W>, limit: Limit) -> fmt::Result {
     match limit {
         Limit::Slots(slots) => write!(
             f,
@@ -120,18 +247,51 @@ fn write_limit<W: fmt::Write>(
     }
 }
 
+/// What a refusal of duties means.
+fn write_refusal<W: fmt::Write>(f: &mut fmt::Formatter<W>, refusal: Refusal) -> fmt::Result {
+    match refusal {
+        Refusal::NoActive => write!(f, ": nobody is active, so that no one can propose"),
+        Refusal::Overflow => write!(
+            f,
+            ": the epoch's end, or the weight of a candidate's balance, doesn't fit in 64 bits"
+        ),
+        _ => Ok(()),
+    }
+}
+
+/// Why the duties of an epoch can't be told: of the state, with the file's size where it holds none, or of the epoch.
+fn write_duties<W: fmt::Write>(
+    f: &mut fmt::Formatter<W>,
+    command: &Option<Command<'_>>,
+    fault: DutiesFault,
+    len: Option<usize>,
+) -> fmt::Result {
+    let state = origins_of(command).genesis;
+    match (fault, command) {
+        (DutiesFault::Epoch | DutiesFault::Refused(_), Some(Command::Duties(words))) => {
+            write!(f, "Duties: {state}: epoch {}: {fault}", words.epoch)?;
+        }
+        _ => write!(f, "Duties: {state}: {fault}")?,
+    }
+    match fault {
+        DutiesFault::NotAWriting => write_sizes(f, len),
+        DutiesFault::Refused(refusal) => write_refusal(f, refusal),
+        DutiesFault::TooLong | DutiesFault::Unsound | DutiesFault::Epoch => Ok(()),
+    }
+}
+
 /// How the root of a block that would be accepted is no name for it alone. Event 0 is the genesis block.
 fn write_clash<W: fmt::Write>(
     f: &mut fmt::Formatter<W>,
-    genesis: &str,
-    record: &str,
+    genesis: Origin<'_>,
+    events: Origin<'_>,
     event: u32,
     kind: ClashKind,
 ) -> fmt::Result {
     if event == 0 {
-        write!(f, "Clash: {genesis:?}: the genesis block: ")?;
+        write!(f, "Clash: {genesis}: the genesis block: ")?;
     } else {
-        write!(f, "Clash: {record:?}: event {event}: ")?;
+        write!(f, "Clash: {events}: event {event}: ")?;
     }
     match kind {
         ClashKind::ZeroBlock => write!(f, "the block's root is zero"),
@@ -149,22 +309,31 @@ fn write_clash<W: fmt::Write>(
 
 impl fmt::Display for Explanation<'_, '_> {
     fn fmt<W: fmt::Write>(&self, f: &mut fmt::Formatter<W>) -> fmt::Result {
-        let (config, genesis, record) = names_in(&self.command);
+        let Origins {
+            config,
+            genesis,
+            events,
+        } = origins_of(&self.command);
         match self.status {
-            Status::Done => write!(f, "Done: {record:?} was read to its end"),
+            Status::Done => write!(f, "Done: {events}: to the end"),
             Status::Words => write_words(f, self.wrong),
-            Status::Config(fault) => write!(f, "Config: {config:?}: {fault}"),
+            Status::Config(fault) => write_config(f, &self.command, config, *fault),
             Status::Genesis(part) => write_genesis(f, genesis, *part, self.genesis_len),
             Status::Record {
                 event: 0,
                 fault,
                 ..
-            } => write!(f, "Record: {record:?}: at its head: {fault}"),
+            } => write!(f, "Record: {events}: at its head: {fault}"),
             Status::Record { event, fault, .. } => {
-                write!(f, "Record: {record:?}: event {event}: {fault}")
+                write!(f, "Record: {events}: event {event}: {fault}")
             }
-            Status::Limit { event, limit, .. } => write_limit(f, record, *event, *limit),
-            Status::Clash { event, kind, .. } => write_clash(f, genesis, record, *event, *kind),
+            Status::Limit { event, limit, .. } => {
+                write_place(f, &self.command, *event)?;
+                write_limit(f, *limit)
+            }
+            Status::Clash { event, kind, .. } => write_clash(f, genesis, events, *event, *kind),
+            Status::Deposits(fault) => write_deposits(f, genesis, *fault, self.genesis_len),
+            Status::Duties(fault) => write_duties(f, &self.command, *fault, self.genesis_len),
             Status::ReadFault => write_cause(
                 f,
                 "ReadFault",

@@ -64,13 +64,17 @@ impl<'a, R: Eprint + Clock> Watch<'a, R> {
         }
     }
 
-    /// Shows the progress in place of what was shown before, with the slot of the head.
+    /// Shows the progress in place of what was shown before, with the slot of the head. Made events are read of no record.
     fn show(&self, slot: u64) {
         let events = self.events.get();
         let bytes = self.bytes.get();
-        let _ = eprint!(self.rt;
-            "\r{events} events, {bytes} bytes of the record, head at slot {slot}\x1b[K"
-        );
+        let _ = if bytes == 0 {
+            eprint!(self.rt; "\rhead at slot {slot}\x1b[K")
+        } else {
+            eprint!(self.rt;
+                "\r{events} events, {bytes} bytes of the record, head at slot {slot}\x1b[K"
+            )
+        };
         self.is_dirty.set(true);
     }
 

@@ -1,11 +1,13 @@
 //! The texts of the statuses.
 
 use crate::explanation::{Cause, Explanation};
-use bc_preset::ConfigFault;
-use bc_words::{ClashKind, Limit};
+use bc_preset::{ConfigFault, Key};
+use bc_words::{ClashKind, Limit, Refusal};
 use beacon_node::Status;
 use command_words::{Command, read_command};
+use duties::DutiesFault;
 use record_file::RecordFault;
+use spec_genesis::DepositsFault;
 use spec_state::GenesisFault;
 use std::alloc::{AllocError, Global};
 use std::io::{Error, ErrorKind};
@@ -68,7 +70,7 @@ const TEXTS: &[(Status, Option<Option<&str>>, Option<u64>, &str)] = &[
         Status::Words,
         None,
         None,
-        "Words: no command is named; the commands are `replay CONFIG GENESIS RECORD`",
+        "Words: no command is named; the commands are `replay CONFIG GENESIS RECORD` `drill NUMBER CONFIG` `genesis CONFIG DEPOSITS` `duties CONFIG STATE EPOCH`",
     ),
     (Status::NoMemory, None, None, "NoMemory: memory ran out"),
     (
@@ -138,10 +140,98 @@ const TEXTS: &[(Status, Option<Option<&str>>, Option<u64>, &str)] = &[
     ),
 ];
 
-/// The command words.
-fn words_of(alloc: Global) -> Result<Vec<String>, AllocError> {
+/// The texts of statuses of `drill 0 c`.
+const DRILL_TEXTS: &[(Status, Option<Option<&str>>, Option<u64>, &str)] = &[
+    (
+        Status::Config(ConfigFault::OutOfRange(Key::EjectionBalance)),
+        None,
+        None,
+        "Config: \"c\": EJECTION_BALANCE is out of range: expected less than 32000000000, the balance of the made validators",
+    ),
+    (
+        Status::Limit {
+            which: 0,
+            event: 6,
+            limit: Limit::Proposer,
+        },
+        None,
+        None,
+        "Limit: the made chain: event 6: none of the first 65536 candidates for the slot's proposer passes",
+    ),
+    (
+        Status::Clash {
+            which: 0,
+            event: 0,
+            kind: ClashKind::ZeroState,
+            kept_which: 0,
+        },
+        None,
+        None,
+        "Clash: the made genesis: the genesis block: the block's state root is zero",
+    ),
+];
+
+/// The texts of faults of the deposits of `genesis c d`, where the file has so many bytes.
+const DEPOSITS_TEXTS: &[(Status, usize, &str)] = &[
+    (
+        Status::Deposits(DepositsFault::TooLong),
+        1_073_741_825,
+        "Deposits: \"d\": the file has more than 1073741824 bytes",
+    ),
+    (
+        Status::Deposits(DepositsFault::BadMagic),
+        2,
+        "Deposits: \"d\": the file does not begin with BCD1",
+    ),
+    (
+        Status::Deposits(DepositsFault::Torn),
+        16,
+        "Deposits: \"d\": the file ends within its head or within a deposit: it has 16 bytes, and its head has 48",
+    ),
+    (
+        Status::Deposits(DepositsFault::Torn),
+        415,
+        "Deposits: \"d\": the file ends within its head or within a deposit: it has 415 bytes, the last 183 of which are of deposit 1, and a deposit has 184",
+    ),
+    (
+        Status::Deposits(DepositsFault::Overflow(1)),
+        416,
+        "Deposits: \"d\": the amount of deposit 1 does not fit into the balance of its key: the deposit stands behind the file's first 232 bytes",
+    ),
+];
+
+/// The texts of statuses of `duties c s 7`, where the state's file has 7056 bytes.
+const DUTIES_TEXTS: &[(Status, &str)] = &[
+    (
+        Status::Duties(DutiesFault::NotAWriting),
+        "Duties: \"s\": the bytes are no state: the file has 7056 bytes, and a state has at least 7057 under the preset minimal and 2687377 under mainnet",
+    ),
+    (
+        Status::Duties(DutiesFault::Unsound),
+        "Duties: \"s\": the state is not sound",
+    ),
+    (
+        Status::Duties(DutiesFault::Epoch),
+        "Duties: \"s\": epoch 7: the epoch is neither the state's current one nor the next",
+    ),
+    (
+        Status::Duties(DutiesFault::Refused(Refusal::NoActive)),
+        "Duties: \"s\": epoch 7: refused 8 NoActive: nobody is active, so that no one can propose",
+    ),
+    (
+        Status::Limit {
+            which: 0,
+            event: 0,
+            limit: Limit::Proposer,
+        },
+        "Limit: \"s\": epoch 7: none of the first 65536 candidates for the slot's proposer passes",
+    ),
+];
+
+/// Command words.
+fn words_of(alloc: Global, line: &str) -> Result<Vec<String>, AllocError> {
     let mut words = Vec::new(alloc);
-    for word in ["replay", "c", "g", "r"].iter() {
+    for word in line.split(' ') {
         words.push(String::from_str(alloc, word)?)?;
     }
     Ok(words)
@@ -163,10 +253,15 @@ fn cause_of<'a>(cause: Option<Option<&'a str>>, error: &'a Error) -> Option<Caus
     }
 }
 
-/// Whether the texts are those of the statuses of this command, where what failed was not found.
-fn texts_hold(alloc: Global, command: Command<'_>, error: &Error) -> bool {
+/// Whether these texts are those of the statuses of this command, where what failed was not found.
+fn texts_hold<'a, 'b>(
+    alloc: Global,
+    texts: &'a [(Status, Option<Option<&'b str>>, Option<u64>, &'a str)],
+    command: Command<'a>,
+    error: &'b Error,
+) -> bool {
     let mut all = true;
-    for (status, cause, event, text) in TEXTS.iter() {
+    for (status, cause, event, text) in texts.iter() {
         let explanation = Explanation {
             status,
             command: Some(command),
@@ -182,12 +277,80 @@ fn texts_hold(alloc: Global, command: Command<'_>, error: &Error) -> bool {
 
 #[test]
 fn texts(rt: HostRuntime) -> Result<(), Fail> {
-    let words = words_of(rt.alloc())?;
+    let words = words_of(rt.alloc(), "replay c g r")?;
     let error = Error::from(ErrorKind::NotFound);
     let command = read_command(rt.alloc(), &words)
         .ok()
         .expect(&rt, "a command");
-    let holds = texts_hold(rt.alloc(), command, &error);
+    let holds = texts_hold(rt.alloc(), TEXTS, command, &error);
+    assert!(rt; holds);
+    Ok(())
+}
+
+#[test]
+fn drill_texts(rt: HostRuntime) -> Result<(), Fail> {
+    let words = words_of(rt.alloc(), "drill 0 c")?;
+    let error = Error::from(ErrorKind::NotFound);
+    let command = read_command(rt.alloc(), &words)
+        .ok()
+        .expect(&rt, "a command");
+    let holds = texts_hold(rt.alloc(), DRILL_TEXTS, command, &error);
+    assert!(rt; holds);
+    Ok(())
+}
+
+/// Whether the texts are those of the faults of the deposits of this command.
+fn deposits_texts_hold(alloc: Global, command: Command<'_>) -> bool {
+    let mut all = true;
+    for (status, len, text) in DEPOSITS_TEXTS.iter() {
+        let explanation = Explanation {
+            status,
+            command: Some(command),
+            wrong: None,
+            cause: None,
+            event: None,
+            genesis_len: Some(*len),
+        };
+        all &= says(alloc, &explanation, text);
+    }
+    all
+}
+
+#[test]
+fn texts_of_deposits(rt: HostRuntime) -> Result<(), Fail> {
+    let words = words_of(rt.alloc(), "genesis c d")?;
+    let command = read_command(rt.alloc(), &words)
+        .ok()
+        .expect(&rt, "a command");
+    let holds = deposits_texts_hold(rt.alloc(), command);
+    assert!(rt; holds);
+    Ok(())
+}
+
+/// Whether the texts are those of the statuses of this command.
+fn duties_texts_hold(alloc: Global, command: Command<'_>) -> bool {
+    let mut all = true;
+    for (status, text) in DUTIES_TEXTS.iter() {
+        let explanation = Explanation {
+            status,
+            command: Some(command),
+            wrong: None,
+            cause: None,
+            event: None,
+            genesis_len: Some(7056),
+        };
+        all &= says(alloc, &explanation, text);
+    }
+    all
+}
+
+#[test]
+fn texts_of_duties(rt: HostRuntime) -> Result<(), Fail> {
+    let words = words_of(rt.alloc(), "duties c s 7")?;
+    let command = read_command(rt.alloc(), &words)
+        .ok()
+        .expect(&rt, "a command");
+    let holds = duties_texts_hold(rt.alloc(), command);
     assert!(rt; holds);
     Ok(())
 }

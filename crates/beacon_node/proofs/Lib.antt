@@ -6,3 +6,11 @@ pub mod Readers
 pub mod Outside
 pub mod Commands
 pub mod InMemory
+pub mod Drilled
+pub mod MakingGenesis
+pub mod Texts
+pub mod DutyLines
+pub mod DutyTables
+pub mod Soundness
+pub mod Whole
+pub mod Duties

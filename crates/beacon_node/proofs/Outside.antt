@@ -8,9 +8,9 @@ use Rattle.bc_outside.proofs.Keeping.{keeps_none, keeps_then, keeps_more, sink_k
 use Rattle.bc_words.specs.Events.{EventOutcome}
 use Rattle.bc_words.specs.declared.store_stop.StoreStop.{StoreStop}
 use Rattle.bc_words.specs.declared.store_stop.StoreStop.TheVariants as stores
-use Rattle.record_file.specs.Stops.{StopsBy}
-use Rattle.record_file.specs.declared.fault.FrameStop.{FrameStop}
-use Rattle.record_file.specs.declared.fault.FrameStop.TheVariants as frames
+use Rattle.record_file.specs.Stops.{SourceStopsBy}
+use Rattle.record_file.specs.declared.source.SourceStop.{SourceStop}
+use Rattle.record_file.specs.declared.source.SourceStop.TheVariants as sources
 use Rattle.spec_fork_choice.specs.Store.{Store}
 use Rattle.spec_fork_choice.specs.OnEvent.{Accepted}
 use Rattle.command_words.specs.Commands.{Command, command_of, names_of}
@@ -21,7 +21,7 @@ use Rattle.beacon_node.specs.declared.status.Status.TheVariants as statuses
 use Rattle.beacon_node.specs.Answers.{HasCauses, OutsideKeeps}
 use Rattle.beacon_node.specs.inside.GenesisAnswers.{no_genesis, no_store}
 use Rattle.beacon_node.specs.inside.Progress.{EndsAt}
-use Rattle.beacon_node.specs.inside.Statuses.{unread, unwritten, no_frame}
+use Rattle.beacon_node.specs.inside.Statuses.{unread, unwritten, no_event}
 
 rose_behind : (a b c : ℕ) → a ≤ b → Rose b c → Rose a c
 rose_behind a b c le (inl less) = inl (omega (arith, le, less))
@@ -75,10 +75,11 @@ pub unwritten_causes : (trouble : Trouble) {a b c d : ℕ} → HasCause {T = Uni
 unwritten_causes troubles.Failed h = record { read = λ is. cc; write = λ is. h.1 }
 unwritten_causes troubles.NoMemory h = no_fault statuses.NoMemory (λ is. cc) (λ is. cc)
 
-pub frame_causes : (events : ℕ) (stop : FrameStop) {a b c : ℕ} → StopsBy {T = Unit {0}} (Err stop) a b → HasCauses (no_frame events stop) a b c c
-frame_causes events (frames.Fault fault) h = record { read = λ is. cc; write = λ is. cc }
-frame_causes events frames.ReadFault h = record { read = λ is. h.1; write = λ is. cc }
-frame_causes events frames.NoMemory h = no_fault statuses.NoMemory (λ is. cc) (λ is. cc)
+pub source_causes : (stop : SourceStop) {a b c : ℕ} → SourceStopsBy {T = Unit {0}} (Err stop) a b → HasCauses (no_event stop) a b c c
+source_causes (sources.Fault event fault) h = record { read = λ is. cc; write = λ is. cc }
+source_causes (sources.Limit event bound) h = record { read = λ is. cc; write = λ is. cc }
+source_causes sources.ReadFault h = record { read = λ is. h.1; write = λ is. cc }
+source_causes sources.NoMemory h = no_fault statuses.NoMemory (λ is. cc) (λ is. cc)
 
 pub event_causes : (status : Status) (number : ℕ) (outcome : EventOutcome (Store × Accepted)) {a b c d : ℕ} → EndsAt status number outcome → HasCauses status a b c d
 event_causes (statuses.Limit which event limit) number outcome h = record { read = λ is. cc; write = λ is. cc }
@@ -89,6 +90,8 @@ event_causes statuses.Words number outcome h = absurd h
 event_causes (statuses.Config fault) number outcome h = absurd h
 event_causes (statuses.Genesis part) number outcome h = absurd h
 event_causes (statuses.Record which event fault) number outcome h = absurd h
+event_causes (statuses.Deposits fault) number outcome h = absurd h
+event_causes (statuses.Duties fault) number outcome h = absurd h
 event_causes statuses.ReadFault number outcome h = absurd h
 event_causes statuses.WriteFault number outcome h = absurd h
 

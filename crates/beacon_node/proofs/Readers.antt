@@ -21,6 +21,7 @@ use Rattle.spec_fork_choice.specs.GetForkchoiceStore.{get_forkchoice_store}
 use Rattle.spec_fork_choice.specs.OnEvent.{genesis_clash, open_unless, open_store}
 use Rattle.bc_words.specs.Events.{StoreStops}
 use Rattle.spec_replay.specs.Run.{with_files, with_config, with_genesis, with_state, with_store, with_record, with_events}
+use Rattle.spec_replay.specs.Drill.{Tally}
 use Rattle.command_words.specs.Commands.{ReplayFiles}
 use Rattle.beacon_node.specs.declared.status.Status.{Status}
 use Rattle.beacon_node.specs.declared.status.Status.TheVariants as statuses
@@ -37,10 +38,11 @@ use Rattle.beacon_node.proofs.Steps.{asks_none, last_taken, held_as, held_prefix
 use Rattle.beacon_node.proofs.Prefixes.{config_of-prefix, genesis_of-prefix, files-with_record, files-with_genesis, files-with_files, no_record_lines, no_genesis_lines, no_files_lines}
 
 -- The record was opened, and the rest are its events.
-pub record_over : (name : List ℕ) (file : ℕ) (store : Store) (status : Status) (s t u : ShelfTold) (w x : List ℕ) → Opened name file s t → EventsOver status store (record_source (unread_file file)) t u w x
-    → Replayed (λ contents. with_record store (contents name)) (λ contents opened. with_record store (taken_of 0 opened)) (name ∷ []) status s u w x
+pub record_over : (name : List ℕ) (file : ℕ) (tally tally_then : Tally) (status : Status) (s t u : ShelfTold) (w x : List ℕ) → Opened name file s t → EventsOver status tally (record_source (unread_file file)) t u w x tally_then
+    → Replayed (λ contents. with_record tally.store (contents name)) (λ contents opened. with_record tally.store (taken_of 0 opened)) (name ∷ []) status s u w x
 unfolding with_record events_at taken_of
-record_over name file store status s t u w x o h =
+record_over name file tally tally_then status s t u w x o h =
+    let store : Store = tally.store in
     let files = last_taken name file h.bytes h.met s t u o h.taken in
     record {
       opened = record { name = name; bytes = h.bytes; ended = h.met; grew = false } ∷ [];
@@ -118,12 +120,12 @@ module _ (config : ConfigValues) (name record_name : List ℕ) (bytes : List ℕ
   }
 
 -- how the opening of a store is one of a clash or of none
-clash_of_opening : (clash : Option ClashKind) (store : Store) (kind : ClashKind) → open_unless clash store ≡ event_clashes kind → clash ≡ Some kind
+pub clash_of_opening : (clash : Option ClashKind) (store : Store) (kind : ClashKind) → open_unless clash store ≡ event_clashes kind → clash ≡ Some kind
 unfolding open_unless
 clash_of_opening (Some other) store kind e = cc
 clash_of_opening None store kind e = cc
 
-opened_without : (clash : Option ClashKind) (store opened : Store) → open_unless clash store ≡ accepted opened → (clash ≡ None) × (opened ≡ store)
+pub opened_without : (clash : Option ClashKind) (store opened : Store) → open_unless clash store ≡ accepted opened → (clash ≡ None) × (opened ≡ store)
 unfolding open_unless
 opened_without (Some other) store opened e = cc
 opened_without None store opened e = (refl, cc)

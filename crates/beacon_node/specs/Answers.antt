@@ -2,8 +2,11 @@
 use Rattle.std.specs.Prelude.{◌≡◌, ℕ, zero, suc, ◌≤◌, Bool, true, false, List, [], ◌∷◌, ◌++◌, length, take, Option, Some, None, IfSome}
 use Rattle.bc_outside.specs.Told.{FileHanded, ShelfTold, SinkTold, Agrees}
 use Rattle.bc_outside.specs.Calls.{Rose, ShelfKeeps, SinkKeeps}
-use Rattle.spec_replay.specs.Run.{Run, End, done, no_command, bad_config, bad_genesis, bad_record, limited, clash, over, with_files}
-use Rattle.command_words.specs.Commands.{Command, command_of, replay}
+use Rattle.spec_replay.specs.Run.{Run, End, bad_config, bad_deposits, bad_duties, bad_genesis, bad_record, clash, done, limited, no_command, over, with_files}
+use Rattle.spec_replay.specs.Drill.{drill_run}
+use Rattle.spec_replay.specs.Genesis.{genesis_run}
+use Rattle.spec_replay.specs.Duties.{duties_run}
+use Rattle.command_words.specs.Commands.{Command, command_of, drill, duties, genesis, replay}
 use Rattle.beacon_node.specs.declared.status.Status.{Status}
 use Rattle.beacon_node.specs.declared.status.Status.TheVariants as statuses
 
@@ -16,6 +19,8 @@ end_of (statuses.Genesis part) = Some (bad_genesis part)
 end_of (statuses.Record which event reason) = Some (bad_record which event reason)
 end_of (statuses.Limit which event limit) = Some (limited which event limit)
 end_of (statuses.Clash which event kind kept_which) = Some (clash which event kind kept_which)
+end_of (statuses.Deposits fault) = Some (bad_deposits fault)
+end_of (statuses.Duties fault) = Some (bad_duties fault)
 end_of statuses.ReadFault = None
 end_of statuses.WriteFault = None
 end_of statuses.NoMemory = None
@@ -70,14 +75,23 @@ taken_of n [] = None
 taken_of zero (f ∷ files) = Some f.bytes
 taken_of (suc n) (f ∷ files) = taken_of n files
 
--- the run of the command with as much of the record, the third file, as was taken
-abbrev pub with_taken : (List ℕ → Option (List ℕ)) → List FileHanded → Option Command → Run
-with_taken contents opened None = over no_command
-with_taken contents opened (Some (replay files)) = with_files (contents files.config) (contents files.genesis) (taken_of 2 opened)
+-- what is written of a run that writes only at its end: nothing, where a file could not be read
+abbrev pub whole_of : Status → Run → Run
+whole_of statuses.ReadFault run = record { lines = []; end = run.end; files = run.files }
+whole_of _ run = run
+
+-- What keeps pace with the files. Of `replay` it is the run with as much of the record, the third file, as was taken; the
+-- other commands write at their end.
+abbrev pub with_taken : Status → (List ℕ → Option (List ℕ)) → List FileHanded → Option Command → Run
+with_taken status contents opened None = over no_command
+with_taken status contents opened (Some (replay files)) = with_files (contents files.config) (contents files.genesis) (taken_of 2 opened)
+with_taken status contents opened (Some (drill words)) = whole_of status (drill_run words.number (contents words.config))
+with_taken status contents opened (Some (genesis files)) = whole_of status (genesis_run (contents files.config) (contents files.deposits))
+with_taken status contents opened (Some (duties words)) = whole_of status (duties_run words.epoch (contents words.config) (contents words.state))
 
 -- the same of the command words
-unfoldable pub taken_run_of : List (List ℕ) → (List ℕ → Option (List ℕ)) → List FileHanded → Run
-taken_run_of words contents opened = with_taken contents opened (command_of words)
+unfoldable pub taken_run_of : Status → List (List ℕ) → (List ℕ → Option (List ℕ)) → List FileHanded → Run
+taken_run_of status words contents opened = with_taken status contents opened (command_of words)
 
 -- A fault of the outside is answered only where its count rose.
 pub record HasCauses (status : Status) (shelf shelf_then sink sink_then : ℕ) : Type 0 where

@@ -15,6 +15,8 @@ status_number statuses.ReadFault = 6
 status_number statuses.WriteFault = 7
 status_number statuses.NoMemory = 8
 status_number (statuses.Clash which event kind kept_which) = 9
+status_number (statuses.Deposits fault) = 11
+status_number (statuses.Duties fault) = 12
 
 -- the status's name
 unfoldable pub name_of : Status → List ℕ
@@ -28,3 +30,5 @@ name_of statuses.ReadFault = codes "ReadFault"
 name_of statuses.WriteFault = codes "WriteFault"
 name_of statuses.NoMemory = codes "NoMemory"
 name_of (statuses.Clash which event kind kept_which) = codes "Clash"
+name_of (statuses.Deposits fault) = codes "Deposits"
+name_of (statuses.Duties fault) = codes "Duties"

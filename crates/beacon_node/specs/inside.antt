@@ -1,5 +1,9 @@
+pub mod Duties
 pub mod Files
 pub mod GenesisAnswers
+pub mod Making
 pub mod Progress
 pub mod Reading
 pub mod Statuses
+pub mod Drilled
+pub mod Texts

@@ -1,1 +1,3 @@
+pub mod MadeGenesis
 pub mod Memory
+pub mod Soundness

@@ -1,12 +1,12 @@
-//! The record of a run: each event is read, handed to the store, and answered by a line.
+//! The events of a run, from a record or from a maker: each is handed to the store, and answered by a line.
 
 ghost use Rattle.std.specs.Prelude.{◌≡◌, ◌≢◌, ◌<◌, ◌≤◌, ◌+◌, ◌-◌, ◌^◌, [], ◌∷◌, length, true, Some, IfSome, IfNone, IfOk, IfErr, Ok};
 ghost use Rattle.spec_replay.specs.Run.{with_record};
 ghost use Rattle.record_file.specs.Record.{is_kind};
 ghost use Rattle.record_file.specs.Sources.{IsOpenedFile};
 ghost use Rattle.beacon_node.specs.Answers.{OutsideKeeps, Replayed, taken_of};
-ghost use Rattle.beacon_node.specs.inside.Statuses.{unwritten, no_frame};
-ghost use Rattle.beacon_node.specs.inside.Progress.{Progress, OneMore, EventsOver, HasLine, EndsAt, outcome_of};
+ghost use Rattle.beacon_node.specs.inside.Statuses.{unwritten, no_event};
+ghost use Rattle.beacon_node.specs.inside.Progress.{Progress, OneMore, EventsOver, HasLine, IsCounted, EndsAt, outcome_of, tally_at};
 
 use crate::head::head_of;
 use crate::lines::{accepted_line, refused_line};
@@ -15,8 +15,17 @@ use crate::status::Status;
 use bc_outside::{Shelf, Sink, Trouble, write_all};
 use bc_words::{NoMemory, StoreStop};
 use fork_store::Store;
-use record_file::{Event, EventSource, FrameStop, Frames};
+use record_file::{Event, EventSource, Frames, SourceStop};
 use std::alloc::Global;
+
+/// How many events were handed to the store, and how many of them it accepted.
+#[derive(Drop)]
+pub struct Counts {
+    /// All events.
+    pub events: u32,
+    /// Those that were accepted.
+    pub accepted: u32,
+}
 
 /// The line, unless memory ran out.
 fn line_or_status(line: Result<Vec<u8>, NoMemory>) -> Result<Vec<u8>, Status>
@@ -29,29 +38,34 @@ fn line_or_status(line: Result<Vec<u8>, NoMemory>) -> Result<Vec<u8>, Status>
     }
 }
 
-/// Hands the event to the store, and makes its line. The status where the event ends the run.
+/// Hands the event to the store, counts it, and makes its line. The status where the event ends the run.
 #[tactic(auto, using(spec_fork_choice::proofs::Grows::event_keeps_one_more, record_file::proofs::Supplying::kind_first, record_file::proofs::Supplying::kind_last), unfolding(spec_replay::specs::Run::event_then))]
 fn handle_event(
     alloc: Global,
     number: u32,
     event: &Event,
     store: &mut Store,
+    counts: &mut Counts,
 ) -> Result<Vec<u8>, Status>
     requires few { length store.old.plain.blocks < 2 ^ 32 - 1 }
+    requires events { counts.old.events < 2 ^ 32 - 1 }
+    requires accepted { counts.old.accepted < 2 ^ 32 - 1 }
     requires kind { is_kind event.now.kind ≡ true }
     ensures few { IfOk result (λ _. length store.new.plain.blocks ≤ length store.old.plain.blocks + 1) }
     ensures line { IfOk result (λ line. HasLine number event.now store.old.plain store.new.plain line.items) }
+    ensures counted { IfOk result (λ _. IsCounted event.now (tally_at store.old.plain counts.old) (tally_at store.new.plain counts.new)) }
+    ensures one { counts.new.events ≤ counts.old.events + 1 }
+    ensures at_most { counts.new.accepted ≤ counts.old.accepted + 1 }
     ensures over { IfErr result (λ status. EndsAt status number (outcome_of store.old.plain event.now)) }
 {
     match store.on_event(alloc, event.kind, event.payload.as_slice()) {
-        Ok(given) => line_or_status(accepted_line(
-            alloc,
-            u64::from(number),
-            event.kind,
-            &given,
-            store,
-        )),
+        Ok(given) => {
+            counts.events += 1;
+            counts.accepted += 1;
+            line_or_status(accepted_line(alloc, u64::from(number), event.kind, &given, store))
+        }
         Err(StoreStop::Refused(refusal)) => {
+            counts.events += 1;
             line_or_status(refused_line(alloc, u64::from(number), event.kind, refusal, store))
         }
         Err(StoreStop::Limit(limit)) => Err(Status::Limit {
@@ -70,7 +84,7 @@ fn handle_event(
 }
 
 /// The status of a line that could not be written.
-fn unwritten(trouble: Trouble) -> Status
+pub fn unwritten(trouble: Trouble) -> Status
     ensures { result ≡ unwritten trouble }
 {
     match trouble {
@@ -79,18 +93,23 @@ fn unwritten(trouble: Trouble) -> Status
     }
 }
 
-/// The status of an event that could not be read.
-fn no_event<S: EventSource>(source: &S, stop: FrameStop) -> Status
-    ensures { result ≡ no_frame (S.seen source.now).events stop }
+/// The status of an event that could not be read or made.
+fn no_event(stop: SourceStop) -> Status
+    ensures { result ≡ no_event stop }
 {
     match stop {
-        FrameStop::Fault(fault) => Status::Record {
+        SourceStop::Fault { event, fault } => Status::Record {
             which: 0,
-            event: source.faulty_event(fault),
+            event,
             fault,
         },
-        FrameStop::ReadFault => Status::ReadFault,
-        FrameStop::NoMemory => Status::NoMemory,
+        SourceStop::Limit { event, limit } => Status::Limit {
+            which: 0,
+            event,
+            limit,
+        },
+        SourceStop::ReadFault => Status::ReadFault,
+        SourceStop::NoMemory => Status::NoMemory,
     }
 }
 
@@ -111,24 +130,28 @@ fn replay_event<S: EventSource, F: Shelf, O: Sink>(
     alloc: Global,
     source: &mut S,
     store: &mut Store,
+    counts: &mut Counts,
     shelf: &mut F,
     out: &mut O,
 ) -> Option<Status>
     requires opened { IsOpenedFile (S.seen source.old).file (F.told shelf.old) }
     requires few { length store.old.plain.blocks ≤ (S.seen source.old).events + 1 }
-    ensures goes_on { IfNone result (Progress store.old.plain (S.seen source.old) (F.told shelf.old) (O.told out.old).taken
-        store.new.plain (S.seen source.new) (F.told shelf.new) (O.told out.new).taken
-        × OneMore (S.seen source.old) (S.seen source.new) × (length store.new.plain.blocks ≤ (S.seen source.new).events + 1)) }
-    ensures over { IfSome result (λ status. EventsOver status store.old.plain (S.seen source.old) (F.told shelf.old) (F.told shelf.new)
-        (O.told out.old).taken (O.told out.new).taken) }
+    requires events { counts.old.events ≤ (S.seen source.old).events }
+    requires accepted { counts.old.accepted ≤ (S.seen source.old).events }
+    ensures goes_on { IfNone result (Progress (tally_at store.old.plain counts.old) (S.seen source.old) (F.told shelf.old) (O.told out.old).taken
+        (tally_at store.new.plain counts.new) (S.seen source.new) (F.told shelf.new) (O.told out.new).taken
+        × OneMore (S.seen source.old) (S.seen source.new) × (length store.new.plain.blocks ≤ (S.seen source.new).events + 1)
+        × (counts.new.events ≤ (S.seen source.new).events) × (counts.new.accepted ≤ (S.seen source.new).events)) }
+    ensures over { IfSome result (λ status. EventsOver status (tally_at store.old.plain counts.old) (S.seen source.old) (F.told shelf.old) (F.told shelf.new)
+        (O.told out.old).taken (O.told out.new).taken (tally_at store.new.plain counts.new)) }
     ensures outside { OutsideKeeps [] result (F.told shelf.old) (F.told shelf.new) (O.told out.old) (O.told out.new) }
 {
     let event = match source.next_event(shelf) {
         Ok(Some(event)) => event,
         Ok(None) => return Some(Status::Done),
-        Err(stop) => return Some(no_event(source, stop)),
+        Err(stop) => return Some(no_event(stop)),
     };
-    let line = match handle_event(alloc, source.given(), &event, store) {
+    let line = match handle_event(alloc, source.given(), &event, store, counts) {
         Ok(line) => line,
         Err(status) => return Some(status),
     };
@@ -141,23 +164,27 @@ fn replay_event<S: EventSource, F: Shelf, O: Sink>(
     }
 }
 
-/// Takes the events that are to come, one by one, wherever they come from.
-fn replay_events<S: EventSource, F: Shelf, O: Sink>(
+/// Takes the events that are to come, one by one, wherever they come from, and counts them.
+pub fn replay_events<S: EventSource, F: Shelf, O: Sink>(
     alloc: Global,
     source: &mut S,
     store: &mut Store,
+    counts: &mut Counts,
     shelf: &mut F,
     out: &mut O,
 ) -> Status
     requires opened { IsOpenedFile (S.seen source.old).file (F.told shelf.old) }
     requires few { length store.old.plain.blocks ≤ (S.seen source.old).events + 1 }
-    ensures over { EventsOver result store.old.plain (S.seen source.old) (F.told shelf.old) (F.told shelf.new) (O.told out.old).taken (O.told out.new).taken }
+    requires events { counts.old.events ≤ (S.seen source.old).events }
+    requires accepted { counts.old.accepted ≤ (S.seen source.old).events }
+    ensures over { EventsOver result (tally_at store.old.plain counts.old) (S.seen source.old) (F.told shelf.old) (F.told shelf.new)
+        (O.told out.old).taken (O.told out.new).taken (tally_at store.new.plain counts.new) }
     ensures command { result ≢ Status.Words }
     ensures outside { OutsideKeeps [] (Some result)
         (F.told shelf.old) (F.told shelf.new) (O.told out.old) (O.told out.new) }
 {
     'events: loop {
-        if let Some(status) = replay_event(alloc, source, store, shelf, out) {
+        if let Some(status) = replay_event(alloc, source, store, counts, shelf, out) {
             return status;
         }
     }
@@ -184,5 +211,9 @@ pub fn replay_record<F: Shelf, O: Sink>(
         Err(trouble) => return unread(trouble),
     };
     let mut frames = Frames::new(alloc, file);
-    replay_events(alloc, &mut frames, store, shelf, out)
+    let mut counts = Counts {
+        events: 0,
+        accepted: 0,
+    };
+    replay_events(alloc, &mut frames, store, &mut counts, shelf, out)
 }

@@ -1,8 +1,21 @@
-//! What the program does with files that lie in memory.
+//! Laws: what the program does with files that lie in memory, what it makes of deposits, and what the test of soundness says.
 
+ghost use Rattle.beacon_node.specs.laws.MadeGenesis.{MakesWhatIsReplayed};
 ghost use Rattle.beacon_node.specs.laws.Memory.{RunsInMemory};
+ghost use Rattle.beacon_node.specs.laws.Soundness.{SoundnessIsTested};
 
 /// The clauses of `beacon_main`, over a `MemoryShelf` of given files, are of the run of exactly these files' bytes.
 pub fn runs_in_memory()
     ensures { RunsInMemory }
+{}
+
+/// What `genesis` writes is a genesis file that `replay` takes, under either preset.
+pub fn made_genesis_is_replayed()
+    ensures { MakesWhatIsReplayed }
+{}
+
+/// The law that the test by which the definitions of `duties` take a state is true exactly of the sound states. It does
+/// nothing when it runs.
+pub fn soundness_is_tested()
+    ensures { SoundnessIsTested }
 {}

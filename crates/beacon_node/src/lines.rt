@@ -4,9 +4,13 @@ ghost use Rattle.std.specs.Prelude.{◌≡◌, ◌++◌, OnOk, IfOk};
 ghost use Rattle.std.specs.Fmt.{decimal};
 ghost use Rattle.spec_fork_choice.specs.GetHead.{get_head};
 ghost use Rattle.spec_fork_choice.specs.OnEvent.{block};
+ghost use Rattle.spec_replay.specs.Drill.{line_of, six_lines};
+ghost use Rattle.beacon_node.specs.inside.Progress.{tally_at};
+ghost use Rattle.hex.specs.Hex.{encode_lower};
 ghost use Rattle.spec_replay.specs.Lines.{root_text, checkpoint_text, refusal_text, accepted_text, kind_text, head_label, justified_label, finalized_label, block_label, state_label, store_text, event_line};
 ghost use Rattle.fork_store.specs.Events.{accepted_of};
 
+use crate::events::Counts;
 use crate::head::head_of;
 use bc_words::{NoMemory, Refusal};
 use beacon_types::Checkpoint;
@@ -15,7 +19,7 @@ use hash_tree::Root;
 use std::alloc::{AllocError, Global};
 
 /// Appends a number in decimal.
-fn push_number(line: &mut Vec<u8>, alloc: Global, number: u64) -> Result<(), AllocError>
+pub fn push_number(line: &mut Vec<u8>, alloc: Global, number: u64) -> Result<(), AllocError>
     ensures { OnOk result (line.new.items ≡ line.old.items ++ decimal number) }
 {
     let digits = number.to_string(alloc)?;
@@ -207,4 +211,92 @@ pub fn refused_line(
     push_store(&mut line, alloc, store)?;
     line.push(b'\n')?;
     Ok(line)
+}
+
+/// Appends a line of two words, a name and a number.
+#[tactic(auto, unfolding(spec_replay::specs::Drill::line_of))]
+fn push_number_line(
+    lines: &mut Vec<u8>,
+    alloc: Global,
+    name: &str,
+    number: u64,
+) -> Result<(), AllocError>
+    ensures { OnOk result (lines.new.items ≡ lines.old.items ++ line_of name.now (decimal number)) }
+{
+    lines.extend_from_slice(name.as_bytes())?;
+    lines.extend_from_slice(b" ")?;
+    push_number(lines, alloc, number)?;
+    lines.extend_from_slice(b"\n")
+}
+
+/// Appends a line of a name and a root.
+#[tactic(auto, unfolding(spec_replay::specs::Drill::line_of))]
+fn push_root_line(
+    lines: &mut Vec<u8>,
+    alloc: Global,
+    name: &str,
+    root: &Root,
+) -> Result<(), AllocError>
+    ensures { OnOk result (lines.new.items ≡ lines.old.items ++ line_of name.now (root_text root.now)) }
+{
+    lines.extend_from_slice(name.as_bytes())?;
+    lines.extend_from_slice(b" ")?;
+    push_root(lines, alloc, root)?;
+    lines.extend_from_slice(b"\n")
+}
+
+/// Appends a line of a name and a checkpoint.
+#[tactic(auto, unfolding(spec_replay::specs::Drill::line_of))]
+fn push_checkpoint_line(
+    lines: &mut Vec<u8>,
+    alloc: Global,
+    name: &str,
+    checkpoint: &Checkpoint,
+) -> Result<(), AllocError>
+    ensures { OnOk result (lines.new.items ≡ lines.old.items ++ line_of name.now (checkpoint_text checkpoint.now)) }
+{
+    lines.extend_from_slice(name.as_bytes())?;
+    lines.extend_from_slice(b" ")?;
+    push_checkpoint(lines, alloc, checkpoint)?;
+    lines.extend_from_slice(b"\n")
+}
+
+/// Appends a line of a name and a digest.
+#[tactic(auto, unfolding(spec_replay::specs::Drill::line_of))]
+fn push_digest_line(
+    lines: &mut Vec<u8>,
+    alloc: Global,
+    name: &str,
+    digest: &Root,
+) -> Result<(), AllocError>
+    ensures { OnOk result (lines.new.items ≡ lines.old.items ++ line_of name.now (encode_lower digest.now)) }
+{
+    let digits = hex::encode(alloc, digest)?;
+    lines.extend_from_slice(name.as_bytes())?;
+    lines.extend_from_slice(b" ")?;
+    lines.extend_from_slice(digits.as_bytes())?;
+    lines.extend_from_slice(b"\n")
+}
+
+/// The six lines of a made chain: its events, those that were accepted, the store behind them, and the digest of the lines that
+/// a run of its record writes.
+#[tactic(auto, unfolding(spec_replay::specs::Drill::six_lines))]
+pub fn six_lines(
+    alloc: Global,
+    counts: &Counts,
+    store: &mut Store,
+    digest: &Root,
+) -> Result<Vec<u8>, NoMemory>
+    ensures lines { IfOk result (λ lines. lines.items ≡ six_lines (tally_at store.old.plain counts.now) digest.now) }
+    ensures same { store.new.plain ≡ store.old.plain }
+{
+    let head = head_of(store);
+    let mut lines = Vec::new(alloc);
+    push_number_line(&mut lines, alloc, "events", u64::from(counts.events))?;
+    push_number_line(&mut lines, alloc, "accepted", u64::from(counts.accepted))?;
+    push_root_line(&mut lines, alloc, "head", &head)?;
+    push_checkpoint_line(&mut lines, alloc, "justified", &store.justified())?;
+    push_checkpoint_line(&mut lines, alloc, "finalized", &store.finalized())?;
+    push_digest_line(&mut lines, alloc, "lines", digest)?;
+    Ok(lines)
 }

@@ -30,7 +30,7 @@ fn no_genesis(stop: GenesisStop) -> Status
 }
 
 /// The status of a genesis with which no store opens. It is never refused or limited.
-fn no_store(stop: StoreStop) -> Status
+pub fn no_store(stop: StoreStop) -> Status
     ensures { result ≡ no_store stop }
 {
     match stop {

@@ -5,13 +5,15 @@ ghost use Rattle.beacon_node.specs.Statuses.{status_number, name_of};
 
 use bc_preset::ConfigFault;
 use bc_words::{ClashKind, Limit};
+use duties::DutiesFault;
 use record_file::RecordFault;
+use spec_genesis::DepositsFault;
 use spec_state::GenesisFault;
 
 /// How a run ended.
 #[derive(Drop)]
 pub enum Status {
-    /// The record was read to its end.
+    /// All was done: the record was read to its end, or all lines were written.
     Done,
     /// The words are no command.
     Words,
@@ -54,6 +56,10 @@ pub enum Status {
         /// Which record the kept block is of.
         kept_which: u8,
     },
+    /// The file of deposits has a fault, and this is the first.
+    Deposits(DepositsFault),
+    /// The state has no duties to tell of the epoch, and this is the first reason.
+    Duties(DutiesFault),
 }
 
 impl Status {
@@ -73,6 +79,8 @@ impl Status {
             Status::WriteFault => 7,
             Status::NoMemory => 8,
             Status::Clash { .. } => 9,
+            Status::Deposits(_) => 11,
+            Status::Duties(_) => 12,
         }
     }
 
@@ -92,6 +100,8 @@ impl Status {
             Status::WriteFault => "WriteFault",
             Status::NoMemory => "NoMemory",
             Status::Clash { .. } => "Clash",
+            Status::Deposits(_) => "Deposits",
+            Status::Duties(_) => "Duties",
         }
     }
 }

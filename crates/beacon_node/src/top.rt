@@ -1,32 +1,23 @@
 //! All that the program does.
 
 ghost use Rattle.std.specs.Prelude.{◌≡◌, ◌<◌, ◌+◌, ◌^◌, ◌↔◌, length, map, string_bytes, Some, None};
-ghost use Rattle.spec_replay.specs.Run.{run_of};
-ghost use Rattle.command_words.specs.Commands as commands;
+ghost use Rattle.spec_replay.specs.Commands.{run_of};
 ghost use Rattle.command_words.specs.Commands.{IsDeclined, command_of, names_of};
-ghost use Rattle.command_words.specs.inside.Reading.{command_value};
-ghost use Rattle.beacon_node.specs.inside.Files.{files_named};
 ghost use Rattle.beacon_node.specs.Answers.{OutsideKeeps, Replayed, taken_run_of};
 
+use crate::drill::drill;
+use crate::make_genesis::make_genesis;
 use crate::replay::replay;
 use crate::status::Status;
+use crate::tell_duties::tell_duties;
 use bc_outside::{Shelf, Sink};
-use command_words::{Command, ReplayFiles, WordsStop, read_command};
+use command_words::{Command, WordsStop, read_command};
 use std::alloc::Global;
-
-/// The files of the command `replay`, which is the only one so far.
-fn replayed_by<'a>(command: Command<'a>) -> ReplayFiles<'a>
-    ensures { command_value command.entry ≡ commands.replay (files_named result) }
-{
-    match command {
-        Command::Replay(files) => files,
-    }
-}
 
 /// Runs the command that the words are, over these files, and writes its lines.
 ///
-/// The words are those behind the program's name: `replay CONFIG GENESIS RECORD`. Fewer than 2^32 - 4 files were opened
-/// before.
+/// The words are those behind the program's name: a command and its arguments, as `command_words::COMMANDS` has them. Fewer
+/// than 2^32 - 4 files were opened before.
 pub fn beacon_main<F: Shelf, O: Sink>(
     alloc: Global,
     words: &[String],
@@ -39,7 +30,7 @@ pub fn beacon_main<F: Shelf, O: Sink>(
     // bytes written are its lines, and the files asked for are those that it needs, unless a fault of the outside or want
     // of memory broke the run off. The lines keep pace with the record, also where a file could not be read.
     ensures answers { Replayed (λ contents. run_of contents (map (λ word. string_bytes word) words.now))
-        (taken_run_of (map (λ word. string_bytes word) words.now))
+        (taken_run_of result (map (λ word. string_bytes word) words.now))
         (names_of (command_of (map (λ word. string_bytes word) words.now)))
         result (F.told shelf.old) (F.told shelf.new) (O.told out.old).taken (O.told out.new).taken }
 
@@ -53,7 +44,10 @@ pub fn beacon_main<F: Shelf, O: Sink>(
         (F.told shelf.old) (F.told shelf.new) (O.told out.old) (O.told out.new) }
 {
     match read_command(alloc, words) {
-        Ok(command) => replay(alloc, &replayed_by(command), shelf, out),
+        Ok(Command::Replay(files)) => replay(alloc, &files, shelf, out),
+        Ok(Command::Drill(words)) => drill(alloc, &words, shelf, out),
+        Ok(Command::Genesis(files)) => make_genesis(alloc, &files, shelf, out),
+        Ok(Command::Duties(words)) => tell_duties(alloc, &words, shelf, out),
         Err(WordsStop::NoCommand) => Status::Words,
         Err(WordsStop::NoMemory) => Status::NoMemory,
     }

@@ -1,12 +1,16 @@
 -- The commands of the program, and which one the words are. A word is the list of its bytes.
-use Rattle.std.specs.Prelude.{◌≡◌, ℕ, true, false, List, [], ◌∷◌, map, Option, Some, None, codes, option_map, option_and_then, if◌then◌else◌}
+use Rattle.std.specs.Prelude.{◌≡◌, ◌-◌, ◌^◌, ℕ, true, false, List, [], ◌∷◌, map, Option, Some, None, codes, option_map, option_and_then, if◌then◌else◌}
 use Rattle.std.specs.Str.{bytes_eq}
+use Rattle.std.specs.Str.Parse.{digits_value, without_leading_plus}
 use Rattle.clap.specs.Words.{App, Kinds, Row, Rule, Shape, fault_of, first_of, new_rule, subcommand_of, takes}
 use Rattle.clap.specs.Simple.{new_shape}
+use Rattle.clap.specs.ValueTests.{is_unsigned_in}
+use Rattle.clap.specs.declared.builder.value_parser.ValueParser.TheVariants as parsers
 
--- what a command asks for at a place, with the label under which the usage shows it: the name of a file
+-- what a command asks for at a place, with the label under which the usage shows it: the name of a file, or a number
 pub data Argument : Type 0 where
   file : List ℕ → Argument
+  number : List ℕ → Argument
 
 -- a command: its name, and what it asks for in order
 pub record Form : Type 0 where
@@ -15,11 +19,20 @@ pub record Form : Type 0 where
 
 -- the commands
 abbrev pub forms : List Form
-forms = record { name = codes "replay"; arguments = file (codes "CONFIG") ∷ file (codes "GENESIS") ∷ file (codes "RECORD") ∷ [] } ∷ []
+forms =
+    record { name = codes "replay"; arguments = file (codes "CONFIG") ∷ file (codes "GENESIS") ∷ file (codes "RECORD") ∷ [] }
+    ∷ record { name = codes "drill"; arguments = number (codes "NUMBER") ∷ file (codes "CONFIG") ∷ [] }
+    ∷ record { name = codes "genesis"; arguments = file (codes "CONFIG") ∷ file (codes "DEPOSITS") ∷ [] }
+    ∷ record { name = codes "duties"; arguments = file (codes "CONFIG") ∷ file (codes "STATE") ∷ number (codes "EPOCH") ∷ [] } ∷ []
 
--- an argument for clap: it is required, and stands at its place
+-- the greatest number that an argument can be
+abbrev pub greatest_number : ℕ
+greatest_number = 2 ^ 64 - 1
+
+-- an argument for clap: it is required, and stands at its place; a number is read by clap's parser of u64
 abbrev pub rule_of_argument : Argument → Rule
 rule_of_argument (file label) = record (new_rule label) { required = true }
+rule_of_argument (number label) = record (new_rule label) { required = true; parser = Some (parsers.Unsigned 0 greatest_number) }
 
 -- a command for clap
 abbrev pub shape_of_form : Form → Shape
@@ -38,9 +51,36 @@ pub record ReplayFiles : Type 0 where
   pub genesis : List ℕ
   pub events : List ℕ
 
+-- what the command `drill NUMBER CONFIG` names: the number that the chain is made from, and a file
+pub record DrillWords : Type 0 where
+  pub number : ℕ
+  pub config : List ℕ
+
+-- the files that the command `genesis CONFIG DEPOSITS` names
+pub record GenesisFiles : Type 0 where
+  pub config : List ℕ
+  pub deposits : List ℕ
+
+-- what the command `duties CONFIG STATE EPOCH` names: two files and an epoch
+pub record DutiesWords : Type 0 where
+  pub config : List ℕ
+  pub state : List ℕ
+  pub epoch : ℕ
+
 -- a command with its arguments
 pub data Command : Type 0 where
   replay : ReplayFiles → Command
+  drill : DrillWords → Command
+  genesis : GenesisFiles → Command
+  duties : DutiesWords → Command
+
+-- the number that u64's parser reads from a text
+abbrev pub number_in : List ℕ → Option ℕ
+number_in text = if is_unsigned_in 0 greatest_number text then Some (digits_value 10 (without_leading_plus text)) else None
+
+-- the value of the argument with this label, where it is a number
+abbrev pub number_of : List ℕ → List Row → Option ℕ
+number_of label rows = option_and_then number_in (first_of label rows)
 
 -- `replay`, where each of its arguments has a value
 abbrev pub replay_in : List Row → Option Command
@@ -48,9 +88,31 @@ replay_in rows =
     option_and_then (λ config. option_and_then (λ genesis. option_map (λ events. replay (record { config = config; genesis = genesis; events = events }))
     (first_of (codes "RECORD") rows)) (first_of (codes "GENESIS") rows)) (first_of (codes "CONFIG") rows)
 
+-- `drill`, likewise
+abbrev pub drill_in : List Row → Option Command
+drill_in rows =
+    option_and_then (λ number. option_map (λ config. drill (record { number = number; config = config }))
+    (first_of (codes "CONFIG") rows)) (number_of (codes "NUMBER") rows)
+
+-- `genesis`, likewise
+abbrev pub genesis_in : List Row → Option Command
+genesis_in rows =
+    option_and_then (λ config. option_map (λ deposits. genesis (record { config = config; deposits = deposits }))
+    (first_of (codes "DEPOSITS") rows)) (first_of (codes "CONFIG") rows)
+
+-- `duties`, likewise
+abbrev pub duties_in : List Row → Option Command
+duties_in rows =
+    option_and_then (λ config. option_and_then (λ state. option_map (λ epoch. duties (record { config = config; state = state; epoch = epoch }))
+    (number_of (codes "EPOCH") rows)) (first_of (codes "STATE") rows)) (first_of (codes "CONFIG") rows)
+
 -- the command of a name, with the arguments that clap found
 abbrev pub named_command : List ℕ × List Row → Option Command
-named_command p = if bytes_eq p.0 (codes "replay") then replay_in p.1 else None
+named_command p =
+    if bytes_eq p.0 (codes "replay") then replay_in p.1
+    else if bytes_eq p.0 (codes "drill") then drill_in p.1
+    else if bytes_eq p.0 (codes "genesis") then genesis_in p.1
+    else if bytes_eq p.0 (codes "duties") then duties_in p.1 else None
 
 -- the command that clap's own function of the words gives
 abbrev pub given_command : List (List ℕ) → Option Command
@@ -73,3 +135,6 @@ IsDeclined words = takes command_line words ≡ true → given_command words ≡
 abbrev pub names_of : Option Command → List (List ℕ)
 names_of None = []
 names_of (Some (replay files)) = files.config ∷ files.genesis ∷ files.events ∷ []
+names_of (Some (drill words)) = words.config ∷ []
+names_of (Some (genesis files)) = files.config ∷ files.deposits ∷ []
+names_of (Some (duties words)) = words.config ∷ words.state ∷ []

@@ -2,7 +2,7 @@
 
 ghost use Rattle.std.specs.Prelude.{◌≡◌, ◌↔◌, Some, None, Result, Ok, Err, map, option_map, string_bytes, true};
 ghost use Rattle.clap.specs.Words.{first_of, found_of, kind_of, rows_of, takes};
-ghost use Rattle.command_words.specs.Commands.{command_line, named_command, replay_in};
+ghost use Rattle.command_words.specs.Commands.{command_line, drill_in, duties_in, genesis_in, named_command, number_in, number_of, replay_in};
 ghost use Rattle.command_words.specs.inside.Reading.{command_value, ReadsCommand};
 
 use crate::line::line;
@@ -21,11 +21,46 @@ pub struct ReplayFiles<'a> {
     pub events: &'a str,
 }
 
+/// The words of the command `drill NUMBER CONFIG`.
+#[derive(Clone, Copy)]
+pub struct DrillWords<'a> {
+    /// The number that the chain is made from.
+    pub number: u64,
+    /// The configuration's name.
+    pub config: &'a str,
+}
+
+/// The files of the command `genesis CONFIG DEPOSITS`.
+#[derive(Clone, Copy)]
+pub struct GenesisFiles<'a> {
+    /// The configuration's name.
+    pub config: &'a str,
+    /// The name of the list of deposits.
+    pub deposits: &'a str,
+}
+
+/// The words of the command `duties CONFIG STATE EPOCH`.
+#[derive(Clone, Copy)]
+pub struct DutiesWords<'a> {
+    /// The configuration's name.
+    pub config: &'a str,
+    /// The state's name.
+    pub state: &'a str,
+    /// The epoch whose duties are asked for.
+    pub epoch: u64,
+}
+
 /// A command with its arguments.
 #[derive(Clone, Copy)]
 pub enum Command<'a> {
     /// A record of events on a genesis state.
     Replay(ReplayFiles<'a>),
+    /// A chain that is made from a number.
+    Drill(DrillWords<'a>),
+    /// A genesis state from deposits.
+    Genesis(GenesisFiles<'a>),
+    /// Who attests and proposes in an epoch.
+    Duties(DutiesWords<'a>),
 }
 
 /// Why the words give no command.
@@ -55,12 +90,63 @@ fn replay_in<'a>(found: &ArgMatches<'a>) -> Option<Command<'a>>
     }))
 }
 
+/// The number that a text is.
+fn number_in(text: &str) -> Option<u64>
+    ensures { result ≡ number_in text.now }
+{
+    text.parse().ok()
+}
+
+/// The first value of the argument with this label, where it is a number.
+fn number_of(found: &ArgMatches<'_>, label: &str) -> Option<u64>
+    ensures { result ≡ number_of label.now (rows_of (found_of found.now)) }
+{
+    number_in(text_of(found, label)?)
+}
+
+/// The command `drill`, where each of its arguments has a value.
+fn drill_in<'a>(found: &ArgMatches<'a>) -> Option<Command<'a>>
+    ensures { option_map command_value result ≡ drill_in (rows_of (found_of found.now)) }
+{
+    Some(Command::Drill(DrillWords {
+        number: number_of(found, "NUMBER")?,
+        config: text_of(found, "CONFIG")?,
+    }))
+}
+
+/// The command `genesis`, where each of its arguments has a value.
+fn genesis_in<'a>(found: &ArgMatches<'a>) -> Option<Command<'a>>
+    ensures { option_map command_value result ≡ genesis_in (rows_of (found_of found.now)) }
+{
+    Some(Command::Genesis(GenesisFiles {
+        config: text_of(found, "CONFIG")?,
+        deposits: text_of(found, "DEPOSITS")?,
+    }))
+}
+
+/// The command `duties`, where each of its arguments has a value.
+fn duties_in<'a>(found: &ArgMatches<'a>) -> Option<Command<'a>>
+    ensures { option_map command_value result ≡ duties_in (rows_of (found_of found.now)) }
+{
+    Some(Command::Duties(DutiesWords {
+        config: text_of(found, "CONFIG")?,
+        state: text_of(found, "STATE")?,
+        epoch: number_of(found, "EPOCH")?,
+    }))
+}
+
 /// The command of this name, with the arguments that were found.
 fn named<'a>(name: &str, found: &ArgMatches<'a>) -> Option<Command<'a>>
     ensures { option_map command_value result ≡ named_command (name.now, rows_of (found_of found.now)) }
 {
     if name == "replay" {
         replay_in(found)
+    } else if name == "drill" {
+        drill_in(found)
+    } else if name == "genesis" {
+        genesis_in(found)
+    } else if name == "duties" {
+        duties_in(found)
     } else {
         None
     }

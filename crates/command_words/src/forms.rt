@@ -11,6 +11,8 @@ use std::fmt;
 pub enum Argument {
     /// The name of a file.
     File(&'static str),
+    /// A number that `u64` can hold, in decimal.
+    Number(&'static str),
 }
 
 /// A command: its name, and what it asks for in order.
@@ -25,7 +27,7 @@ pub struct Form {
 impl fmt::Display for Argument {
     fn fmt<W: fmt::Write>(&self, f: &mut fmt::Formatter<W>) -> fmt::Result {
         match self {
-            Argument::File(label) => f.write_str(label),
+            Argument::File(label) | Argument::Number(label) => f.write_str(label),
         }
     }
 }
@@ -41,14 +43,32 @@ impl fmt::Display for Form {
 }
 
 /// The commands.
-pub static COMMANDS: [Form; 1] = [Form {
-    name: "replay",
-    arguments: &[
-        Argument::File("CONFIG"),
-        Argument::File("GENESIS"),
-        Argument::File("RECORD"),
-    ],
-}];
+pub static COMMANDS: [Form; 4] = [
+    Form {
+        name: "replay",
+        arguments: &[
+            Argument::File("CONFIG"),
+            Argument::File("GENESIS"),
+            Argument::File("RECORD"),
+        ],
+    },
+    Form {
+        name: "drill",
+        arguments: &[Argument::Number("NUMBER"), Argument::File("CONFIG")],
+    },
+    Form {
+        name: "genesis",
+        arguments: &[Argument::File("CONFIG"), Argument::File("DEPOSITS")],
+    },
+    Form {
+        name: "duties",
+        arguments: &[
+            Argument::File("CONFIG"),
+            Argument::File("STATE"),
+            Argument::Number("EPOCH"),
+        ],
+    },
+];
 
 /// The commands, as the definitions list them.
 pub fn commands() -> &'static [Form]

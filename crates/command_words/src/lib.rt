@@ -9,6 +9,8 @@ mod forms;
 mod line;
 mod refusal;
 
-pub use command::{Command, ReplayFiles, WordsStop, read_command};
+pub use command::{
+    Command, DrillWords, DutiesWords, GenesisFiles, ReplayFiles, WordsStop, read_command,
+};
 pub use forms::{Argument, COMMANDS, Form};
 pub use refusal::what_is_wrong;

@@ -7,6 +7,7 @@ ghost use Rattle.command_words.specs.Commands.{command_line, rule_of_argument, s
 ghost use Rattle.command_words.specs.inside.Forms.{argument_of, form_of};
 
 use crate::forms::{Argument, Form, commands};
+use clap::builder::ValueParser;
 use clap::{Arg, Command};
 use std::alloc::{AllocError, Global};
 
@@ -17,6 +18,9 @@ fn argument<'a>(alloc: Global, argument: &Argument) -> Arg<'a>
 {
     match argument {
         Argument::File(label) => Arg::new(alloc, label).required(true),
+        Argument::Number(label) => Arg::new(alloc, label)
+            .required(true)
+            .value_parser(ValueParser::unsigned(0, u64::MAX)),
     }
 }
 

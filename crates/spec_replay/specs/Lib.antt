@@ -1,2 +1,7 @@
+pub mod Commands
+pub mod Drill
+pub mod Duties
+pub mod Genesis
 pub mod Lines
 pub mod Run
+pub mod Soundness

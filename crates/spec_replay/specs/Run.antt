@@ -10,6 +10,8 @@ use Rattle.record_file.specs.Record.{Events, events_of}
 use Rattle.record_file.specs.Record as record_file
 use Rattle.record_file.specs.declared.event.Event.{Event}
 use Rattle.record_file.specs.declared.fault.RecordFault.{RecordFault}
+use Rattle.duties.specs.declared.fault.DutiesFault.{DutiesFault}
+use Rattle.spec_genesis.specs.declared.fault.DepositsFault.{DepositsFault}
 use Rattle.bc_words.specs.Events.{EventOutcome, accepted, event_refused, event_limited, event_clashes}
 use Rattle.bc_words.specs.declared.stop.Limit.{Limit}
 use Rattle.bc_words.specs.declared.store_stop.ClashKind.{ClashKind}
@@ -17,11 +19,11 @@ use Rattle.spec_fork_choice.specs.Store.{Store}
 use Rattle.spec_fork_choice.specs.GetForkchoiceStore.{get_forkchoice_store}
 use Rattle.spec_fork_choice.specs.OnEvent.{Accepted, on_event, genesis_clash}
 use Rattle.spec_replay.specs.Lines.{event_line, accepted_text, refusal_text}
-use Rattle.command_words.specs.Commands.{Command, command_of, replay}
 
--- How a run ends: the record was read to its end; the words are no command; the first fault of the configuration, of the
--- genesis state, or of a record, with which record it is and its event; an event that meets a bound of this program; or one
--- that clashes, with which record the kept block is of. Records count from 0, and event 0 is genesis.
+-- How a run ends: all was done; the words are no command; the first fault of the configuration, of the genesis state, or of
+-- a record, with which record it is and its event; an event that meets a bound of this program; one that clashes, with which
+-- record the kept block is of; or the first fault of a file of deposits, or of what duties are asked of. Records count from
+-- 0, and event 0 is genesis.
 pub data End : Type 0 where
   done : End
   no_command : End
@@ -30,6 +32,8 @@ pub data End : Type 0 where
   bad_record : ℕ → ℕ → RecordFault → End
   limited : ℕ → ℕ → Limit → End
   clash : ℕ → ℕ → ClashKind → ℕ → End
+  bad_deposits : DepositsFault → End
+  bad_duties : DutiesFault → End
 
 -- What a run writes, how it ends, and how many of its files it asks for, in their order. A file that it asks for and
 -- that isn't there leaves it no end.
@@ -73,6 +77,7 @@ replay_events number store (event ∷ events) end =
 abbrev pub record_end : ℕ → record_file.End → End
 record_end which record_file.done = done
 record_end which (record_file.fault event reason) = bad_record which event reason
+record_end which (record_file.limited event bound) = limited which event bound
 
 -- the events of the only record that are to come, the first of which has this number
 abbrev pub with_events : ℕ → Store → Events → Run
@@ -107,12 +112,3 @@ with_config (Ok config) genesis events = with_genesis config genesis events
 unfoldable pub with_files : Option (List ℕ) → Option (List ℕ) → Option (List ℕ) → Run
 with_files None genesis events = missing
 with_files (Some bytes) genesis events = after_file (with_config (config_of bytes) genesis events)
-
--- the command that the words are, where the names hold these bytes
-unfoldable pub with_command : (List ℕ → Option (List ℕ)) → Option Command → Run
-with_command contents None = over no_command
-with_command contents (Some (replay files)) = with_files (contents files.config) (contents files.genesis) (contents files.events)
-
--- the run of the command words, where the names hold these bytes
-unfoldable pub run_of : (List ℕ → Option (List ℕ)) → List (List ℕ) → Run
-run_of contents words = with_command contents (command_of words)

@@ -1,4 +1,4 @@
-//! Definitions of a run: from the bytes of configuration, genesis and record to lines and an end.
+//! Definitions of a run of each command: from the bytes of the files that it names to lines and an end.
 //!
 //! Nothing of the program stands here. `specs/` says what the program has to write.
 #![tactic(auto)]

@@ -9,6 +9,8 @@ use Rattle.bc_words.specs.Events.{EventOutcome, event_limited, event_clashes}
 use Rattle.spec_fork_choice.specs.Store.{Store}
 use Rattle.spec_fork_choice.specs.OnEvent.{Accepted, on_event}
 use Rattle.spec_replay.specs.Run.{Run, after_lines, event_then, with_events}
+use Rattle.spec_replay.specs.Drill.{Tally, with_outcome, tally_of}
+use Rattle.beacon_node.specs.declared.events.Counts.{Counts}
 use Rattle.beacon_node.specs.declared.status.Status.{Status}
 use Rattle.beacon_node.specs.declared.status.Status.TheVariants as statuses
 use Rattle.beacon_node.specs.Answers.{breaks_off, may_lack_lines, end_of, WritesLines}
@@ -16,6 +18,14 @@ use Rattle.beacon_node.specs.Answers.{breaks_off, may_lack_lines, end_of, Writes
 -- the run of the events that are to come, where these bytes are those that can still be taken
 abbrev pub rest_of : Store → Source → List ℕ → Run
 rest_of store place behind = with_events (place.events + 1) store (place.coming behind)
+
+-- the store with the counts of its events
+abbrev pub tally_at : Store → Counts → Tally
+tally_at store counts = record { store = store; events = counts.events; accepted = counts.accepted }
+
+-- what they are behind the events that are to come
+abbrev pub tally_behind : Tally → Source → List ℕ → Tally
+tally_behind tally place behind = tally_of tally (place.coming behind).events
 
 -- what the store's handler gives of an event
 abbrev pub outcome_of : Store → Event → EventOutcome (Store × Accepted)
@@ -25,6 +35,10 @@ outcome_of store event = on_event store event.kind event.payload
 abbrev pub HasLine : ℕ → Event → Store → Store → List ℕ → Type 0
 HasLine number event old new line = (rest : Store → Run) → event_then number event.kind old (outcome_of old event) rest ≡ after_lines line (rest new)
 
+-- The event is counted, and the store after it is that of the second tally.
+abbrev pub IsCounted : Event → Tally → Tally → Type 0
+IsCounted event old new = new ≡ with_outcome old (outcome_of old.store event)
+
 -- The run ends at the event with this number with this status: at a bound, a clash, or for want of memory.
 abbrev pub EndsAt : Status → ℕ → EventOutcome (Store × Accepted) → Type 0
 EndsAt (statuses.Limit which event limit) number outcome = (which ≡ 0) × (event ≡ number) × (outcome ≡ event_limited limit)
@@ -33,14 +47,15 @@ EndsAt statuses.NoMemory number outcome = Unit {0}
 EndsAt _ number outcome = ⊥
 
 -- Bytes were taken, the lines of the events in front were written, and the run of the others is to come.
-pub record Progress (store : Store) (place : Source) (told : ShelfTold) (written : List ℕ)
-    (store_then : Store) (place_then : Source) (told_then : ShelfTold) (written_then : List ℕ) : Type 0 where
+pub record Progress (tally : Tally) (place : Source) (told : ShelfTold) (written : List ℕ)
+    (tally_then : Tally) (place_then : Source) (told_then : ShelfTold) (written_then : List ℕ) : Type 0 where
   pub bytes : List ℕ
   pub taken : TakesFrom place.file bytes false told told_then
   pub file : place_then.file ≡ place.file
   pub lines : List ℕ
   pub wrote : written_then ≡ written ++ lines
-  pub comes : (behind : List ℕ) → rest_of store place (bytes ++ behind) ≡ after_lines lines (rest_of store_then place_then behind)
+  pub comes : (behind : List ℕ) → rest_of tally.store place (bytes ++ behind) ≡ after_lines lines (rest_of tally_then.store place_then behind)
+  pub tallies : (behind : List ℕ) → tally_behind tally place (bytes ++ behind) ≡ tally_behind tally_then place_then behind
 
 -- one event more was read, and there are not more than a record may have
 pub record OneMore (place place_then : Source) : Type 0 where
@@ -53,10 +68,11 @@ pub record Ended (status : Status) (run : Run) (written written_then : List ℕ)
   pub lines : WritesLines (breaks_off status) run.lines written written_then
 
 -- The run of the events is over. It became so whatever stands behind the bytes that were taken, and the lines keep pace
--- with these.
-pub record EventsOver (status : Status) (store : Store) (place : Source) (told told_then : ShelfTold) (written written_then : List ℕ) : Type 0 where
+-- with these. Where the events were at their end, all of them are counted.
+pub record EventsOver (status : Status) (tally : Tally) (place : Source) (told told_then : ShelfTold) (written written_then : List ℕ) (tally_then : Tally) : Type 0 where
   pub bytes : List ℕ
   pub met : Bool
   pub taken : TakesFrom place.file bytes met told told_then
-  pub ended : (behind : List ℕ) → CanFollow met behind → Ended status (rest_of store place (bytes ++ behind)) written written_then
-  pub pace : WritesLines (may_lack_lines status) (rest_of store place bytes).lines written written_then
+  pub ended : (behind : List ℕ) → CanFollow met behind → Ended status (rest_of tally.store place (bytes ++ behind)) written written_then
+  pub pace : WritesLines (may_lack_lines status) (rest_of tally.store place bytes).lines written written_then
+  pub counted : status ≡ statuses.Done → (behind : List ℕ) → CanFollow met behind → tally_behind tally place (bytes ++ behind) ≡ tally_then

@@ -1,10 +1,8 @@
 -- The statuses of what could not be read or written.
-use Rattle.std.specs.Prelude.{ℕ}
 use Rattle.bc_outside.specs.declared.trouble.Trouble.{Trouble}
 use Rattle.bc_outside.specs.declared.trouble.Trouble.TheVariants.{Failed, NoMemory}
-use Rattle.record_file.specs.Record.{fault_event}
-use Rattle.record_file.specs.declared.fault.FrameStop.{FrameStop}
-use Rattle.record_file.specs.declared.fault.FrameStop.TheVariants as stops
+use Rattle.record_file.specs.declared.source.SourceStop.{SourceStop}
+use Rattle.record_file.specs.declared.source.SourceStop.TheVariants as stops
 use Rattle.beacon_node.specs.declared.status.Status.{Status}
 use Rattle.beacon_node.specs.declared.status.Status.TheVariants as statuses
 
@@ -18,8 +16,9 @@ abbrev pub unwritten : Trouble → Status
 unwritten Failed = statuses.WriteFault
 unwritten NoMemory = statuses.NoMemory
 
--- the status of a frame that could not be read, where that many events were
-abbrev pub no_frame : ℕ → FrameStop → Status
-no_frame events (stops.Fault reason) = statuses.Record 0 (fault_event events reason) reason
-no_frame events stops.ReadFault = statuses.ReadFault
-no_frame events stops.NoMemory = statuses.NoMemory
+-- the status of an event that could not be read or made
+abbrev pub no_event : SourceStop → Status
+no_event (stops.Fault event reason) = statuses.Record 0 event reason
+no_event (stops.Limit event bound) = statuses.Limit 0 event bound
+no_event stops.ReadFault = statuses.ReadFault
+no_event stops.NoMemory = statuses.NoMemory

@@ -1,6 +1,6 @@
 -- How an answer of reading the words meets their definition.
 use Rattle.std.specs.Prelude.{◌≡◌, ℕ, List, Some, None, Result, Ok, Err}
-use Rattle.command_words.specs.Commands.{Command, IsDeclined, replay, command_of}
+use Rattle.command_words.specs.Commands.{Command, IsDeclined, command_of, drill, duties, genesis, replay}
 use Rattle.command_words.specs.declared.command.Command as code
 use Rattle.command_words.specs.declared.command.Command.TheVariants as commands
 use Rattle.command_words.specs.declared.command.WordsStop.{WordsStop}
@@ -9,6 +9,9 @@ use Rattle.command_words.specs.declared.command.WordsStop.TheVariants.{NoCommand
 -- the command that a value of the code is
 abbrev pub command_value : code.Command → Command
 command_value (commands.Replay f) = replay (record { config = f.config.now; genesis = f.genesis.now; events = f.events.now })
+command_value (commands.Drill w) = drill (record { number = w.number; config = w.config.now })
+command_value (commands.Genesis f) = genesis (record { config = f.config.now; deposits = f.deposits.now })
+command_value (commands.Duties w) = duties (record { config = w.config.now; state = w.state.now; epoch = w.epoch })
 
 -- The answer is the command that the words are, or that they are none, unless memory ran out.
 abbrev pub ReadsCommand : List (List ℕ) → Result code.Command WordsStop → Type 0

@@ -2,14 +2,16 @@
 use Rattle.std.proofs.Common.{◌-◌, ◌+◌, ◌≤◌, [], length, None}
 use Rattle.record_file.specs.Record.{most_events}
 use Rattle.beacon_node.specs.Answers.{OutsideKeeps}
-use Rattle.beacon_node.specs.inside.Progress.{Progress}
+use Rattle.beacon_node.specs.inside.Progress.{Progress, tally_at}
 use Rattle.beacon_node.proofs.events.replay_events.Given as goal
 
 abbrev pub invariant-events : goal.invariant-events
 invariant-events g l = record {
-  progress : Progress l.initial.store.plain (g.S.EventSource.seen l.initial.source) (g.F.Shelf.told l.initial.shelf) (g.O.Sink.told l.initial.out).taken l.store.plain (g.S.EventSource.seen l.source) (g.F.Shelf.told l.shelf) (g.O.Sink.told l.out).taken;
+  progress : Progress (tally_at l.initial.store.plain l.initial.counts) (g.S.EventSource.seen l.initial.source) (g.F.Shelf.told l.initial.shelf) (g.O.Sink.told l.initial.out).taken (tally_at l.store.plain l.counts) (g.S.EventSource.seen l.source) (g.F.Shelf.told l.shelf) (g.O.Sink.told l.out).taken;
   outside : OutsideKeeps [] None (g.F.Shelf.told l.initial.shelf) (g.F.Shelf.told l.shelf) (g.O.Sink.told l.initial.out) (g.O.Sink.told l.out);
   few : length l.store.plain.blocks ≤ (g.S.EventSource.seen l.source).events + 1;
+  events : l.counts.events ≤ (g.S.EventSource.seen l.source).events;
+  accepted : l.counts.accepted ≤ (g.S.EventSource.seen l.source).events;
 }
 
 abbrev pub decreases-events : goal.decreases-events

@@ -11,7 +11,7 @@ returns-in-Err-clause-answers g c =
 
 pub returns-clause-answers : goal.returns-clause-answers
 returns-clause-answers g c =
-    record_over c.args.name.now c.in-Ok.file c.args.store.now.plain c.replay_events.result _ _ _ _ _ c.in-Ok.ensures.opens (rw c.new-frames.ensures at c.replay_events.ensures.over)
+    record_over c.args.name.now c.in-Ok.file _ _ c.replay_events.result _ _ _ _ _ c.in-Ok.ensures.opens (rw c.new-frames.ensures at c.replay_events.ensures.over)
 
 pub returns-in-Err-clause-outside : goal.returns-in-Err-clause-outside
 returns-in-Err-clause-outside g c =

@@ -1,10 +1,18 @@
 -- The words are a command, and the rest is its run, or they are none, or memory ran out before they were read.
-use Rattle.std.proofs.Common.{◌∙◌, ap, Some}
-use Rattle.beacon_node.proofs.Commands.{replay_answers, are_none, no_answers, unread_words}
+use Rattle.beacon_node.proofs.Commands.{replay_answers, drill_answers, genesis_answers, duties_answers, are_none, no_answers, unread_words}
 use Rattle.beacon_node.proofs.top.beacon_main.Goals as goal
 
-pub returns-in-Ok-clause-answers : goal.returns-in-Ok-clause-answers
-returns-in-Ok-clause-answers g c = replay_answers _ _ _ _ _ _ _ (c.in-Ok.ensures ∙ ap Some c.replayed_by.ensures) c.replay.ensures.answers
+pub returns-in-Ok-Replay-clause-answers : goal.returns-in-Ok-Replay-clause-answers
+returns-in-Ok-Replay-clause-answers g c = replay_answers _ _ _ _ _ _ _ (rw c.in-Ok-Replay.field-0-is at c.in-Ok-Replay.ensures) c.replay.ensures.answers
+
+pub returns-in-Ok-Drill-clause-answers : goal.returns-in-Ok-Drill-clause-answers
+returns-in-Ok-Drill-clause-answers g c = drill_answers _ _ _ _ _ _ _ (rw c.in-Ok-Drill.field-0-is at c.in-Ok-Drill.ensures) c.drill.ensures.answers
+
+pub returns-in-Ok-Genesis-clause-answers : goal.returns-in-Ok-Genesis-clause-answers
+returns-in-Ok-Genesis-clause-answers g c = genesis_answers _ _ _ _ _ _ _ (rw c.in-Ok-Genesis.field-0-is at c.in-Ok-Genesis.ensures) c.make_genesis.ensures.answers
+
+pub returns-in-Ok-Duties-clause-answers : goal.returns-in-Ok-Duties-clause-answers
+returns-in-Ok-Duties-clause-answers g c = duties_answers _ _ _ _ _ _ _ (rw c.in-Ok-Duties.field-0-is at c.in-Ok-Duties.ensures) c.tell_duties.ensures.answers
 
 pub returns-in-Err-NoCommand-clause-answers : goal.returns-in-Err-NoCommand-clause-answers
 returns-in-Err-NoCommand-clause-answers g c = no_answers _ _ _ (are_none _ _ c.in-Err-NoCommand.field-0-is c.in-Err-NoCommand.ensures)

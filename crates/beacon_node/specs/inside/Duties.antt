@@ -1,0 +1,66 @@
+-- The duties of an epoch as the code has them, and how its answers meet their definitions.
+use Rattle.std.specs.Prelude.{◌≡◌, ◌≢◌, ℕ, false, List, ◌++◌, ◌==◌, filter, flat_map, Result, Ok, Err}
+use Rattle.bc_outside.specs.Told.{SinkTold}
+use Rattle.bc_outside.specs.Calls.{Rose, SinkKeeps}
+use Rattle.bc_outside.specs.declared.trouble.Trouble.{Trouble}
+use Rattle.duties.specs.Duties.{table_committees}
+use Rattle.duties.specs.declared.duties.Duties.{Duties}
+use Rattle.duties.specs.declared.duties.DutyStop.{DutyStop}
+use Rattle.duties.specs.declared.duties.DutyStop.TheVariants as stops
+use Rattle.duties.specs.declared.fault.DutiesFault.{DutiesFault}
+use Rattle.duties.specs.declared.fault.DutiesFault.TheVariants as reasons
+use Rattle.spec_replay.specs.Duties.{committee_line, proposer_line}
+use Rattle.spec_replay.specs.Run.{Run}
+use Rattle.spec_state.specs.declared.plain.PlainState.{PlainState}
+use Rattle.ssz_codec.specs.declared.fault.SszFault.{SszFault}
+use Rattle.ssz_codec.specs.declared.fault.SszFault.TheVariants as faults
+use Rattle.beacon_node.specs.declared.tell_duties.StateStop.{StateStop}
+use Rattle.beacon_node.specs.declared.tell_duties.StateStop.TheVariants.{Fault, NoMemory}
+use Rattle.beacon_node.specs.declared.status.Status.{Status}
+use Rattle.beacon_node.specs.declared.status.Status.TheVariants as statuses
+use Rattle.beacon_node.specs.inside.Statuses.{unwritten}
+use Rattle.beacon_node.specs.Answers.{breaks_off, end_of, WritesLines}
+
+-- the lines of a slot, by the table of committees
+unfoldable pub table_lines : Duties → ℕ → List ℕ
+table_lines duties slot =
+    flat_map committee_line (table_committees duties.committees slot)
+    ++ flat_map proposer_line (filter (λ duty. duty.slot == slot) duties.proposers.items)
+
+-- The answer is the state's, or its first fault, unless memory ran out
+abbrev pub GivesState : Result PlainState StateStop → Result PlainState DutiesFault → Type 0
+GivesState (Ok state) read = read ≡ Ok state
+GivesState (Err (Fault reason)) read = read ≡ Err reason
+GivesState (Err NoMemory) read = Unit {0}
+
+-- why bytes that are no state have no duties to tell
+abbrev pub unread_state : SszFault → StateStop
+unread_state faults.NotAWriting = Fault reasons.NotAWriting
+unread_state faults.NoMemory = NoMemory
+
+-- the status of a file whose state can't be asked
+abbrev pub no_state : StateStop → Status
+no_state (Fault reason) = statuses.Duties reason
+no_state NoMemory = statuses.NoMemory
+
+-- the status of duties that can't be told
+abbrev pub no_duties : DutyStop → Status
+no_duties stops.Epoch = statuses.Duties reasons.Epoch
+no_duties (stops.Refused why) = statuses.Duties (reasons.Refused why)
+no_duties (stops.Limit bound) = statuses.Limit 0 0 bound
+no_duties stops.NoMemory = statuses.NoMemory
+
+-- the status of a run whose lines were all to be written
+abbrev pub written : Result (Unit {0}) Trouble → Status
+written (Ok _) = statuses.Done
+written (Err trouble) = unwritten trouble
+
+-- What became of a run whose files are all read: how it ends, and its lines. No file could fail, and it is one of a command.
+pub record Concludes (status : Status) (run : Run) (took took_then : SinkTold) : Type 0 where
+  pub ends : breaks_off status ≡ false → run.end ≡ end_of status
+  pub files : run.files ≡ 0
+  pub lines : WritesLines (breaks_off status) run.lines took.taken took_then.taken
+  pub has_words : status ≢ statuses.Words
+  pub is_read : status ≢ statuses.ReadFault
+  pub write : status ≡ statuses.WriteFault → Rose took.faults took_then.faults
+  pub keeps : SinkKeeps took took_then
