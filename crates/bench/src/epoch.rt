@@ -2,7 +2,8 @@
 //! passes of reading registry and balances, and against 4,096 validators.
 
 ghost use Rattle.std.specs.Prelude.{◌≡◌, ◌≤◌, ◌^◌};
-ghost use Rattle.spec_state.specs.Accessors.{get_current_epoch, get_previous_epoch, epoch_committees};
+ghost use Rattle.spec_state.specs.Accessors.{get_current_epoch, get_previous_epoch};
+ghost use Rattle.spec_state.specs.inside.EpochCommittees.{epoch_committees};
 ghost use Rattle.spec_state.specs.Soundness.{IsSound, IsSoundWithinEpoch};
 
 use crate::ratio::{Time, now, tell_numbers, tell_ratio, tell_times, time_since};

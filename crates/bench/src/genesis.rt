@@ -46,6 +46,13 @@ impl Network {
     }
 }
 
+impl Network {
+    /// Its configuration.
+    pub fn configuration(&self) -> Result<Config> {
+        Ok(Config::read(self.config)?)
+    }
+}
+
 /// A genesis state, and the configuration that goes with it.
 #[derive(Drop)]
 pub struct Genesis {

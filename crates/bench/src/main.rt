@@ -1,13 +1,17 @@
 //! Measures what has to be fast, each against the hashes that it can't do without or another part of the run, in one run.
 //!
 //! The word behind the program's name says what to measure: `pairs`, `shuffle`, `state`, `registry`, `change`, `iter`, `many`,
-//! `slots`, `block`, `attestation`, `operations`, `epoch`, `head`, `record`, `events`, `bodies` or `mainnet`. Without a word nothing is measured.
+//! `slots`, `block`, `attestation`, `operations`, `epoch`, `head`, `record`, `events`, `bodies`,
+//! `mainnet`, `drill`, `drill_mainnet`, `deposits` or `duties`. Without a word nothing is measured.
 #![tactic(auto)]
 
 mod attestation;
 mod block;
 mod chain;
+mod deposits;
+mod drill;
 mod epoch;
+mod epoch_duties;
 mod events;
 mod genesis;
 mod hashes;
@@ -36,7 +40,7 @@ use std::time::CpuClock;
 
 /// What is printed where no word names a measurement.
 const USAGE: &str =
-    "name what to measure: pairs, shuffle, state, registry, change, iter, many, slots, block, attestation, operations, epoch, head, record, events, bodies or mainnet";
+    "name what to measure: pairs, shuffle, state, registry, change, iter, many, slots, block, attestation, operations, epoch, head, record, events, bodies, mainnet, drill, drill_mainnet, deposits or duties";
 
 /// Measures what a word names.
 fn measure(rt: &(impl AllocGlobal + Print + CpuClock + Files), word: &str) -> Result<()> {
@@ -45,6 +49,9 @@ fn measure(rt: &(impl AllocGlobal + Print + CpuClock + Files), word: &str) -> Re
         "events" => events::measure(rt),
         "bodies" => record::measure(rt, &Network::minimal(), 32),
         "mainnet" => record::measure(rt, &Network::mainnet(), 1),
+        "drill" => drill::measure(rt),
+        "drill_mainnet" => drill::measure_mainnet(rt),
+        "deposits" => deposits::measure(rt),
         _ => measure_steps(rt, word),
     }
 }
@@ -58,6 +65,7 @@ fn measure_steps(rt: &(impl AllocGlobal + Print + CpuClock), word: &str) -> Resu
         "operations" => operations::measure(rt),
         "attestation" => attestation::measure(rt),
         "head" => head::measure(rt),
+        "duties" => epoch_duties::measure(rt),
         _ => measure_parts(rt, word),
     }
 }

@@ -34,7 +34,7 @@ pub struct Times {
 
 impl Times {
     /// Nothing yet.
-    fn none() -> Times {
+    pub fn none() -> Times {
         Times {
             ticks: Time::none(),
             blocks: Time::none(),
@@ -100,7 +100,7 @@ fn take_head(rt: &impl CpuClock, store: &mut Store, times: &mut Times) {
 }
 
 /// Takes these events, and the head behind each.
-fn take_all(
+pub fn take_all(
     rt: &(impl AllocGlobal + CpuClock),
     store: &mut Store,
     events: &[Event],
@@ -129,7 +129,7 @@ fn run(
 }
 
 /// The store at a genesis state.
-fn store_at(alloc: Global, genesis: &Genesis) -> Result<Store>
+pub fn store_at(alloc: Global, genesis: &Genesis) -> Result<Store>
     requires preset { genesis.now.state.preset ≡ genesis.now.config.preset }
 {
     if genesis_check(&genesis.state).is_err() {

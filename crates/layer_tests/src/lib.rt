@@ -10,7 +10,7 @@ mod configuration;
 #[cfg(test)]
 mod containers;
 #[cfg(test)]
-mod duties;
+mod epoch_duties;
 #[cfg(test)]
 mod genesis;
 #[cfg(test)]

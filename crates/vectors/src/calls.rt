@@ -2,18 +2,19 @@
 //!
 //! A case is a folder of `data/calls`: `call` names the call, with a word behind some, `pre.ssz` is the state before it, `input.ssz`
 //! what it takes beside the state, `config.yaml` the configuration, and `answer` what it answers. A case has the files
-//! that its call takes. All states but those of `read_state` are of the minimal preset.
+//! that its call takes. All states but those of `read_state` and of made chains
+//! are of the minimal preset.
 //!
 //! A module here, which bears the name of the cases' folder, has the calls of one kind.
 
 mod answers;
 mod blocks;
+mod chains;
 mod closing;
 mod deposit_trees;
 mod deposits;
 mod exits;
 mod finality;
-mod genesis_files;
 mod given;
 mod heads;
 mod registry;
@@ -84,8 +85,8 @@ fn answer_of(alloc: Global, given: &Given) -> Result<String> {
     match given.name.as_str() {
         "read_state" => states::answer(alloc, given),
         "read_block" => blocks::answer(alloc, given),
-        "genesis_of_file" => genesis_files::answer(alloc, given),
         "deposit_tree" => deposit_trees::answer(alloc, given),
+        name if chains::is_chain(name) => chains::answer(alloc, given),
         _ => match State::read(alloc, &Preset::minimal(), given.state()?) {
             Ok(mut state) => answer_on(alloc, &mut state, given),
             Err(_) => bail!("the state doesn't read"),

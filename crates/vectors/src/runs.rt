@@ -1,5 +1,6 @@
 //! Runs of the program on recorded files, compared with what an independent implementation gives: configurations, genesis
-//! states and records of all kinds of events, command words, and an outside that fails.
+//! states and records of all kinds of events, files of deposits, states whose duties are asked for, command words, and an
+//! outside that fails.
 //!
 //! A case is a folder with the files that its words name, the expected lines `stdout` and the expected `status`; a file
 //! that isn't there is that of the folder `common`. A file `NAME.filled` says how NAME goes on: a byte, and how often it

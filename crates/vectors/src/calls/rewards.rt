@@ -1,7 +1,8 @@
 //! Rewards and penalties.
 
 ghost use Rattle.std.specs.Prelude.{◌≡◌};
-ghost use Rattle.spec_state.specs.Accessors.{get_previous_epoch, epoch_committees};
+ghost use Rattle.spec_state.specs.Accessors.{get_previous_epoch};
+ghost use Rattle.spec_state.specs.inside.EpochCommittees.{epoch_committees};
 ghost use Rattle.spec_state.specs.Soundness.{IsSoundWithinEpoch};
 
 use crate::calls::answers::stop_line;

@@ -3,7 +3,9 @@
 use bc_preset::ConfigFault;
 use bc_words::{ClashKind, Limit};
 use beacon_node::Status;
+use duties::DutiesFault;
 use record_file::RecordFault;
+use spec_genesis::DepositsFault;
 use spec_state::GenesisFault;
 use std::alloc::{AllocError, Global};
 
@@ -47,6 +49,16 @@ fn record_text(alloc: Global, fault: RecordFault) -> Result<String, AllocError> 
     }
 }
 
+/// A fault of a file of deposits, as the cases name it.
+fn deposits_text(alloc: Global, fault: DepositsFault) -> Result<String, AllocError> {
+    match fault {
+        DepositsFault::TooLong => format!(in alloc; "TooLong"),
+        DepositsFault::BadMagic => format!(in alloc; "BadMagic"),
+        DepositsFault::Torn => format!(in alloc; "Torn"),
+        DepositsFault::Overflow(index) => format!(in alloc; "Overflow({index})"),
+    }
+}
+
 /// A bound, as the cases name it.
 fn limit_text(alloc: Global, limit: Limit) -> Result<String, AllocError> {
     match limit {
@@ -61,6 +73,17 @@ fn clash_text(alloc: Global, kind: ClashKind) -> Result<String, AllocError> {
         ClashKind::ZeroBlock => format!(in alloc; "ZeroBlock"),
         ClashKind::ZeroState => format!(in alloc; "ZeroState"),
         ClashKind::Kept(number) => format!(in alloc; "Kept({number})"),
+    }
+}
+
+/// Why duties can't be told, as the cases name it.
+fn duties_text(alloc: Global, fault: DutiesFault) -> Result<String, AllocError> {
+    match fault {
+        DutiesFault::TooLong => format!(in alloc; "TooLong"),
+        DutiesFault::NotAWriting => format!(in alloc; "NotAWriting"),
+        DutiesFault::Unsound => format!(in alloc; "Unsound"),
+        DutiesFault::Epoch => format!(in alloc; "Epoch"),
+        DutiesFault::Refused(refusal) => format!(in alloc; "Refused({})", refusal.number()),
     }
 }
 
@@ -103,6 +126,14 @@ pub fn status_text(alloc: Global, status: &Status) -> Result<String, AllocError>
             format!(in alloc;
                 "{number} {name} which={which} event={event} kind={kind} kept_which={kept_which}"
             )
+        }
+        Status::Deposits(fault) => {
+            let fault = deposits_text(alloc, *fault)?;
+            format!(in alloc; "{number} {name} fault={fault}")
+        }
+        Status::Duties(fault) => {
+            let fault = duties_text(alloc, *fault)?;
+            format!(in alloc; "{number} {name} fault={fault}")
         }
         _ => format!(in alloc; "{number} {name}"),
     }

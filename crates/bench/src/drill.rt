@@ -1,0 +1,158 @@
+//! Made chains: what making one and handing it to a store takes, against the store alone; and whether a slot of mainnet grows
+//! dearer from the first quarter of a chain to the last.
+
+ghost use Rattle.std.specs.Prelude.{◌≡◌, ◌<◌, IfOk};
+
+use crate::chain::Event;
+use crate::genesis::{Genesis, Network};
+use crate::ratio::{Time, now, tell_ratio, tell_time, time_since};
+use crate::running::{Times, run_store, store_at, take_all};
+use anyhow::{Result, bail};
+use bc_preset::Config;
+use chain_maker::Maker;
+use fork_store::Store;
+use std::alloc::Global;
+use std::rt::Files;
+use std::time::CpuClock;
+
+/// The number that the chains are made from.
+const NUMBER: u64 = 0;
+
+/// More events than a chain has.
+const MOST_EVENTS: u64 = 1 << 20;
+
+/// How many slots a quarter of a mainnet chain has.
+const QUARTER: u64 = 256;
+
+/// The maker of the network's chain.
+#[tactic(auto, unfolding(spec_drill::specs::Maker::new_maker))]
+fn maker_of(alloc: Global, config: &Config) -> Result<Maker>
+    ensures { IfOk result (λ maker. maker.plan.config ≡ config.now) }
+{
+    if config.ejection_balance() >= 32_000_000_000 {
+        bail!("the made validators would be ejected");
+    }
+    Ok(Maker::new(alloc, NUMBER, config)?)
+}
+
+/// The next event of a maker.
+fn next_of(alloc: Global, maker: &mut Maker) -> Result<Option<Event>> {
+    match maker.next_event(alloc) {
+        Ok(Some(event)) => Ok(Some(Event {
+            kind: event.kind,
+            payload: Vec::from_slice(alloc, event.payload.as_slice())?,
+        })),
+        Ok(None) => Ok(None),
+        Err(stop) => Err(stop.into()),
+    }
+}
+
+/// The events of this many slots, or those that are left, up to the tick behind them.
+fn make_slots(alloc: Global, maker: &mut Maker, slots: u64) -> Result<Vec<Event>> {
+    let mut events = Vec::new(alloc);
+    let mut begun = 0u64;
+    for _ in 0..MOST_EVENTS {
+        match next_of(alloc, maker)? {
+            Some(event) => {
+                begun = begun.saturating_add(u64::from(event.kind == 1));
+                events.push(event)?;
+            }
+            None => return Ok(events),
+        }
+        if begun == slots {
+            return Ok(events);
+        }
+    }
+    bail!("the chain has no end")
+}
+
+/// A maker's genesis, with its configuration.
+#[tactic(auto, using(spec_drill::proofs::Genesis::slot_zero), unfolding(spec_drill::specs::MakeGenesis::genesis_of_plan))]
+fn genesis_of(alloc: Global, config: &Config) -> Result<Genesis>
+    ensures { IfOk result (λ genesis. genesis.state.preset ≡ genesis.config.preset) }
+{
+    let maker = maker_of(alloc, config)?;
+    let state = maker.genesis(alloc)?;
+    Ok(Genesis {
+        config: *config,
+        state,
+    })
+}
+
+/// Makes a chain, hands it to a store, and prints what both took against the store alone.
+fn measure_chain(
+    rt: &(impl AllocGlobal + Print + CpuClock + Files),
+    genesis: &Genesis,
+) -> Result<()>
+    requires preset { genesis.now.state.preset ≡ genesis.now.config.preset }
+{
+    let begin = now(rt);
+    let mut maker = maker_of(rt.alloc(), &genesis.config)?;
+    let events = make_slots(rt.alloc(), &mut maker, u64::MAX)?;
+    let made = time_since(rt, begin);
+    let times = run_store(rt, genesis, &events)?;
+    times.tell(rt, events.len())?;
+    let whole = made.plus(times.whole());
+    tell_time(rt, "making the events", made)?;
+    tell_ratio(
+        rt,
+        "a made chain, against the store with its events",
+        whole,
+        times.whole(),
+    )
+}
+
+/// Makes a quarter of a chain and hands it to the store. Gives what both took.
+fn take_quarter(
+    rt: &(impl AllocGlobal + CpuClock),
+    maker: &mut Maker,
+    store: &mut Store,
+) -> Result<Time> {
+    let begin = now(rt);
+    let events = make_slots(rt.alloc(), maker, QUARTER)?;
+    let made = time_since(rt, begin);
+    let mut times = Times::none();
+    take_all(rt, store, &events, &mut times)?;
+    Ok(made.plus(times.whole()))
+}
+
+/// Takes a chain by quarters, and prints what the last took against the first.
+fn measure_quarters(rt: &(impl AllocGlobal + Print + CpuClock), genesis: &Genesis) -> Result<()>
+    requires preset { genesis.now.state.preset ≡ genesis.now.config.preset }
+{
+    let mut maker = maker_of(rt.alloc(), &genesis.config)?;
+    let mut store = store_at(rt.alloc(), genesis)?;
+    let first = take_quarter(rt, &mut maker, &mut store)?;
+    let second = take_quarter(rt, &mut maker, &mut store)?;
+    let third = take_quarter(rt, &mut maker, &mut store)?;
+    let last = take_quarter(rt, &mut maker, &mut store)?;
+    tell_time(
+        rt,
+        "1,024 made slots of mainnet",
+        first.plus(second).plus(third.plus(last)),
+    )?;
+    tell_ratio(
+        rt,
+        "the last quarter of them, against the first",
+        last,
+        first,
+    )
+}
+
+/// Measures a chain of the minimal preset.
+pub fn measure(rt: &(impl AllocGlobal + Print + CpuClock + Files)) -> Result<()> {
+    let config = Network::minimal().configuration()?;
+    match genesis_of(rt.alloc(), &config) {
+        Ok(genesis) => measure_chain(rt, &genesis),
+        Err(error) => Err(error),
+    }
+}
+
+/// Measures a chain of the mainnet preset.
+pub fn measure_mainnet(rt: &(impl AllocGlobal + Print + CpuClock)) -> Result<()> {
+    let config = Network::mainnet().configuration()?;
+    match genesis_of(rt.alloc(), &config) {
+        Ok(genesis) => measure_quarters(rt, &genesis),
+        Err(error) => Err(error),
+    }
+}
