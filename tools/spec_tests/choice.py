@@ -1,4 +1,4 @@
-"""Cases of the runner `fork_choice`: their steps as a record, the run of `beacon anchor`, and their checks against its lines."""
+"""Cases of the runner `fork_choice`: their steps as a record, the run of `beacon replay` on their anchor, and their checks against its lines."""
 
 import re
 import subprocess
@@ -134,23 +134,15 @@ def planned(case, config, folder):
     return plan
 
 
-def command(folder, from_genesis):
-    """The command that opens the store of a case, and its files behind the configuration."""
-    if from_genesis:
-        return ["replay"], [folder / "anchor_state.ssz"]
-    return ["anchor"], [folder / "anchor_state.ssz", folder / "anchor_block.ssz"]
-
-
-def run(case, program, config, folder, from_genesis=False):
-    """Gives a case to `beacon anchor`, or to `beacon replay`: what becomes of it, and what is said of it."""
+def run(case, program, config, folder):
+    """Gives a case to `beacon replay`: what becomes of it, and what is said of it."""
     cases.unpack(case, config, folder)
     try:
         plan = planned(case, config, folder)
         RECORD.write_record(folder / "record", plan.events)
     except (RECORD.Fault, ValueError, AttributeError, OSError) as error:
         raise cases.Fault(f"its steps make no record: {error}") from error
-    name, files = command(folder, from_genesis)
-    words = [program, *name, config, *files, folder / "record"]
+    words = [program, "replay", config, folder / "anchor_state.ssz", folder / "record"]
     ran = subprocess.run(words, stdin=subprocess.DEVNULL, capture_output=True, text=True, timeout=600)
     lines = [PICTURE.LINE.match(line) for line in ran.stdout.splitlines()]
     if ran.returncode != 0 or len(lines) != len(plan.events) or None in lines:
