@@ -1,4 +1,3 @@
 pub mod Carried
 pub mod Pairs
-pub mod Registry
 pub mod Within

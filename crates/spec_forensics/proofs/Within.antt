@@ -40,11 +40,10 @@ use Rattle.spec_transition.proofs.BlockStays.{block_stays}
 use Rattle.spec_transition.proofs.HeaderChecks.{below}
 use Rattle.spec_blocks.proofs.Done.{on_the_way, chosen, same_value, check_holds}
 use Rattle.spec_blocks.proofs.Sound.{SameCommittees, same_count, same_committee, previous_below, same_previous}
-use Rattle.spec_blocks.proofs.Registry.{active_of}
+use Rattle.spec_blocks.proofs.Registry.{RegistryChange, active_of, voluntary_exit_keeps, proposer_slashing_keeps, attester_slashing_keeps, deposit_keeps}
 use Rattle.spec_blocks.proofs.SoundHeads.{same_seed}
 use Rattle.spec_blocks.proofs.Each.{each_keeps}
 use Rattle.spec_forensics.specs.CarriedVotes.{WasProcessed}
-use Rattle.spec_forensics.proofs.Registry.{voluntary_exit_keeps, proposer_slashing_keeps, attester_slashing_keeps, deposit_keeps}
 
 -- a state with the epoch of another one, and with its committees of the current and the previous epoch
 pub record IsWithin (s t : PlainState) : Type 0 where
@@ -202,21 +201,21 @@ module _ (s : PlainState) (low : get_current_epoch s < far_future_epoch) where
   operations_within x y body proposer config is within =
       let P : PlainState → Type 0 = IsWithin s in
       let before : (z : PlainState) → P z → get_current_epoch z < far_future_epoch = λ z holds. let same = holds.epoch in omega arith in
-      let registry : (z : PlainState) (validators : List Validator) (balances slashings : List ℕ) (deposits : ℕ)
-      → active_of validators (get_current_epoch z) ≡ active_of z.validators (get_current_epoch z)
-      → active_of validators (get_previous_epoch z) ≡ active_of z.validators (get_previous_epoch z)
+      let registry : (z : PlainState) (validators : List Validator) (balances slashings : List ℕ) (deposits : ℕ) → RegistryChange z validators balances
       → P z → P (record z { validators = validators; balances = balances; slashings = slashings; eth1_deposit_index = deposits }) =
-      λ z validators balances slashings deposits now then holds. within_on s z _ holds (registry_within z validators balances slashings deposits now then) in
+      λ z validators balances slashings deposits change holds.
+      within_on s z _ holds
+      (registry_within z validators balances slashings deposits (change.active (before z holds) (get_current_epoch z) (omega arith)) (change.active (before z holds) (get_previous_epoch z) (previous_below z).0)) in
       let count = on_the_way (check_deposit_count x body) _ y is in
       let one = on_the_way (each_of (λ s operation. process_proposer_slashing s operation proposer config) x body.proposer_slashings) _ y count.then_done in
       let two = on_the_way (each_of (λ s operation. process_attester_slashing s operation proposer config) one.value body.attester_slashings) _ y one.then_done in
       let three = on_the_way (each_of (λ s operation. process_attestation s operation proposer) two.value body.attestations) _ y two.then_done in
       let four = on_the_way (each_of process_deposit three.value body.deposits) _ y three.then_done in
-      let after_one = each_keeps P (λ s operation. process_proposer_slashing s operation proposer config) (proposer_slashing_keeps P before registry proposer config) body.proposer_slashings x one.value one.first within in
-      let after_two = each_keeps P (λ s operation. process_attester_slashing s operation proposer config) (attester_slashing_keeps P before registry proposer config) body.attester_slashings one.value two.value two.first after_one in
+      let after_one = each_keeps P (λ s operation. process_proposer_slashing s operation proposer config) (proposer_slashing_keeps P registry proposer config) body.proposer_slashings x one.value one.first within in
+      let after_two = each_keeps P (λ s operation. process_attester_slashing s operation proposer config) (attester_slashing_keeps P registry proposer config) body.attester_slashings one.value two.value two.first after_one in
       let after_three = attestations_taken s proposer body.attestations two.value three.value three.first after_two in
-      let after_four = each_keeps P process_deposit (deposit_keeps P before registry) body.deposits three.value four.value four.first after_three.0 in
-      (each_keeps P (λ s operation. process_voluntary_exit s operation config) (voluntary_exit_keeps P before registry config) body.voluntary_exits four.value y four.then_done after_four, after_three.1)
+      let after_four = each_keeps P process_deposit (deposit_keeps P registry) body.deposits three.value four.value four.first after_three.0 in
+      (each_keeps P (λ s operation. process_voluntary_exit s operation config) (voluntary_exit_keeps P registry config) body.voluntary_exits four.value y four.then_done after_four, after_three.1)
 
 -- ---- the head of a block
 

@@ -1,0 +1,140 @@
+-- A block on the end of a chain is a step of its history, and the new end.
+use Rattle.std.proofs.Common.{◌≡◌, ◌∙◌, ℕ, zero, suc, ◌+◌, ◌<◌, ◌^◌, ◌⊎◌, inl, inr, false, true, cond, List, [], ◌∷◌, map, length, refl, sym, ap, subst, arith}
+use Rattle.std.specs.List.{Contains}
+use Rattle.std.specs.Cmp.{unsigned_Decides}
+use Rattle.std.specs.Cmp.Lexicographic.{pointwise_decides}
+use Rattle.bc_words.specs.Outcome.{done}
+use Rattle.bc_preset.specs.declared.configuration.ConfigValues.{ConfigValues}
+use Rattle.beacon_types.specs.Equality.{same_root}
+use Rattle.beacon_body.specs.Containers.{block_codec}
+use Rattle.beacon_body.specs.declared.signed_block.SignedBeaconBlock.{SignedBeaconBlock}
+use Rattle.spec_state.specs.declared.plain.PlainState.{PlainState}
+use Rattle.spec_state.specs.Genesis.{zero_root, header_root_of}
+use Rattle.spec_state.specs.Soundness.{IsSound}
+use Rattle.spec_state.specs.States.{state_codec}
+use Rattle.spec_transition.specs.ProcessSlots.{Stepped}
+use Rattle.spec_transition.specs.StateTransition.{state_transition}
+use Rattle.spec_forensics.specs.Histories.{AcceptedBlock, IsStepOn, chain_to, state_behind}
+use Rattle.forensics.specs.Books.{PlainBook, history_of, with_block}
+use Rattle.chain_book.specs.Chains.{PlainChain, IsChain}
+
+-- the accepted block of a step
+abbrev pub accepted : ℕ → List ℕ → SignedBeaconBlock → Stepped → AcceptedBlock
+accepted event root signed step = record { event = event; root = root; block = signed.message; state = step.state; entered = step.entered }
+
+first_of : (x : List ℕ) (xs : List (List ℕ)) → Contains (x ∷ xs) x
+first_of x xs = (0, omega arith, refl)
+
+same_end : (root : List ℕ) → same_root root root ≡ true
+same_end root = (pointwise_decides unsigned_Decides root root).1 refl
+
+pub is_step : (chain : PlainChain) (event : ℕ) (root : List ℕ) (signed : SignedBeaconBlock) (step : Stepped) → IsChain chain → signed.message.parent_root ≡ chain.root → root ≡ block_codec.hash_tree_root signed.message → signed.message.slot < 2 ^ 64
+    → same_root root zero_root ≡ false → same_root ((state_codec step.state.preset).hash_tree_root step.state) zero_root ≡ false → state_transition chain.state signed chain.book.config ≡ done step
+    → IsStepOn chain.book.config chain.book.genesis (history_of chain.book chain.which) (accepted event root signed step)
+is_step chain event root signed step is parent root_is slot root_set state_set goes = record {
+  signed = signed;
+  message = refl;
+  root = root_is;
+  parent = subst (λ (r : List ℕ). (r ≡ header_root_of chain.book.genesis) ⊎ Contains (map (λ (e : AcceptedBlock). e.root) (history_of chain.book chain.which)) r) (sym parent) is.known;
+  step =
+      ap (λ (r : List ℕ). state_transition (state_behind chain.book.genesis (chain_to (history_of chain.book chain.which) r)) signed chain.book.config) parent
+      ∙ ap (λ (s : PlainState). state_transition s signed chain.book.config) is.behind
+      ∙ goes;
+  slot = slot;
+  root_is_set = root_set;
+  state_root_is_set = state_set;
+}
+
+-- ---- the new end
+
+latest : (book : PlainBook) (which : ℕ) (b : AcceptedBlock) → which < 2 → history_of (with_block book which b) which ≡ b ∷ history_of book which
+unfolding history_of with_block
+latest book zero b low = refl
+latest book (suc zero) b low = refl
+latest book (suc (suc n)) b low = absurd (omega arith)
+
+one_genesis : (book : PlainBook) (which : ℕ) (b : AcceptedBlock) → which < 2 → (with_block book which b).genesis ≡ book.genesis
+unfolding with_block
+one_genesis book zero b low = refl
+one_genesis book (suc zero) b low = refl
+one_genesis book (suc (suc n)) b low = absurd (omega arith)
+
+pub one_config : (book : PlainBook) (which : ℕ) (b : AcceptedBlock) → which < 2 → (with_block book which b).config ≡ book.config
+unfolding with_block
+one_config book zero b low = refl
+one_config book (suc zero) b low = refl
+one_config book (suc (suc n)) b low = absurd (omega arith)
+
+in_order : (book : PlainBook) (which : ℕ) (b : AcceptedBlock) → which < 2 → (which ≡ 0 → book.second ≡ []) → which ≡ 0 → (with_block book which b).second ≡ []
+unfolding with_block
+in_order book zero b low order e = order refl
+in_order book (suc n) b low order e = absurd (omega arith)
+
+pub one_more : (book : PlainBook) (which : ℕ) (b : AcceptedBlock) → which < 2 → length (with_block book which b).first + length (with_block book which b).second ≡ (length book.first + length book.second) + 1
+unfolding with_block
+one_more book zero b low = omega arith
+one_more book (suc zero) b low = omega arith
+one_more book (suc (suc n)) b low = absurd (omega arith)
+
+ends_there : (genesis : PlainState) (b : AcceptedBlock) (earlier : List AcceptedBlock) → state_behind genesis (chain_to (b ∷ earlier) b.root) ≡ b.state
+unfolding chain_to
+ends_there genesis b earlier = ap (λ t. state_behind genesis (cond t (b ∷ chain_to earlier b.block.parent_root) (chain_to earlier b.root))) (same_end b.root)
+
+pub next_end : (chain : PlainChain) (b : AcceptedBlock) → IsChain chain → IsSound b.state → IsChain (record { book = with_block chain.book chain.which b; which = chain.which; root = b.root; state = b.state })
+next_end chain b is sound =
+    let book : PlainBook = with_block chain.book chain.which b in
+    let more : history_of book chain.which ≡ b ∷ history_of chain.book chain.which = latest chain.book chain.which b is.which in
+    record {
+      which = is.which;
+      order = in_order chain.book chain.which b is.which is.order;
+      sound = sound;
+      genesis_sound = subst IsSound (sym (one_genesis chain.book chain.which b is.which)) is.genesis_sound;
+      behind = ap (λ (h : List AcceptedBlock). state_behind book.genesis (chain_to h b.root)) more ∙ ends_there book.genesis b (history_of chain.book chain.which);
+      known = inr (subst (λ (h : List AcceptedBlock). Contains (map (λ (e : AcceptedBlock). e.root) h) b.root) (sym more) (first_of b.root (map (λ (e : AcceptedBlock). e.root) (history_of chain.book chain.which))));
+    }
+
+-- ---- at the beginning
+
+pub no_block : (config : ConfigValues) (genesis : PlainState) → IsSound genesis → IsChain (record { book = record { config = config; genesis = genesis; first = []; second = [] }; which = 0; root = header_root_of genesis; state = genesis })
+unfolding history_of chain_to
+no_block config genesis sound = record { which = omega arith; order = λ e. refl; sound = sound; genesis_sound = sound; behind = refl; known = inl refl }
+
+pub turned : (book : PlainBook) → book.second ≡ [] → IsSound book.genesis → IsChain (record { book = book; which = 1; root = header_root_of book.genesis; state = book.genesis })
+unfolding history_of chain_to
+turned book none sound = record {
+  which = omega arith;
+  order = λ e. absurd (omega arith);
+  sound = sound;
+  genesis_sound = sound;
+  behind = ap (λ (h : List AcceptedBlock). state_behind book.genesis (chain_to h (header_root_of book.genesis))) none;
+  known = inl refl;
+}
+
+-- ---- the same, as code comes by it
+
+pub begins : (config : ConfigValues) (genesis : PlainState) (book : PlainBook) (root : List ℕ) (state : PlainState) → IsSound genesis → book ≡ record { config = config; genesis = genesis; first = []; second = [] } → root ≡ header_root_of genesis → state ≡ genesis
+    → IsChain (record { book = book; which = 0; root = root; state = state })
+begins config genesis book root state sound is root_is state_is =
+    subst (λ (b : PlainBook). IsChain (record { book = b; which = 0; root = root; state = state })) (sym is)
+    (subst (λ (r : List ℕ). IsChain (record { book = record { config = config; genesis = genesis; first = []; second = [] }; which = 0; root = r; state = state })) (sym root_is)
+    (subst (λ (s : PlainState). IsChain (record { book = record { config = config; genesis = genesis; first = []; second = [] }; which = 0; root = header_root_of genesis; state = s })) (sym state_is) (no_block config genesis sound)))
+
+pub none_counted : (config : ConfigValues) (genesis : PlainState) (book : PlainBook) → book ≡ record { config = config; genesis = genesis; first = []; second = [] } → length book.first + length book.second ≡ 0
+none_counted config genesis book is = ap (λ (b : PlainBook). length b.first + length b.second) is
+
+pub turns : (book : PlainBook) (genesis : PlainState) (root : List ℕ) (state : PlainState) → genesis ≡ book.genesis → book.second ≡ [] → IsSound book.genesis → root ≡ header_root_of genesis → state ≡ genesis → IsChain (record { book = book; which = 1; root = root; state = state })
+turns book genesis root state is none sound root_is state_is =
+    subst (λ (r : List ℕ). IsChain (record { book = book; which = 1; root = r; state = state })) (sym (root_is ∙ ap header_root_of is))
+    (subst (λ (s : PlainState). IsChain (record { book = book; which = 1; root = header_root_of book.genesis; state = s })) (sym (state_is ∙ is)) (turned book none sound))
+
+pub goes_on : (view chain : PlainChain) (signed : SignedBeaconBlock) (step shown : Stepped) → chain ≡ view → shown ≡ step → state_transition view.state signed view.book.config ≡ done step → state_transition chain.state signed chain.book.config ≡ done shown
+goes_on view chain signed step shown is same goes = ap (λ (c : PlainChain). state_transition c.state signed c.book.config) is ∙ goes ∙ ap done (sym same)
+
+pub next_of : (chain : PlainChain) (count : ℕ) (genesis : PlainState) (config : ConfigValues) (b : AcceptedBlock) (book : PlainBook) → IsChain chain → genesis ≡ chain.book.genesis → config ≡ chain.book.config → length chain.book.first + length chain.book.second ≡ count → IsSound b.state → book ≡ with_block chain.book chain.which b
+    → IsChain (record { book = book; which = chain.which; root = b.root; state = b.state }) × (genesis ≡ book.genesis) × (config ≡ book.config) × (length book.first + length book.second ≡ count + 1)
+next_of chain count genesis config b book is genesis_is config_is counted sound grown = (
+  subst (λ (k : PlainBook). IsChain (record { book = k; which = chain.which; root = b.root; state = b.state })) (sym grown) (next_end chain b is sound),
+  genesis_is ∙ sym (one_genesis chain.book chain.which b is.which) ∙ ap (λ (k : PlainBook). k.genesis) (sym grown),
+  config_is ∙ sym (one_config chain.book chain.which b is.which) ∙ ap (λ (k : PlainBook). k.config) (sym grown),
+  ap (λ (k : PlainBook). length k.first + length k.second) grown ∙ one_more chain.book chain.which b is.which ∙ ap (λ (n : ℕ). n + 1) counted,
+)
