@@ -1,11 +1,15 @@
-//! Runs recorded cases, and compares what they give with what an independent implementation gives: runs of the program, and
-//! single calls of its layers.
+//! Runs recorded cases, and compares what they give with what an independent implementation gives: runs of the program,
+//! single calls of its layers, lists of votes, and pairs of histories.
 //!
-//! `cases` lists the cases, each a folder of `data`: those below `calls` are calls, all others are runs.
+//! `cases` lists the cases, each a folder of `data`: those below `calls` are calls, those below `offences` lists of votes, those
+//! below `books` pairs of histories, and all others are runs; the file `third_shared` has calls of its own.
 #![tactic(auto)]
 
+mod books;
 mod calls;
+mod offences;
 mod runs;
+mod shared_weights;
 
 use anyhow::Result;
 use std::fs;
@@ -15,6 +19,9 @@ use std::rt::Files;
 fn run_case(rt: &(impl Files + Print + AllocGlobal), name: &str) -> Result<bool> {
     match name.split_once('/') {
         Some(("calls", _)) => calls::run_case(rt, name),
+        Some(("books", _)) => books::run_case(rt, name),
+        Some(("offences", _)) => offences::run_case(rt, name),
+        None => shared_weights::run_case(rt, name),
         _ => runs::run_case(rt, name),
     }
 }
