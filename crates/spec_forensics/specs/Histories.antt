@@ -1,6 +1,7 @@
 -- The history of a record: its accepted block events, each with the state behind the block and the states on which epoch
 -- processing was entered on the way there. A list of accepted blocks has the latest first.
 use Rattle.std.specs.Prelude.{◌≡◌, ℕ, ◌<◌, ◌^◌, ◌⊎◌, false, List, [], ◌∷◌, map, Contains, if◌then◌else◌}
+use Rattle.std.specs.Option.{option_map_or}
 use Rattle.bc_words.specs.Outcome.{done}
 use Rattle.bc_preset.specs.declared.configuration.ConfigValues.{ConfigValues}
 use Rattle.beacon_types.specs.Equality.{same_root}
@@ -11,6 +12,8 @@ use Rattle.spec_state.specs.declared.plain.PlainState.{PlainState}
 use Rattle.spec_state.specs.Genesis.{zero_root, header_root_of}
 use Rattle.spec_state.specs.States.{state_codec}
 use Rattle.spec_transition.specs.StateTransition.{state_transition}
+use Rattle.spec_fork_choice.specs.Store.{Store, block_of}
+use Rattle.spec_fork_choice.specs.OnEvent.{Accepted, block, other}
 
 -- an accepted block event: its number, the block with its root, the state behind the block, and the states entered
 pub record AcceptedBlock : Type 0 where
@@ -19,6 +22,14 @@ pub record AcceptedBlock : Type 0 where
   pub block : BeaconBlock
   pub state : PlainState
   pub entered : List PlainState
+
+-- the history with an accepted event more, behind which the store is this one: a block, as the store keeps it, with the states entered
+-- on the way to it
+unfoldable pub with_event : ℕ → List AcceptedBlock → Store → Accepted → List AcceptedBlock
+with_event event history store other = history
+with_event event history store (block given) =
+    option_map_or (λ kept. record { event = event; root = given.root; block = kept.block; state = kept.state; entered = given.entered } ∷ history)
+    (block_of store.blocks given.root) history
 
 -- the chain that ends with the block of a root, without genesis; an empty one is that of genesis
 unfoldable pub chain_to : List AcceptedBlock → List ℕ → List AcceptedBlock

@@ -2,5 +2,6 @@ pub mod CarriedVotes
 pub mod Clash
 pub mod FirstPair
 pub mod Histories
-pub mod Lines
 pub mod Offences
+pub mod Steady
+pub mod Verdict

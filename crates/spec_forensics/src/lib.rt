@@ -6,8 +6,10 @@
 
 mod laws;
 mod offence;
+mod verdict;
 mod vote;
 
 pub use laws::{attesters_stay, offences_are_carried};
 pub use offence::{Offence, OffenceKind};
+pub use verdict::Verdict;
 pub use vote::Vote;

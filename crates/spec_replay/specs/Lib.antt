@@ -1,7 +1,9 @@
 pub mod Commands
 pub mod Drill
 pub mod Duties
+pub mod Forensic
 pub mod Genesis
 pub mod Lines
+pub mod OffenceLines
 pub mod Run
 pub mod Soundness
