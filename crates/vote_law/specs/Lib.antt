@@ -1,0 +1,4 @@
+pub mod Backed
+pub mod Ends
+pub mod Steady
+pub mod Runs
