@@ -1,4 +1,3 @@
 pub mod Backed
 pub mod Ends
-pub mod Steady
 pub mod Runs

@@ -13,7 +13,7 @@ use Rattle.ffg_law.specs.declared.link.Link.{Link}
 use Rattle.ffg_law.specs.Links.{IsOneOf, link_of}
 use Rattle.ffg_law.specs.Histories.{EpochEnd, IsHistory, last_from, nothing_justified, previous_link, current_link}
 use Rattle.vote_law.specs.Backed.{Votes, IsBacked}
-use Rattle.vote_law.specs.Steady.{genesis_weights, IsSteadyAt}
+use Rattle.spec_forensics.specs.Steady.{genesis_weights, IsSteadyAt}
 
 -- A chain as its slots: a root stands at a slot where it is that of the latest block there
 abbrev pub Places : Type 1
