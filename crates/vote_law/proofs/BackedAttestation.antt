@@ -1,30 +1,21 @@
 -- An attestation of a block waits backed, where the block carries its vote.
-use Rattle.std.proofs.Common.{◌≡◌, ◌∙◌, ℕ, ◌+◌, ◌-◌, ◌*◌, ◌<◌, ◌≤◌, ◌⊎◌, inl, inr, Bool, true, false, not, ◌||◌, ◌==◌, leb, nat_lt, List, [], ◌∷◌, ◌++◌, length, refl, sym, ap, subst, arith}
-use Rattle.std.specs.List.{AllByRecursion}
+use Rattle.std.proofs.Common.{◌≡◌, ◌∙◌, ℕ, ◌<◌, ◌⊎◌, inl, inr, Bool, true, not, ◌||◌, ◌==◌, nat_lt, List, [], ◌∷◌, ◌++◌, length, refl, sym, ap, subst}
 use Rattle.std.proofs.lemmas.Bool.{eqb-true, eqb-false, ltb-true, or_cases}
-use Rattle.bc_words.specs.Outcome.{Outcome, done, checked_add, checked_sub, checked_push}
-use Rattle.bc_words.specs.declared.refusal.Refusal.TheVariants.{AtTargetEpoch, AtSlotEpoch, AtIndex, AtSource, AtEmpty, WrongProposer, ProposerSlashed}
-use Rattle.bc_preset.specs.declared.presets.Preset.{Preset}
-use Rattle.bc_preset.specs.declared.configuration.ConfigValues.{ConfigValues}
-use Rattle.bc_preset.specs.laws.Bounds.{HasPresetBounds}
+use Rattle.bc_words.specs.Outcome.{done, checked_sub, checked_push}
+use Rattle.bc_words.specs.declared.refusal.Refusal.TheVariants.{AtTargetEpoch, AtSlotEpoch, AtIndex, AtSource, AtEmpty}
 use Rattle.beacon_types.specs.Equality.{same_checkpoint}
 use Rattle.beacon_types.proofs.Equality.{checkpoint_decides}
-use Rattle.beacon_types.specs.declared.validator.Validator.{Validator}
-use Rattle.beacon_types.specs.declared.eth1_data.Eth1Data.{Eth1Data}
 use Rattle.beacon_types.specs.declared.attestation_data.AttestationData.{AttestationData}
 use Rattle.beacon_types.specs.declared.pending_attestation.PendingAttestation.{PendingAttestation}
 use Rattle.beacon_body.specs.declared.attestation.Attestation.{Attestation}
-use Rattle.beacon_body.specs.declared.body.BeaconBlockBody.{BeaconBlockBody}
-use Rattle.beacon_body.specs.declared.block.BeaconBlock.{BeaconBlock}
 use Rattle.spec_state.specs.declared.plain.PlainState.{PlainState}
-use Rattle.spec_state.specs.Constants.{far_future_epoch}
-use Rattle.spec_state.specs.States.{attestations_limit, votes_limit}
+use Rattle.spec_state.specs.States.{attestations_limit}
 use Rattle.spec_state.specs.Misc.{compute_epoch_at_slot}
-use Rattle.spec_state.specs.Accessors.{get_current_epoch, get_previous_epoch, get_active_validator_indices, get_randao_mix, get_committee_count_per_slot, get_attesting_indices, get_beacon_proposer_index}
-use Rattle.spec_blocks.specs.Checks.{check, item_at, each_of}
+use Rattle.spec_state.specs.Accessors.{get_current_epoch, get_previous_epoch, get_active_validator_indices, get_randao_mix, get_committee_count_per_slot, get_attesting_indices}
+use Rattle.spec_blocks.specs.Checks.{check}
 use Rattle.spec_blocks.specs.ProcessAttestation.{process_attestation, check_times, check_committee, with_pending, with_current_pending, with_previous_pending}
 use Rattle.spec_blocks.proofs.Done.{on_the_way, chosen, same_value, check_holds, push_is}
-use Rattle.spec_blocks.proofs.Sound.{SameCommittees, previous_below, same_previous}
+use Rattle.spec_blocks.proofs.Sound.{SameCommittees}
 use Rattle.vote_law.specs.Backed.{Votes, IsBackedBy, IsBacked}
 use Rattle.vote_law.proofs.Lists.{with_last}
 use Rattle.vote_law.proofs.Backed.{all_backed_stay, no_more}

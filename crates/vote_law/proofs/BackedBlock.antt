@@ -1,44 +1,39 @@
 -- A block keeps the attestations that wait backed, by what it carries too.
-use Rattle.std.proofs.Common.{◌≡◌, ◌∙◌, ℕ, ◌+◌, ◌-◌, ◌*◌, ◌<◌, ◌≤◌, ◌⊎◌, inl, inr, Bool, true, false, not, ◌||◌, ◌==◌, leb, nat_lt, List, [], ◌∷◌, ◌++◌, length, refl, sym, ap, subst, arith}
-use Rattle.std.specs.List.{AllByRecursion}
-use Rattle.std.proofs.lemmas.Bool.{eqb-true, eqb-false, ltb-true, or_cases}
-use Rattle.bc_words.specs.Outcome.{Outcome, done, checked_add, checked_sub, checked_push}
-use Rattle.bc_words.specs.declared.refusal.Refusal.TheVariants.{AtTargetEpoch, AtSlotEpoch, AtIndex, AtSource, AtEmpty, WrongProposer, ProposerSlashed}
+use Rattle.std.proofs.Common.{◌≡◌, ◌∙◌, ℕ, ◌*◌, ◌<◌, ◌⊎◌, inl, inr, not, ◌==◌, nat_lt, List, [], ◌∷◌, refl, sym, ap, subst, arith}
+use Rattle.bc_words.specs.Outcome.{Outcome, done, checked_push}
+use Rattle.bc_words.specs.declared.refusal.Refusal.TheVariants.{WrongProposer, ProposerSlashed}
 use Rattle.bc_preset.specs.declared.presets.Preset.{Preset}
 use Rattle.bc_preset.specs.declared.configuration.ConfigValues.{ConfigValues}
 use Rattle.bc_preset.specs.laws.Bounds.{HasPresetBounds}
-use Rattle.beacon_types.specs.Equality.{same_checkpoint}
-use Rattle.beacon_types.proofs.Equality.{checkpoint_decides}
 use Rattle.beacon_types.specs.declared.validator.Validator.{Validator}
 use Rattle.beacon_types.specs.declared.eth1_data.Eth1Data.{Eth1Data}
 use Rattle.beacon_types.specs.declared.attestation_data.AttestationData.{AttestationData}
-use Rattle.beacon_types.specs.declared.pending_attestation.PendingAttestation.{PendingAttestation}
 use Rattle.beacon_body.specs.declared.attestation.Attestation.{Attestation}
 use Rattle.beacon_body.specs.declared.body.BeaconBlockBody.{BeaconBlockBody}
 use Rattle.beacon_body.specs.declared.block.BeaconBlock.{BeaconBlock}
 use Rattle.spec_state.specs.declared.plain.PlainState.{PlainState}
 use Rattle.spec_state.specs.Constants.{domain_beacon_attester, far_future_epoch}
-use Rattle.spec_state.specs.States.{attestations_limit, votes_limit}
+use Rattle.spec_state.specs.States.{votes_limit}
 use Rattle.spec_state.specs.Misc.{compute_epoch_at_slot}
-use Rattle.spec_state.specs.Accessors.{get_current_epoch, get_previous_epoch, get_active_validator_indices, get_randao_mix, get_committee_count_per_slot, get_attesting_indices, get_beacon_proposer_index}
+use Rattle.spec_state.specs.Accessors.{get_current_epoch, get_previous_epoch, get_active_validator_indices, get_randao_mix, get_beacon_proposer_index}
 use Rattle.spec_blocks.specs.Checks.{check, item_at, each_of}
-use Rattle.spec_blocks.specs.ProcessAttestation.{process_attestation, check_times, check_committee, with_pending, with_current_pending, with_previous_pending}
+use Rattle.spec_blocks.specs.ProcessAttestation.{process_attestation}
 use Rattle.spec_blocks.specs.ProcessProposerSlashing.{process_proposer_slashing}
 use Rattle.spec_blocks.specs.ProcessAttesterSlashing.{process_attester_slashing}
 use Rattle.spec_blocks.specs.ProcessDeposit.{process_deposit}
 use Rattle.spec_blocks.specs.ProcessVoluntaryExit.{process_voluntary_exit}
 use Rattle.spec_blocks.specs.ProcessOperations.{process_operations, check_deposit_count}
-use Rattle.spec_blocks.specs.ProcessBlockHeader.{process_block_header, header_of}
+use Rattle.spec_blocks.specs.ProcessBlockHeader.{process_block_header}
 use Rattle.spec_blocks.specs.ProcessRandao.{process_randao}
 use Rattle.spec_blocks.specs.ProcessEth1Data.{process_eth1_data, count_votes}
 use Rattle.spec_blocks.specs.ProcessBlock.{process_block}
-use Rattle.spec_blocks.proofs.Done.{on_the_way, chosen, same_value, check_holds, push_is}
+use Rattle.spec_blocks.proofs.Done.{on_the_way, chosen, same_value}
 use Rattle.spec_blocks.proofs.Sound.{SameCommittees, previous_below, same_previous}
 use Rattle.spec_blocks.proofs.Registry.{RegistryChange, active_of, voluntary_exit_keeps, proposer_slashing_keeps, attester_slashing_keeps, deposit_keeps}
 use Rattle.spec_blocks.proofs.SoundHeads.{same_seed}
 use Rattle.spec_blocks.proofs.Each.{each_keeps}
 use Rattle.ffg_law.specs.Links.{IsOneOf}
-use Rattle.vote_law.specs.Backed.{Votes, IsListed, Adding, IsBacked}
+use Rattle.vote_law.specs.Backed.{Votes, Adding, IsBacked}
 use Rattle.vote_law.proofs.Backed.{More, same_attesters, Stands, still_backed, backed_more, no_more, same_stays}
 use Rattle.vote_law.proofs.BackedAttestation.{attestation_pends}
 

@@ -1,15 +1,12 @@
 -- The end of an epoch keeps the attestations that wait backed: the current ones become the previous ones, and so does the
 -- justified checkpoint.
-use Rattle.std.proofs.Common.{◌≡◌, ◌≢◌, ◌∙◌, ℕ, ◌+◌, ◌-◌, ◌/◌, ◌%◌, ◌<◌, ◌≤◌, Bool, true, false, leb, List, [], refl, sym, ap, subst, arith, inl, inr}
-use Rattle.std.specs.List.{AllByRecursion}
-use Rattle.std.proofs.lemmas.Bool.{cases_lt, leb-true, leb-false}
-use Rattle.std.proofs.Math.Nat.{div-add-mod, mod-lt, mul-le-mul_left}
-use Rattle.bc_words.specs.Outcome.{Outcome, done}
+use Rattle.std.proofs.Common.{◌≡◌, ◌∙◌, ℕ, ◌+◌, ◌/◌, ◌%◌, ◌<◌, ◌≤◌, Bool, true, false, leb, List, refl, sym, ap, subst, arith, inl, inr}
+use Rattle.std.proofs.lemmas.Bool.{leb-true, leb-false}
+use Rattle.bc_words.specs.Outcome.{done}
 use Rattle.bc_preset.specs.declared.presets.Preset.{Preset}
 use Rattle.bc_preset.specs.declared.configuration.ConfigValues.{ConfigValues}
 use Rattle.bc_preset.specs.laws.Bounds.{HasPresetBounds}
 use Rattle.beacon_types.specs.declared.checkpoint.Checkpoint.{Checkpoint}
-use Rattle.beacon_types.specs.declared.pending_attestation.PendingAttestation.{PendingAttestation}
 use Rattle.spec_state.specs.declared.plain.PlainState.{PlainState}
 use Rattle.spec_state.specs.Constants.{far_future_epoch}
 use Rattle.spec_state.specs.Accessors.{get_current_epoch, get_previous_epoch, get_active_validator_indices, get_randao_mix, get_block_root, get_total_active_balance}
@@ -22,8 +19,8 @@ use Rattle.spec_epochs.specs.WeighJustificationAndFinalization.{justification_of
 use Rattle.spec_epochs.specs.ProcessJustificationAndFinalization.{process_justification_and_finalization}
 use Rattle.spec_epochs.specs.ProcessParticipationRecordUpdates.{process_participation_record_updates}
 use Rattle.spec_epochs.specs.ProcessEpoch.{process_epoch}
-use Rattle.spec_epochs.proofs.EpochParts.{EpochParts, parts_of}
-use Rattle.spec_epochs.proofs.SoundWithin.{Leaves, leaves_both, epoch_of}
+use Rattle.spec_epochs.proofs.EpochParts.{parts_of}
+use Rattle.spec_epochs.proofs.SoundWithin.{epoch_of}
 use Rattle.spec_epochs.proofs.SoundEpoch.{next_begins, parts_leave}
 use Rattle.spec_epochs.proofs.SoundJustification.{justification_leaves, either_of}
 use Rattle.vote_law.specs.Backed.{Votes, IsBacked}

@@ -1,5 +1,5 @@
 -- The weights of genesis: what a state whose validators are those of genesis sums is what they weigh.
-use Rattle.std.proofs.Common.{◌≡◌, ◌∙◌, ℕ, zero, suc, ◌+◌, ◌-◌, ◌<◌, ◌≤◌, ◌⊎◌, inl, inr, max, Bool, true, false, if◌then◌else◌, List, [], ◌∷◌, map, sum, slice_index, refl, sym, ap, subst, arith}
+use Rattle.std.proofs.Common.{◌≡◌, ◌∙◌, ℕ, suc, ◌+◌, ◌-◌, ◌≤◌, inl, inr, max, Bool, true, false, if◌then◌else◌, List, [], ◌∷◌, map, sum, slice_index, refl, sym, ap, subst, arith}
 use Rattle.std.specs.List.{filter}
 use Rattle.std.proofs.lemmas.List.Sums.{sum_by-cons}
 use Rattle.bc_words.specs.Outcome.{done}
@@ -77,7 +77,7 @@ weighs_first test low v vs i b is h rest =
     (omega arith, subst (λ (j : ℕ). slice_index (weights_by test (v ∷ vs)) j ≡ effective_balance (v ∷ vs) j) (sym e) r.1) in
     weighs_either b low i (indices_from test (suc low) vs) (subst (λ (b : Bool). IsOneOf i (if b then low ∷ indices_from test (suc low) vs else indices_from test (suc low) vs)) is h)
     ((low ≤ i) × (slice_index (weights_by test (v ∷ vs)) (i - low) ≡ effective_balance (v ∷ vs) (i - low)))
-    (λ passes e. 
+    (λ passes e.
     let z : i - low ≡ 0 = omega arith in
     (omega arith, subst (λ (j : ℕ). slice_index (weights_by test (v ∷ vs)) j ≡ effective_balance (v ∷ vs) j) (sym z) (ap (λ (b : Bool). if b then v.effective_balance else 0) (is ∙ passes)))) later
 

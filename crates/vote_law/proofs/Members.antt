@@ -1,10 +1,9 @@
 -- Who attests is in the committee, and who is in the committee is active.
-use Rattle.std.proofs.Common.{◌≡◌, ◌∙◌, ℕ, zero, suc, ◌+◌, ◌-◌, ◌*◌, ◌/◌, ◌%◌, ◌<◌, ◌≤◌, ◌⊎◌, inl, inr, Bool, true, false, cond, not, ◌==◌, List, [], ◌∷◌, length, map, slice_index, refl, sym, ap, subst, arith}
-use Rattle.std.specs.List.{range_with_len, filter, list_any}
+use Rattle.std.proofs.Common.{◌≡◌, ℕ, zero, suc, ◌+◌, ◌-◌, ◌*◌, ◌/◌, ◌%◌, ◌<◌, ◌≤◌, inl, inr, Bool, true, false, ◌==◌, List, [], ◌∷◌, length, map, slice_index, refl, subst, arith}
+use Rattle.std.specs.List.{range_with_len, list_any}
 use Rattle.std.proofs.lemmas.Bool.{eqb-true}
 use Rattle.std.proofs.Math.Nat.{mod-lt, mul-le-mul_left}
 use Rattle.bc_preset.specs.laws.Bounds.{HasPresetBounds}
-use Rattle.beacon_types.specs.declared.validator.Validator.{Validator}
 use Rattle.beacon_types.specs.declared.attestation_data.AttestationData.{AttestationData}
 use Rattle.beacon_types.specs.declared.pending_attestation.PendingAttestation.{PendingAttestation}
 use Rattle.shuffling.specs.Shuffling.{compute_shuffled_index}
@@ -12,9 +11,8 @@ use Rattle.shuffling.proofs.Rounds.{place_below}
 use Rattle.committees.specs.Committees.{committee_start, compute_committee}
 use Rattle.committees.proofs.Parts.{first_fits}
 use Rattle.spec_state.specs.declared.plain.PlainState.{PlainState}
-use Rattle.spec_state.specs.Constants.{domain_beacon_attester}
 use Rattle.spec_state.specs.Misc.{compute_epoch_at_slot}
-use Rattle.spec_state.specs.Accessors.{get_active_validator_indices, get_seed, get_committee_count_per_slot, get_beacon_committee, get_attesting_indices, members_with_bits}
+use Rattle.spec_state.specs.Accessors.{get_active_validator_indices, get_committee_count_per_slot, get_beacon_committee, get_attesting_indices, members_with_bits}
 use Rattle.spec_epochs.specs.Each.{is_among}
 use Rattle.spec_epochs.specs.Helpers.{attests}
 use Rattle.ffg_law.specs.Links.{IsOneOf}

@@ -1,43 +1,28 @@
 -- The slots of a chain: states stay backed, their latest block roots tell the chain, and their justification is what the ends of
 -- its epochs made.
-use Rattle.std.proofs.Common.{◌≡◌, ◌≢◌, ◌∙◌, ℕ, zero, suc, ◌+◌, ◌-◌, ◌*◌, ◌/◌, ◌%◌, ◌<◌, ◌≤◌, ◌^◌, ◌⊎◌, inl, inr, Bool, true, false, not, List, [], ◌∷◌, ◌++◌, length, length-append, slice_set, refl, sym, ap, subst, arith}
+use Rattle.std.proofs.Common.{◌≡◌, ◌∙◌, ℕ, ◌+◌, ◌-◌, ◌*◌, ◌%◌, ◌<◌, ◌≤◌, inl, inr, List, [], ◌∷◌, ◌++◌, length, length-append, refl, sym, ap, subst, arith}
 use Rattle.std.specs.Prelude.{slice_index_or}
 use Rattle.std.specs.List.{AllByRecursion}
-use Rattle.std.proofs.lemmas.Bool.{cases_lt, not-true, not-false}
-use Rattle.std.proofs.lemmas.List.{length-set, get_or-set_same, get_or-set_other}
-use Rattle.std.proofs.Math.Nat.{div-add-mod, mod-lt, mul_comm}
-use Rattle.bc_words.specs.Outcome.{Outcome, done, each_from}
+use Rattle.std.proofs.lemmas.Bool.{cases_lt}
+use Rattle.std.proofs.lemmas.List.{length-set}
+use Rattle.bc_words.specs.Outcome.{done}
 use Rattle.bc_preset.specs.declared.presets.Preset.{Preset}
-use Rattle.bc_preset.specs.declared.configuration.ConfigValues.{ConfigValues}
 use Rattle.bc_preset.specs.laws.Bounds.{HasPresetBounds}
-use Rattle.beacon_types.specs.Equality.{same_root}
-use Rattle.beacon_types.specs.Containers.{block_header_codec}
-use Rattle.beacon_types.specs.declared.attestation_data.AttestationData.{AttestationData}
 use Rattle.spec_state.specs.declared.plain.PlainState.{PlainState}
-use Rattle.spec_state.specs.Genesis.{block_header_of, header_root_of}
-use Rattle.spec_state.specs.Constants.{far_future_epoch}
-use Rattle.spec_state.specs.Misc.{compute_epoch_at_slot}
-use Rattle.spec_state.specs.Accessors.{get_current_epoch, get_previous_epoch, get_active_validator_indices, get_block_root, get_block_root_at_slot}
-use Rattle.spec_blocks.proofs.Done.{on_the_way, chosen, same_value}
+use Rattle.spec_state.specs.Genesis.{header_root_of}
+use Rattle.spec_state.specs.Accessors.{get_current_epoch, get_previous_epoch, get_block_root, get_block_root_at_slot}
 use Rattle.spec_transition.proofs.RecentRoots.{IsRecent, recent, set_root}
 use Rattle.spec_epochs.specs.declared.justification.Justification.{Justification}
 use Rattle.spec_epochs.specs.WeighJustificationAndFinalization.{justification_of, with_justification}
 use Rattle.spec_epochs.specs.ProcessJustificationAndFinalization.{process_justification_and_finalization}
-use Rattle.spec_epochs.specs.ProcessEpoch.{process_epoch}
-use Rattle.spec_epochs.proofs.EpochParts.{EpochParts, parts_of}
-use Rattle.spec_epochs.proofs.Fixed.{epoch_preset, epoch_slot}
-use Rattle.spec_epochs.proofs.SoundJustification.{Weighed, either_of, justification_leaves}
+use Rattle.spec_epochs.proofs.SoundJustification.{either_of}
 use Rattle.spec_transition.specs.ProcessSlot.{process_slot}
-use Rattle.spec_transition.specs.ProcessSlots.{Stepped, is_last_of_epoch, with_next_slot, end_epoch, next_slot}
-use Rattle.spec_transition.proofs.HeaderChecks.{Filled, header_fills, header_stays, ended, ended_preset}
-use Rattle.spec_transition.proofs.Links.{Links, links_of, links_stay, header_leaves}
-use Rattle.spec_transition.proofs.SoundSlots.{next_slot_is, next_preset_is}
+use Rattle.spec_transition.proofs.Links.{Links, links_of}
 use Rattle.ffg_law.specs.declared.link.Link.{Link}
-use Rattle.ffg_law.specs.Histories.{EpochEnd, IsHistory, IsHistoryFrom, IsWeighed, last_from, nothing_justified, first_weighed}
-use Rattle.ffg_law.specs.Links.{IsOneOf}
+use Rattle.ffg_law.specs.Histories.{EpochEnd, IsHistoryFrom, IsWeighed, last_from, nothing_justified, first_weighed}
 use Rattle.vote_law.specs.Backed.{Votes, IsBacked}
-use Rattle.vote_law.specs.Steady.{genesis_weights, IsSteadyAt}
-use Rattle.vote_law.specs.Ends.{target_attesters, end_of}
+use Rattle.vote_law.specs.Steady.{IsSteadyAt}
+use Rattle.vote_law.specs.Ends.{end_of}
 use Rattle.vote_law.specs.Runs.{Places, Keeps, HasVoted, IsGoodEnd, IsRun, IsTold}
 use Rattle.vote_law.proofs.Backed.{More, no_more}
 use Rattle.vote_law.proofs.Lists.{with_last, all_more}

@@ -1,20 +1,18 @@
 -- Slots and a block carry on what the states of a chain say of its links.
-use Rattle.std.proofs.Common.{◌≡◌, ◌≢◌, ◌∙◌, ℕ, zero, suc, ◌+◌, ◌-◌, ◌*◌, ◌/◌, ◌%◌, ◌<◌, ◌≤◌, ◌^◌, ◌⊎◌, inl, inr, Bool, true, false, not, nat_lt, List, [], ◌∷◌, ◌++◌, length, refl, sym, ap, subst, arith}
+use Rattle.std.proofs.Common.{◌≡◌, ◌≢◌, ◌∙◌, ℕ, ◌+◌, ◌/◌, ◌%◌, ◌<◌, ◌≤◌, ◌^◌, inl, inr, false, not, List, [], ◌∷◌, refl, sym, ap, subst, arith}
 use Rattle.std.specs.List.{AllByRecursion}
-use Rattle.std.proofs.lemmas.Bool.{cases_lt, not-true, not-false, ltb-true, false≢true}
-use Rattle.bc_words.specs.Outcome.{Outcome, done, refused, limited, each_from}
+use Rattle.std.proofs.lemmas.Bool.{not-true, not-false}
+use Rattle.bc_words.specs.Outcome.{done}
 use Rattle.bc_words.specs.declared.refusal.Refusal.TheVariants.{StateRoot}
 use Rattle.bc_preset.specs.declared.presets.Preset.{Preset}
 use Rattle.bc_preset.specs.declared.configuration.ConfigValues.{ConfigValues}
 use Rattle.bc_preset.specs.laws.Bounds.{HasPresetBounds}
 use Rattle.beacon_types.specs.Equality.{same_root}
-use Rattle.beacon_types.specs.Containers.{block_header_codec}
 use Rattle.beacon_body.specs.Containers.{block_codec}
 use Rattle.beacon_body.specs.declared.signed_block.SignedBeaconBlock.{SignedBeaconBlock}
 use Rattle.spec_state.specs.declared.plain.PlainState.{PlainState}
 use Rattle.spec_state.specs.Genesis.{block_header_of, header_root_of, zero_root}
 use Rattle.spec_state.specs.States.{state_codec}
-use Rattle.spec_state.specs.Constants.{far_future_epoch, max_slots}
 use Rattle.spec_state.specs.Misc.{compute_epoch_at_slot}
 use Rattle.spec_state.specs.Accessors.{get_current_epoch}
 use Rattle.spec_blocks.specs.Checks.{check}
@@ -22,7 +20,7 @@ use Rattle.spec_blocks.specs.ProcessBlock.{process_block}
 use Rattle.spec_blocks.proofs.Done.{on_the_way, chosen, same_value}
 use Rattle.spec_epochs.specs.WeighJustificationAndFinalization.{justification_of}
 use Rattle.spec_epochs.specs.ProcessEpoch.{process_epoch}
-use Rattle.spec_epochs.proofs.EpochParts.{EpochParts, parts_of}
+use Rattle.spec_epochs.proofs.EpochParts.{parts_of}
 use Rattle.spec_epochs.proofs.Fixed.{epoch_preset, epoch_slot}
 use Rattle.spec_epochs.proofs.SoundJustification.{justification_leaves}
 use Rattle.spec_epochs.proofs.SoundEpoch.{next_begins}
@@ -32,7 +30,7 @@ use Rattle.spec_transition.specs.StateTransition.{IsLatest, state_transition}
 use Rattle.spec_transition.proofs.HeaderChecks.{Filled, header_fills, header_goes_on, ended, ended_preset}
 use Rattle.spec_transition.proofs.HeaderRoot.{block_is_latest}
 use Rattle.spec_transition.proofs.Links.{Links, links_of, links_stay, header_leaves, block_leaves}
-use Rattle.spec_transition.proofs.SoundSlots.{next_slot_is, next_preset_is}
+use Rattle.spec_transition.proofs.SoundSlots.{next_slot_is}
 use Rattle.vote_law.specs.Backed.{Votes, Adding, IsBacked}
 use Rattle.vote_law.specs.Steady.{IsSteadyAt}
 use Rattle.vote_law.specs.Runs.{Places, Keeps, IsRun, IsTold, Goes}
@@ -217,12 +215,15 @@ transition_goes genesis votes stands places root config s block t is bounds low 
     let here_bounds : HasPresetBounds a.preset = subst HasPresetBounds (sym g.preset) bounds in
     let votes_now : Votes = Adding votes block.message.body.attestations x in
     let keeps_here : Keeps stands places a.slot = subst (Keeps stands places) (sym at) keeps in
-    subst (λ (y : Stepped). Goes genesis (Adding votes block.message.body.attestations y.state) places (block_codec.hash_tree_root block.message) y × (y.state.slot ≡ block.message.slot) × (s.slot < block.message.slot)) same
-    (record {
-      backed = block_backed votes a x block.message config processed.first here_bounds (low_epoch a here_bounds (omega arith)) g.backed;
-      told = subst (λ (n : ℕ). IsTold places n x) (sym slot) (told_more stands places a.slot x keeps_here (told_same stands a.slot a x (ap (λ (l : Links). l.roots) left) preset g.told));
-      header = subst (λ (y : Stepped). header_root_of y.state ≡ block_codec.hash_tree_root block.message) (sym same) (block_is_latest s block config t is);
-      filled = header_fills x (subst (λ (y : Stepped). same_root ((state_codec y.state.preset).hash_tree_root y.state) zero_root ≡ false) (sym same) some);
-      preset = preset ∙ g.preset;
-      run = λ steady. run_moves genesis votes votes_now stands places a x (λ voted attesters h. inl h) keeps_here (omega arith) (links_epoch a x left) (justified_as a x left) (g.run steady);
-    }, slot ∙ at, r.2)
+    subst (λ (y : Stepped). Goes genesis (Adding votes block.message.body.attestations y.state) places (block_codec.hash_tree_root block.message) y × (y.state.slot ≡ block.message.slot) × (s.slot < block.message.slot)) same (
+      record {
+        backed = block_backed votes a x block.message config processed.first here_bounds (low_epoch a here_bounds (omega arith)) g.backed;
+        told = subst (λ (n : ℕ). IsTold places n x) (sym slot) (told_more stands places a.slot x keeps_here (told_same stands a.slot a x (ap (λ (l : Links). l.roots) left) preset g.told));
+        header = subst (λ (y : Stepped). header_root_of y.state ≡ block_codec.hash_tree_root block.message) (sym same) (block_is_latest s block config t is);
+        filled = header_fills x (subst (λ (y : Stepped). same_root ((state_codec y.state.preset).hash_tree_root y.state) zero_root ≡ false) (sym same) some);
+        preset = preset ∙ g.preset;
+        run = λ steady. run_moves genesis votes votes_now stands places a x (λ voted attesters h. inl h) keeps_here (omega arith) (links_epoch a x left) (justified_as a x left) (g.run steady);
+      },
+      slot ∙ at,
+      r.2,
+    )

@@ -1,35 +1,23 @@
 -- Who attested the block of an epoch, by a state whose pending attestations are backed: active validators, each of whose votes a
 -- block carried.
-use Rattle.std.proofs.Common.{◌≡◌, ◌∙◌, ℕ, zero, suc, ◌+◌, ◌-◌, ◌*◌, ◌<◌, ◌≤◌, ◌⊎◌, inl, inr, max, Bool, true, false, not, ◌==◌, leb, if◌then◌else◌, List, [], ◌∷◌, map, sum, refl, sym, ap, subst, arith}
+use Rattle.std.proofs.Common.{◌≡◌, ◌∙◌, ℕ, ◌-◌, ◌<◌, false, not, ◌==◌, List, refl, sym, ap, subst, arith}
 use Rattle.std.specs.List.{AllByRecursion, filter, list_any}
 use Rattle.std.specs.Cmp.Lexicographic.{bytes_decides}
-use Rattle.std.proofs.lemmas.Bool.{eqb-true, eqb-false, leb-true, leb-false, eq-eqb, ne_eqb}
-use Rattle.std.proofs.lemmas.List.Sums.{sum_by-cons}
-use Rattle.bc_words.specs.Outcome.{Outcome, done}
-use Rattle.bc_preset.specs.declared.presets.Preset.{Preset}
+use Rattle.std.proofs.lemmas.Bool.{eq-eqb, ne_eqb}
 use Rattle.bc_preset.specs.laws.Bounds.{HasPresetBounds}
 use Rattle.beacon_types.specs.Equality.{same_root}
 use Rattle.beacon_types.specs.declared.attestation_data.AttestationData.{AttestationData}
 use Rattle.beacon_types.specs.declared.checkpoint.Checkpoint.{Checkpoint}
-use Rattle.beacon_types.specs.declared.validator.Validator.{Validator}
 use Rattle.beacon_types.specs.declared.pending_attestation.PendingAttestation.{PendingAttestation}
 use Rattle.spec_state.specs.declared.plain.PlainState.{PlainState}
-use Rattle.spec_state.specs.Misc.{effective_balance, compute_epoch_at_slot}
-use Rattle.spec_state.specs.Predicates.{is_active_validator}
-use Rattle.spec_state.specs.Accessors.{get_current_epoch, get_previous_epoch, get_active_validator_indices, get_block_root, get_total_active_balance, get_total_balance, get_committee_count_per_slot, get_attesting_indices, indices_from}
-use Rattle.spec_blocks.proofs.Done.{on_the_way, chosen, same_value}
-use Rattle.spec_epochs.specs.declared.justification.Justification.{Justification}
-use Rattle.spec_epochs.specs.Weigh.{weigh}
-use Rattle.spec_epochs.specs.Helpers.{attests, get_matching_source_attestations, get_matching_target_attestations, get_unslashed_attesting_indices, get_attesting_balance}
-use Rattle.spec_epochs.specs.WeighJustificationAndFinalization.{justification_of, with_justification, weigh_justification_and_finalization}
-use Rattle.spec_epochs.specs.ProcessJustificationAndFinalization.{process_justification_and_finalization}
-use Rattle.ffg_law.specs.Weights.{weight_from, weight_of, among, AscendsFrom}
+use Rattle.spec_state.specs.Accessors.{get_current_epoch, get_previous_epoch, get_active_validator_indices, get_block_root, get_committee_count_per_slot, get_attesting_indices, indices_from}
+use Rattle.spec_epochs.specs.Helpers.{attests, get_matching_source_attestations, get_matching_target_attestations, get_unslashed_attesting_indices}
+use Rattle.ffg_law.specs.Weights.{AscendsFrom}
 use Rattle.ffg_law.specs.Links.{link_of}
 use Rattle.ffg_law.specs.declared.link.Link.{Link}
-use Rattle.ffg_law.specs.Histories.{total_of, total_of_all, IsWeighed}
 use Rattle.ffg_law.specs.Links.{IsOneOf}
 use Rattle.vote_law.specs.Backed.{Votes, IsBackedBy, IsBacked}
-use Rattle.vote_law.specs.Steady.{genesis_weights, IsSteadyIn, IsSteadyAt}
+use Rattle.vote_law.specs.Steady.{IsSteadyIn}
 use Rattle.vote_law.specs.Ends.{target_attesters}
 use Rattle.vote_law.specs.Runs.{HasVoted}
 use Rattle.vote_law.proofs.Lists.{all_of, filtered}
