@@ -12,3 +12,4 @@ pub mod Steady
 pub mod Runs
 pub mod RunsSlots
 pub mod ListedVotes
+pub mod Genesis

@@ -1,6 +1,6 @@
 //! The laws, each a function whose promise is the law. They do nothing when they run.
 
-ghost use Rattle.std.specs.Prelude.{◌≡◌, ◌<◌, ◌≤◌, ◌^◌, false, ℕ, Bool, List, [], ◌++◌};
+ghost use Rattle.std.specs.Prelude.{◌≡◌, ◌<◌, ◌≤◌, ◌^◌, false, ℕ, Bool, List, [], ◌++◌, length};
 ghost use Rattle.std.specs.List.{AllByRecursion};
 ghost use Rattle.bc_words.specs.Outcome.{done};
 ghost use Rattle.bc_preset.specs.declared.configuration.ConfigValues.{ConfigValues};
@@ -10,7 +10,7 @@ ghost use Rattle.beacon_types.specs.declared.attestation_data.AttestationData.{A
 ghost use Rattle.beacon_body.specs.Containers.{block_codec};
 ghost use Rattle.beacon_body.specs.declared.signed_block.SignedBeaconBlock.{SignedBeaconBlock};
 ghost use Rattle.spec_state.specs.declared.plain.PlainState.{PlainState};
-ghost use Rattle.spec_state.specs.Genesis.{zero_root};
+ghost use Rattle.spec_state.specs.Genesis.{header_root_of, zero_root};
 ghost use Rattle.spec_state.specs.States.{state_codec};
 ghost use Rattle.spec_state.specs.Misc.{compute_epoch_at_slot};
 ghost use Rattle.spec_state.specs.Accessors.{get_active_validator_indices, get_attesting_indices, get_committee_count_per_slot, get_current_epoch, get_previous_epoch};
@@ -19,7 +19,7 @@ ghost use Rattle.spec_epochs.specs.ProcessJustificationAndFinalization.{process_
 ghost use Rattle.spec_transition.specs.ProcessSlots.{Stepped};
 ghost use Rattle.spec_transition.specs.StateTransition.{state_transition};
 ghost use Rattle.ffg_law.specs.Links.{IsOneOf};
-ghost use Rattle.ffg_law.specs.Histories.{IsWeighed, previous_link, current_link};
+ghost use Rattle.ffg_law.specs.Histories.{nothing_justified, IsWeighed, previous_link, current_link};
 ghost use Rattle.vote_law.specs.Backed.{CarriedVote, AreAmong, votes_of, IsBacked};
 ghost use Rattle.vote_law.specs.Steady.{genesis_weights, IsSteadyAt};
 ghost use Rattle.vote_law.specs.Ends.{end_of, target_attesters};
@@ -62,6 +62,15 @@ pub fn genesis_weighs()
     ensures { (votes : List CarriedVote) (genesis state after : PlainState) → process_justification_and_finalization state ≡ done after
         → 1 < get_current_epoch state → HasPresetBounds state.preset → state.preset ≡ genesis.preset → IsSteadyAt genesis state → IsBacked (AreAmong votes) state
         → IsWeighed genesis.preset.effective_balance_increment (genesis_weights genesis) (end_of state (justification_of after)) }
+{}
+
+/// A state of slot 0 in which nothing is justified and no attestation waits begins what states say of the links of their chain.
+pub fn genesis_begins_links()
+    ensures { (genesis : PlainState) (votes : List CarriedVote) (roots : ℕ → List ℕ) → HasPresetBounds genesis.preset → genesis.slot ≡ 0
+        → length genesis.block_roots ≡ genesis.preset.slots_per_historical_root → justification_of genesis ≡ nothing_justified
+        → genesis.previous_epoch_attestations ≡ [] → genesis.current_epoch_attestations ≡ []
+        → same_root ((state_codec genesis.preset).hash_tree_root genesis) zero_root ≡ false
+        → Goes genesis (AreAmong votes) (AreAt roots) (header_root_of genesis) (record { state = genesis; entered = [] }) }
 {}
 
 /// A block carries on what states say of the links of their chain, where its parent stands at each slot up to the block's.

@@ -8,6 +8,6 @@
 mod laws;
 
 pub use laws::{
-    attesters_are_active, attesters_voted, blocks_carry_links_on, genesis_weighs,
-    waiting_votes_are_carried,
+    attesters_are_active, attesters_voted, blocks_carry_links_on, genesis_begins_links,
+    genesis_weighs, waiting_votes_are_carried,
 };
