@@ -47,13 +47,13 @@ rest_of [] = []
 rest_of (x ∷ xs) = xs
 
 map_same : (f g : ℕ → ℕ) (xs : List ℕ) (x : ℕ) → map f xs ≡ map g xs → IsOneOf x xs → f x ≡ g x
-map_same f g [] x same h = absurd h
+map_same f g [] x same one = absurd one
 map_same f g (y ∷ ys) x same (inl e) = subst (λ (k : ℕ). f k ≡ g k) e (ap (first_or 0) same)
-map_same f g (y ∷ ys) x same (inr h) = map_same f g ys x (ap rest_of same) h
+map_same f g (y ∷ ys) x same (inr one) = map_same f g ys x (ap rest_of same) one
 
 total_same : (f g : ℕ → ℕ) (xs : List ℕ) → ((x : ℕ) → IsOneOf x xs → f x ≡ g x) → plain_total f xs ≡ plain_total g xs
 total_same f g [] same = refl
-total_same f g (x ∷ xs) same = let one = same x (inl refl) in let rest = total_same f g xs (λ y h. same y (inr h)) in omega arith
+total_same f g (x ∷ xs) same = let one = same x (inl refl) in let rest = total_same f g xs (λ y one. same y (inr one)) in omega arith
 
 -- ---- the weights of genesis
 
@@ -62,20 +62,20 @@ weights_by test vs = map (λ v. if test v then v.effective_balance else 0) vs
 
 weighs_either : (b : Bool) (low i : ℕ) (xs : List ℕ) → IsOneOf i (if b then low ∷ xs else xs) → (G : Type 0) → (b ≡ true → low ≡ i → G) → (IsOneOf i xs → G) → G
 weighs_either true low i xs (inl e) G here later = here refl e
-weighs_either true low i xs (inr h) G here later = later h
-weighs_either false low i xs h G here later = later h
+weighs_either true low i xs (inr one) G here later = later one
+weighs_either false low i xs one G here later = later one
 
 weighs_first : (test : Validator → Bool) (low : ℕ) (v : Validator) (vs : List Validator) (i : ℕ) (b : Bool) → test v ≡ b → IsOneOf i (indices_from test low (v ∷ vs))
     → (IsOneOf i (indices_from test (suc low) vs) → (suc low ≤ i) × (slice_index (weights_by test vs) (i - suc low) ≡ effective_balance vs (i - suc low)))
     → (low ≤ i) × (slice_index (weights_by test (v ∷ vs)) (i - low) ≡ effective_balance (v ∷ vs) (i - low))
 unfolding indices_from effective_balance
-weighs_first test low v vs i b is h rest =
+weighs_first test low v vs i b is one rest =
     let later : IsOneOf i (indices_from test (suc low) vs) → (low ≤ i) × (slice_index (weights_by test (v ∷ vs)) (i - low) ≡ effective_balance (v ∷ vs) (i - low)) = λ k.
     let r = rest k in
     let from : suc low ≤ i = r.0 in
     let e : i - low ≡ suc (i - suc low) = omega arith in
     (omega arith, subst (λ (j : ℕ). slice_index (weights_by test (v ∷ vs)) j ≡ effective_balance (v ∷ vs) j) (sym e) r.1) in
-    weighs_either b low i (indices_from test (suc low) vs) (subst (λ (b : Bool). IsOneOf i (if b then low ∷ indices_from test (suc low) vs else indices_from test (suc low) vs)) is h)
+    weighs_either b low i (indices_from test (suc low) vs) (subst (λ (b : Bool). IsOneOf i (if b then low ∷ indices_from test (suc low) vs else indices_from test (suc low) vs)) is one)
     ((low ≤ i) × (slice_index (weights_by test (v ∷ vs)) (i - low) ≡ effective_balance (v ∷ vs) (i - low)))
     (λ passes e.
     let z : i - low ≡ 0 = omega arith in
@@ -84,8 +84,8 @@ weighs_first test low v vs i b is h rest =
 -- one that passes the test has its effective balance as its weight
 weighs_at : (test : Validator → Bool) (low : ℕ) (vs : List Validator) (i : ℕ) → IsOneOf i (indices_from test low vs) → (low ≤ i) × (slice_index (weights_by test vs) (i - low) ≡ effective_balance vs (i - low))
 unfolding indices_from effective_balance
-weighs_at test low [] i h = absurd h
-weighs_at test low (v ∷ vs) i h = weighs_first test low v vs i (test v) refl h (weighs_at test (suc low) vs i)
+weighs_at test low [] i one = absurd one
+weighs_at test low (v ∷ vs) i one = weighs_first test low v vs i (test v) refl one (weighs_at test (suc low) vs i)
 
 total_either : (b : Bool) (low : ℕ) (xs : List ℕ) (f : ℕ → ℕ) (w all : ℕ) → f low ≡ w → plain_total f xs ≡ all → plain_total f (if b then low ∷ xs else xs) ≡ (if b then w else 0) + all
 total_either true low xs f w all first rest = omega arith
@@ -105,12 +105,12 @@ module _ (genesis s : PlainState) (epoch : ℕ) (steady : IsSteadyIn genesis s e
   weights = genesis_weights genesis
 
   same_balance : (i : ℕ) → IsOneOf i (get_active_validator_indices genesis 0) → effective_balance s.validators i ≡ effective_balance genesis.validators i
-  same_balance i h = map_same (effective_balance s.validators) (effective_balance genesis.validators) (get_active_validator_indices genesis 0) i steady.balances h
+  same_balance i one = map_same (effective_balance s.validators) (effective_balance genesis.validators) (get_active_validator_indices genesis 0) i steady.balances one
 
   weight_is : (i : ℕ) → IsOneOf i (get_active_validator_indices genesis 0) → slice_index weights i ≡ effective_balance genesis.validators i
   unfolding get_active_validator_indices genesis_weights
-  weight_is i h = subst (λ (k : ℕ). slice_index (genesis_weights genesis) k ≡ effective_balance genesis.validators k) (let e : i - 0 ≡ i = omega arith in e)
-      (weighs_at (λ v. is_active_validator v 0) 0 genesis.validators i h).1
+  weight_is i one = subst (λ (k : ℕ). slice_index (genesis_weights genesis) k ≡ effective_balance genesis.validators k) (let e : i - 0 ≡ i = omega arith in e)
+      (weighs_at (λ v. is_active_validator v 0) 0 genesis.validators i one).1
 
   genesis_total : plain_total (effective_balance genesis.validators) (get_active_validator_indices genesis 0) ≡ sum weights
   unfolding get_active_validator_indices genesis_weights

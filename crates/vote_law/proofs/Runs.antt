@@ -45,7 +45,7 @@ last_grows j (y ∷ ys) x = last_grows y.after ys x
 -- ---- more votes, and places that are told further
 
 pub voted_more : (genesis : PlainState) (votes others : Votes) (link : Link) (i : ℕ) → More votes others → HasVoted genesis votes link i → HasVoted genesis others link i
-voted_more genesis votes others link i more h = record { voted = h.voted; attesters = h.attesters; carried = more h.voted h.attesters h.carried; attests = h.attests; votes_for = h.votes_for; active = h.active }
+voted_more genesis votes others link i more one = record { voted = one.voted; attesters = one.attesters; carried = more one.voted one.attesters one.carried; attests = one.attests; votes_for = one.votes_for; active = one.active }
 
 pub before_epoch : (epoch n limit : ℕ) → 1 < epoch → epoch * n < limit → (epoch - 1) * n < limit
 before_epoch epoch n limit late low =
@@ -63,8 +63,8 @@ good_more genesis votes others stands places limit more x all keeps grows good =
       low = omega arith;
       previous_root = keeps _ x.previous_root (before_epoch x.epoch genesis.preset.slots_per_epoch limit late low) good.previous_root;
       current_root = keeps _ x.current_root low good.current_root;
-      previous_voters = λ i h. voted_more genesis votes others _ i all (good.previous_voters i h);
-      current_voters = λ i h. voted_more genesis votes others _ i all (good.current_voters i h);
+      previous_voters = λ i one. voted_more genesis votes others _ i all (good.previous_voters i one);
+      current_voters = λ i one. voted_more genesis votes others _ i all (good.current_voters i one);
     }
 
 -- a state of the same epoch and justification, at a later slot
@@ -163,7 +163,7 @@ run_ends genesis votes stands s j u is same next slot preset bounds steady backe
         count = let grown = length-append run.ends (x ∷ []) in omega arith;
         good = subst (λ (n : ℕ). AllByRecursion (IsGoodEnd genesis votes stands n) (run.ends ++ x ∷ [])) (sym slot)
             (with_last (IsGoodEnd genesis votes stands (s.slot + 1)) run.ends x
-            (all_more _ _ run.ends (λ y good. good_more genesis votes votes stands stands s.slot (s.slot + 1) y (no_more votes) (λ k root less h. h) (omega arith) good) run.good)
+            (all_more _ _ run.ends (λ y good. good_more genesis votes votes stands stands s.slot (s.slot + 1) y (no_more votes) (λ k root less one. one) (omega arith) good) run.good)
             (good_end genesis votes stands s (justification_of j) preset bounds late steady backed told));
       }
   | inr early ↦
@@ -174,6 +174,6 @@ run_ends genesis votes stands s j u is same next slot preset bounds steady backe
         last = run.last ∙ (ap justification_of none ∙ sym same);
         count = let count = run.count in omega arith;
         good = subst (λ (n : ℕ). AllByRecursion (IsGoodEnd genesis votes stands n) run.ends) (sym slot)
-            (all_more _ _ run.ends (λ y good. good_more genesis votes votes stands stands s.slot (s.slot + 1) y (no_more votes) (λ k root less h. h) (omega arith) good) run.good);
+            (all_more _ _ run.ends (λ y good. good_more genesis votes votes stands stands s.slot (s.slot + 1) y (no_more votes) (λ k root less one. one) (omega arith) good) run.good);
       }
 ]

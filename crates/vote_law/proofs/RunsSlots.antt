@@ -101,33 +101,33 @@ module _ (genesis : PlainState) (bounds : HasPresetBounds genesis.preset) (votes
         (slot_told stands s.state (subst HasPresetBounds (sym goes.preset) bounds) (subst (λ (r : List ℕ). stands s.state.slot r) (sym goes.header) here) goes.told);
     header = slot_header s.state;
     preset = ended_preset s.state ∙ goes.preset;
-    run = λ steady. run_moves genesis votes votes stands stands s.state (process_slot s.state) (no_more votes) (λ k r less h. h) (let same = ended s.state in omega arith) (slot_epoch s.state) (slot_justified s.state) (goes.run steady);
+    run = λ steady. run_moves genesis votes votes stands stands s.state (process_slot s.state) (no_more votes) (λ k r less one. one) (let same = ended s.state in omega arith) (slot_epoch s.state) (slot_justified s.state) (goes.run steady);
   }
 
   -- and the next one begins
   ends : (s y z : Stepped) → end_epoch config y ≡ done z → y.state.slot < 2 ^ 64 → Filled (block_header_of s.state) → header_root_of s.state ≡ root → Over s y → Goes genesis votes stands root (record z { state = with_next_slot z.state })
   unfolding end_epoch
-  ends s y z is low filled header o = elim (chosen (not (is_last_of_epoch y.state)) _ _ _ is) [
+  ends s y z is low filled header over_slot = elim (chosen (not (is_last_of_epoch y.state)) _ _ _ is) [
     | inl within ↦
         let u : PlainState = with_next_slot y.state in
-        let b = begun y.state in
-        let here : HasPresetBounds y.state.preset = subst HasPresetBounds (sym o.preset) bounds in
+        let next = begun y.state in
+        let here : HasPresetBounds y.state.preset = subst HasPresetBounds (sym over_slot.preset) bounds in
         let other = not_last y.state (not-true _ within.0) in
-        let heads = header_goes_on root s.state u (b.header ∙ o.header) filled header in
+        let heads = header_goes_on root s.state u (next.header ∙ over_slot.header) filled header in
         subst (λ (x : Stepped). Goes genesis votes stands root (record x { state = with_next_slot x.state })) (same_value y z within.1) (record {
-          backed = still_backed votes votes y.state u (no_more votes) (next_stands y.state here other) o.backed;
-          told = subst (λ (n : ℕ). IsTold stands n u) (sym b.slot) (told_same stands (y.state.slot + 1) y.state u b.roots b.preset o.told);
+          backed = still_backed votes votes y.state u (no_more votes) (next_stands y.state here other) over_slot.backed;
+          told = subst (λ (n : ℕ). IsTold stands n u) (sym next.slot) (told_same stands (y.state.slot + 1) y.state u next.roots next.preset over_slot.told);
           header = heads.0;
           filled = heads.1;
-          preset = b.preset ∙ o.preset;
-          run = λ steady. run_moves genesis votes votes stands stands y.state u (no_more votes) (λ k r less h. h) (let slot = b.slot in omega arith) (epoch_goes_on y.state here other) b.justified (o.run steady);
+          preset = next.preset ∙ over_slot.preset;
+          run = λ steady. run_moves genesis votes votes stands stands y.state u (no_more votes) (λ k r less one. one) (let slot = next.slot in omega arith) (epoch_goes_on y.state here other) next.justified (over_slot.run steady);
         })
     | inr last ↦
         let processed = on_the_way (process_epoch y.state config) _ z last.1 in
         let t : PlainState = processed.value in
         let u : PlainState = with_next_slot t in
-        let b = begun t in
-        let here : HasPresetBounds y.state.preset = subst HasPresetBounds (sym o.preset) bounds in
+        let next = begun t in
+        let here : HasPresetBounds y.state.preset = subst HasPresetBounds (sym over_slot.preset) bounds in
         let ending = last_is y.state (not-false _ last.0) in
         let p = parts_of y.state t config processed.first in
         let first = justification_leaves y.state p.justified p.to_justified in
@@ -135,19 +135,19 @@ module _ (genesis : PlainState) (bounds : HasPresetBounds genesis.preset) (votes
         let roots : t.block_roots ≡ y.state.block_roots = ap (λ (l : Links). l.roots) same ∙ justification_roots y.state p.justified p.to_justified in
         let preset : t.preset ≡ y.state.preset = epoch_preset y.state t config processed.first in
         let slot : t.slot ≡ y.state.slot = epoch_slot y.state t config processed.first in
-        let slot_next : u.slot ≡ y.state.slot + 1 = b.slot ∙ ap (λ (n : ℕ). n + 1) slot in
-        let preset_next : u.preset ≡ y.state.preset = b.preset ∙ preset in
-        let heads = header_goes_on root s.state u (b.header ∙ (header_leaves y.state t config p ∙ (first.header ∙ o.header))) filled header in
+        let slot_next : u.slot ≡ y.state.slot + 1 = next.slot ∙ ap (λ (n : ℕ). n + 1) slot in
+        let preset_next : u.preset ≡ y.state.preset = next.preset ∙ preset in
+        let heads = header_goes_on root s.state u (next.header ∙ (header_leaves y.state t config p ∙ (first.header ∙ over_slot.header))) filled header in
         subst (λ (x : Stepped). Goes genesis votes stands root (record x { state = with_next_slot x.state })) (same_value _ z processed.then_done) (record {
-          backed = next_backed votes t (epoch_backed votes y.state t config processed.first here (low_epoch y.state here low) ending o.backed);
-          told = subst (λ (n : ℕ). IsTold stands n u) (sym slot_next) (told_same stands (y.state.slot + 1) y.state u (b.roots ∙ roots) preset_next o.told);
+          backed = next_backed votes t (epoch_backed votes y.state t config processed.first here (low_epoch y.state here low) ending over_slot.backed);
+          told = subst (λ (n : ℕ). IsTold stands n u) (sym slot_next) (told_same stands (y.state.slot + 1) y.state u (next.roots ∙ roots) preset_next over_slot.told);
           header = heads.0;
           filled = heads.1;
-          preset = preset_next ∙ o.preset;
+          preset = preset_next ∙ over_slot.preset;
           run = λ steady.
               let parts = parts_of_all (IsSteadyAt genesis) y.entered (y.state ∷ []) steady in
-              run_ends genesis votes stands y.state p.justified u p.to_justified (b.justified ∙ justified_as p.justified t same) (epoch_ends y.state u here ending slot_next preset_next) slot_next
-              o.preset here parts.1.0 o.backed o.told (o.run parts.0);
+              run_ends genesis votes stands y.state p.justified u p.to_justified (next.justified ∙ justified_as p.justified t same) (epoch_ends y.state u here ending slot_next preset_next) slot_next
+              over_slot.preset here parts.1.0 over_slot.backed over_slot.told (over_slot.run parts.0);
         })
   ]
 
@@ -222,7 +222,7 @@ transition_goes genesis votes stands places root config s block t is bounds low 
         header = subst (λ (y : Stepped). header_root_of y.state ≡ block_codec.hash_tree_root block.message) (sym same) (block_is_latest s block config t is);
         filled = header_fills x (subst (λ (y : Stepped). same_root ((state_codec y.state.preset).hash_tree_root y.state) zero_root ≡ false) (sym same) some);
         preset = preset ∙ g.preset;
-        run = λ steady. run_moves genesis votes votes_now stands places a x (λ voted attesters h. inl h) keeps_here (omega arith) (links_epoch a x left) (justified_as a x left) (g.run steady);
+        run = λ steady. run_moves genesis votes votes_now stands places a x (λ voted attesters one. inl one) keeps_here (omega arith) (links_epoch a x left) (justified_as a x left) (g.run steady);
       },
       slot ∙ at,
       r.2,

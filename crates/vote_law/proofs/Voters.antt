@@ -38,24 +38,24 @@ unslashed_ascend s list = filter_ascends (λ index. list_any (attests s index) l
 
 unslashed_attested : (s : PlainState) (list : List PendingAttestation) (i : ℕ) → IsOneOf i (get_unslashed_attesting_indices s list) → Attested s i list
 unfolding get_unslashed_attesting_indices
-unslashed_attested s list i h = attested_of s i list (filtered (λ index. list_any (attests s index) list) (indices_from (λ v. not v.slashed) 0 s.validators) i h).1
+unslashed_attested s list i one = attested_of s i list (filtered (λ index. list_any (attests s index) list) (indices_from (λ v. not v.slashed) 0 s.validators) i one).1
 
 -- an attester of those of a list with a target
 voter_of : (votes : Votes) (s : PlainState) (epoch : ℕ) (justified : Checkpoint) (root : List ℕ) (list : List PendingAttestation) (i : ℕ) → HasPresetBounds s.preset → AllByRecursion (IsBackedBy votes s epoch justified) list
     → IsOneOf i (get_unslashed_attesting_indices s (filter (λ a. same_root a.content.target.root root) list))
     → IsVoter votes s epoch (record { source = justified; target = record { epoch = epoch; root = root } }) i
-voter_of votes s epoch justified root list i bounds all h =
-    let r = unslashed_attested s (filter (λ a. same_root a.content.target.root root) list) i h in
-    let a = r.attestation in
-    let listed = filtered (λ (a : PendingAttestation). same_root a.content.target.root root) list a r.listed in
+voter_of votes s epoch justified root list i bounds all one =
+    let found = unslashed_attested s (filter (λ a. same_root a.content.target.root root) list) i one in
+    let a = found.attestation in
+    let listed = filtered (λ (a : PendingAttestation). same_root a.content.target.root root) list a found.listed in
     let backed = all_of (IsBackedBy votes s epoch justified) list a all listed.0 in
     let same : a.content.target.root ≡ root = (bytes_decides a.content.target.root root).0 listed.1 in
-    let active = attester_is_active s a.content a.aggregation_bits i bounds (subst (λ (e : ℕ). a.content.index < get_committee_count_per_slot s e) (sym backed.slot_epoch) backed.index) r.attests in
+    let active = attester_is_active s a.content a.aggregation_bits i bounds (subst (λ (e : ℕ). a.content.index < get_committee_count_per_slot s e) (sym backed.slot_epoch) backed.index) found.attests in
     record {
       voted = a.content;
       attesters = get_attesting_indices s a.content a.aggregation_bits;
       carried = backed.carried;
-      attests = r.attests;
+      attests = found.attests;
       votes_for = ap (λ (c : Checkpoint). record { source = c; target = a.content.target }) backed.source
           ∙ (ap (λ (e : ℕ). record { source = justified; target = record { epoch = e; root = a.content.target.root } }) backed.target
           ∙ ap (λ (k : List ℕ). record { source = justified; target = record { epoch = epoch; root = k } }) same);
@@ -80,21 +80,21 @@ matching_previous s late = rw (previous_is_other s late) refl
 pub current_voter : (votes : Votes) (s : PlainState) (i : ℕ) → HasPresetBounds s.preset → IsBacked votes s → IsOneOf i (target_attesters s (get_current_epoch s))
     → IsVoter votes s (get_current_epoch s) (record { source = s.current_justified_checkpoint; target = record { epoch = get_current_epoch s; root = get_block_root s (get_current_epoch s) } }) i
 unfolding target_attesters get_matching_target_attestations
-current_voter votes s i bounds backed h =
+current_voter votes s i bounds backed one =
     let e : ℕ = get_current_epoch s in
     let root : List ℕ = get_block_root s e in
     voter_of votes s e s.current_justified_checkpoint root s.current_epoch_attestations i bounds backed.current
-    (subst (λ (list : List PendingAttestation). IsOneOf i (get_unslashed_attesting_indices s (filter (λ a. same_root a.content.target.root root) list))) (matching_current s) h)
+    (subst (λ (list : List PendingAttestation). IsOneOf i (get_unslashed_attesting_indices s (filter (λ a. same_root a.content.target.root root) list))) (matching_current s) one)
 
 -- and the previous epoch's
 pub previous_voter : (votes : Votes) (s : PlainState) (i : ℕ) → HasPresetBounds s.preset → 1 < get_current_epoch s → IsBacked votes s → IsOneOf i (target_attesters s (get_previous_epoch s))
     → IsVoter votes s (get_previous_epoch s) (record { source = s.previous_justified_checkpoint; target = record { epoch = get_previous_epoch s; root = get_block_root s (get_previous_epoch s) } }) i
 unfolding target_attesters get_matching_target_attestations
-previous_voter votes s i bounds late backed h =
+previous_voter votes s i bounds late backed one =
     let e : ℕ = get_previous_epoch s in
     let root : List ℕ = get_block_root s e in
     voter_of votes s e s.previous_justified_checkpoint root s.previous_epoch_attestations i bounds backed.previous
-    (subst (λ (list : List PendingAttestation). IsOneOf i (get_unslashed_attesting_indices s (filter (λ a. same_root a.content.target.root root) list))) (matching_previous s late) h)
+    (subst (λ (list : List PendingAttestation). IsOneOf i (get_unslashed_attesting_indices s (filter (λ a. same_root a.content.target.root root) list))) (matching_previous s late) one)
 
 -- ---- voters that are active at genesis
 
