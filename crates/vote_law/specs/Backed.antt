@@ -1,6 +1,6 @@
 -- What stands behind the attestations that wait in a state for the end of an epoch: their source is the checkpoint that was
 -- justified while their epoch ran, and a block carried them.
-use Rattle.std.specs.Prelude.{◌≡◌, ℕ, ◌<◌, ◌≤◌, ◌⊎◌, List}
+use Rattle.std.specs.Prelude.{◌≡◌, ℕ, ◌<◌, ◌≤◌, ◌⊎◌, List, map}
 use Rattle.std.specs.List.{AllByRecursion}
 use Rattle.beacon_types.specs.declared.attestation_data.AttestationData.{AttestationData}
 use Rattle.beacon_types.specs.declared.checkpoint.Checkpoint.{Checkpoint}
@@ -41,3 +41,17 @@ pub record IsListed (attestations : List Attestation) (state : PlainState) (vote
 -- votes with those of a block's attestations, by the attesters that the state behind the block gives
 abbrev pub Adding : Votes → List Attestation → PlainState → Votes
 Adding votes attestations behind = λ (voted : AttestationData) (attesters : List ℕ). votes voted attesters ⊎ IsListed attestations behind voted attesters
+
+-- One vote
+pub record CarriedVote : Type 0 where
+  pub voted : AttestationData
+  pub attesters : List ℕ
+
+-- the votes of a list
+abbrev pub AreAmong : List CarriedVote → Votes
+AreAmong votes = λ (voted : AttestationData) (attesters : List ℕ). IsOneOf (record { voted = voted; attesters = attesters }) votes
+
+-- the list of a block's votes, by the attesters that the state behind the block gives
+unfoldable pub votes_of : List Attestation → PlainState → List CarriedVote
+votes_of attestations behind =
+    map (λ attestation. record { voted = attestation.content; attesters = get_attesting_indices behind attestation.content attestation.aggregation_bits }) attestations

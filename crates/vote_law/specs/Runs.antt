@@ -19,6 +19,10 @@ use Rattle.spec_forensics.specs.Steady.{genesis_weights, IsSteadyAt}
 abbrev pub Places : Type 1
 Places = ℕ → List ℕ → Type 0
 
+-- the chain with these roots, one for each slot
+abbrev pub AreAt : (ℕ → List ℕ) → Places
+AreAt roots = λ (slot : ℕ) (root : List ℕ). root ≡ roots slot
+
 -- what stands at slots below a limit stands there in another chain
 abbrev pub Keeps : Places → Places → ℕ → Type 0
 Keeps stands others limit = (slot : ℕ) (root : List ℕ) → slot < limit → stands slot root → others slot root

@@ -4,3 +4,10 @@
 //! epoch whose validators stay as they were at genesis ends as their weights have it, and the justification of a state is
 //! what such ends made.
 #![tactic(auto)]
+
+mod laws;
+
+pub use laws::{
+    attesters_are_active, attesters_voted, blocks_carry_links_on, genesis_begins_links,
+    genesis_weighs, waiting_votes_are_carried,
+};
