@@ -12,7 +12,7 @@ use Rattle.ffg_law.specs.Weights.{AscendsFrom, IsSet}
 use Rattle.ffg_law.specs.Links.{IsOneOf}
 use Rattle.ffg_law.specs.Histories.{total_of, total_of_all}
 use Rattle.ffg_law.proofs.Totals.{plain_total, total_done, total_is}
-use Rattle.vote_law.specs.Steady.{genesis_weights, IsSteadyIn}
+use Rattle.spec_forensics.specs.Steady.{genesis_weights, IsSteadyIn}
 
 -- ---- ascending indices
 

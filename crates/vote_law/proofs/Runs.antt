@@ -21,7 +21,7 @@ use Rattle.spec_transition.proofs.Links.{Links, links_of}
 use Rattle.ffg_law.specs.declared.link.Link.{Link}
 use Rattle.ffg_law.specs.Histories.{EpochEnd, IsHistoryFrom, IsWeighed, last_from, nothing_justified, first_weighed}
 use Rattle.vote_law.specs.Backed.{Votes, IsBacked}
-use Rattle.vote_law.specs.Steady.{IsSteadyAt}
+use Rattle.spec_forensics.specs.Steady.{IsSteadyAt}
 use Rattle.vote_law.specs.Ends.{end_of}
 use Rattle.vote_law.specs.Runs.{Places, Keeps, HasVoted, IsGoodEnd, IsRun, IsTold}
 use Rattle.vote_law.proofs.Backed.{More, no_more}

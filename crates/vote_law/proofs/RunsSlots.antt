@@ -32,7 +32,7 @@ use Rattle.spec_transition.proofs.HeaderRoot.{block_is_latest}
 use Rattle.spec_transition.proofs.Links.{Links, links_of, links_stay, header_leaves, block_leaves}
 use Rattle.spec_transition.proofs.SoundSlots.{next_slot_is}
 use Rattle.vote_law.specs.Backed.{Votes, Adding, IsBacked}
-use Rattle.vote_law.specs.Steady.{IsSteadyAt}
+use Rattle.spec_forensics.specs.Steady.{IsSteadyAt}
 use Rattle.vote_law.specs.Runs.{Places, Keeps, IsRun, IsTold, Goes}
 use Rattle.vote_law.proofs.Backed.{still_backed, no_more}
 use Rattle.vote_law.proofs.BackedBlock.{block_backed}

@@ -14,7 +14,7 @@ use Rattle.spec_epochs.specs.ProcessJustificationAndFinalization.{process_justif
 use Rattle.ffg_law.specs.Histories.{total_of, total_of_all, IsWeighed}
 use Rattle.ffg_law.specs.Links.{IsOneOf}
 use Rattle.vote_law.specs.Backed.{Votes, IsBacked}
-use Rattle.vote_law.specs.Steady.{genesis_weights, IsSteadyIn, IsSteadyAt}
+use Rattle.spec_forensics.specs.Steady.{genesis_weights, IsSteadyIn, IsSteadyAt}
 use Rattle.vote_law.specs.Ends.{target_attesters, end_of}
 use Rattle.vote_law.proofs.GenesisWeights.{steady_total, steady_total_of_all}
 use Rattle.vote_law.proofs.Voters.{unslashed_ascend, current_voter, previous_voter}

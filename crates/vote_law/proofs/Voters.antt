@@ -17,7 +17,7 @@ use Rattle.ffg_law.specs.Links.{link_of}
 use Rattle.ffg_law.specs.declared.link.Link.{Link}
 use Rattle.ffg_law.specs.Links.{IsOneOf}
 use Rattle.vote_law.specs.Backed.{Votes, IsBackedBy, IsBacked}
-use Rattle.vote_law.specs.Steady.{IsSteadyIn}
+use Rattle.spec_forensics.specs.Steady.{IsSteadyIn}
 use Rattle.vote_law.specs.Ends.{target_attesters}
 use Rattle.vote_law.specs.Runs.{HasVoted}
 use Rattle.vote_law.proofs.Lists.{all_of, filtered}

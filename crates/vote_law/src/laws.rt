@@ -21,7 +21,7 @@ ghost use Rattle.spec_transition.specs.StateTransition.{state_transition};
 ghost use Rattle.ffg_law.specs.Links.{IsOneOf};
 ghost use Rattle.ffg_law.specs.Histories.{nothing_justified, IsWeighed, previous_link, current_link};
 ghost use Rattle.vote_law.specs.Backed.{CarriedVote, AreAmong, votes_of, IsBacked};
-ghost use Rattle.vote_law.specs.Steady.{genesis_weights, IsSteadyAt};
+ghost use Rattle.spec_forensics.specs.Steady.{genesis_weights, IsSteadyAt};
 ghost use Rattle.vote_law.specs.Ends.{end_of, target_attesters};
 ghost use Rattle.vote_law.specs.Runs.{AreAt, HasVoted, Goes};
 
