@@ -6,3 +6,9 @@ pub mod Leaves
 pub mod Beginning
 pub mod Events
 pub mod Followed
+pub mod Goes
+pub mod Links
+pub mod Apart
+pub mod Offenders
+pub mod Safety
+pub mod Judge

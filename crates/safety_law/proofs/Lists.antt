@@ -1,6 +1,7 @@
 -- What is among the items of a list.
-use Rattle.std.proofs.Common.{◌≡◌, ◌⊎◌, inl, inr, zero, suc, Bool, true, false, cond, List, [], ◌∷◌, ◌++◌, map, reverse, refl, sym, ap, subst, arith}
-use Rattle.std.specs.List.{Contains}
+use Rattle.std.proofs.Common.{◌≡◌, ◌∙◌, ◌⊎◌, inl, inr, zero, suc, Bool, true, false, cond, List, [], ◌∷◌, ◌++◌, map, reverse, refl, sym, ap, subst, arith}
+use Rattle.std.specs.List.{Contains, filter, flat_map}
+use Rattle.std.proofs.lemmas.Bool.{false≢true}
 use Rattle.std.proofs.lemmas.List.{reverse-append}
 use Rattle.std.proofs.lemmas.List.Elements.{Contains-append_left, Contains-append_right, Contains-append_cases}
 use Rattle.ffg_law.specs.Links.{IsOneOf}
@@ -45,3 +46,34 @@ in_reverse (y ∷ ys) x c = subst (λ zs. Contains zs x) (sym (reverse-append (y
   | inl is ↦ Contains-append_right (reverse ys) (y ∷ []) x (of_one (y ∷ []) x (inl is))
   | inr later ↦ Contains-append_left (reverse ys) (y ∷ []) x (in_reverse ys x later)
 ])
+
+-- ---- the same by recursion
+
+pub in_first : {A : Type 0} (x : A) (xs ys : List A) → IsOneOf x xs → IsOneOf x (xs ++ ys)
+in_first x [] ys h = absurd h
+in_first x (z ∷ xs) ys (inl e) = inl e
+in_first x (z ∷ xs) ys (inr h) = inr (in_first x xs ys h)
+
+pub in_second : {A : Type 0} (x : A) (xs ys : List A) → IsOneOf x ys → IsOneOf x (xs ++ ys)
+in_second x [] ys h = h
+in_second x (z ∷ xs) ys h = inr (in_second x xs ys h)
+
+pub in_map : {A B : Type 0} (f : A → B) (x : A) (xs : List A) → IsOneOf x xs → IsOneOf (f x) (map f xs)
+in_map f x [] h = absurd h
+in_map f x (y ∷ ys) (inl e) = inl (ap f e)
+in_map f x (y ∷ ys) (inr h) = inr (in_map f x ys h)
+
+kept_either : {A : Type 0} (p : Bool) (x y : A) (ys : List A) → (y ≡ x) ⊎ IsOneOf x ys → ((y ≡ x) → p ≡ true) → IsOneOf x (cond p (y ∷ ys) ys)
+kept_either true x y ys h passes = h
+kept_either false x y ys (inl e) passes = absurd (false≢true (passes e))
+kept_either false x y ys (inr h) passes = h
+
+pub in_filter : {A : Type 0} (p : A → Bool) (x : A) (xs : List A) → p x ≡ true → IsOneOf x xs → IsOneOf x (filter p xs)
+in_filter p x [] passes h = absurd h
+in_filter p x (y ∷ ys) passes (inl e) = kept_either (p y) x y (filter p ys) (inl e) (λ same. ap p same ∙ passes)
+in_filter p x (y ∷ ys) passes (inr h) = kept_either (p y) x y (filter p ys) (inr (in_filter p x ys passes h)) (λ same. ap p same ∙ passes)
+
+pub in_flat_map : {A B : Type 0} (f : A → List B) (x : A) (y : B) (xs : List A) → IsOneOf x xs → IsOneOf y (f x) → IsOneOf y (flat_map f xs)
+in_flat_map f x y [] h here = absurd h
+in_flat_map f x y (z ∷ zs) (inl e) here = in_first y (f z) (flat_map f zs) (subst (λ k. IsOneOf y (f k)) (sym e) here)
+in_flat_map f x y (z ∷ zs) (inr h) here = in_second y (f z) (flat_map f zs) (in_flat_map f x y zs h here)
