@@ -1,5 +1,6 @@
 -- What the states of a history's chains say of links: which root stands at each slot of a chain, and what its blocks carried.
 use Rattle.std.proofs.Common.{◌≡◌, ◌∙◌, ℕ, ◌<◌, ◌≤◌, ◌^◌, Bool, true, false, leb, if◌then◌else◌, List, [], ◌∷◌, refl, sym, ap, subst, arith}
+use Rattle.std.specs.List.{AllByRecursion}
 use Rattle.std.proofs.lemmas.Bool.{le-leb, lt-leb}
 use Rattle.bc_preset.specs.declared.configuration.ConfigValues.{ConfigValues}
 use Rattle.beacon_types.specs.Equality.{same_root}
@@ -7,13 +8,13 @@ use Rattle.beacon_body.specs.Containers.{block_codec}
 use Rattle.beacon_body.specs.declared.block.BeaconBlock.{BeaconBlock}
 use Rattle.spec_state.specs.declared.plain.PlainState.{PlainState}
 use Rattle.spec_transition.specs.ProcessSlots.{Stepped}
+use Rattle.spec_forensics.specs.Steady.{IsSteadyAt}
 use Rattle.spec_forensics.specs.Histories.{AcceptedBlock, chain_to, state_behind, IsStepOn, IsHistory}
 use Rattle.vote_law.specs.Backed.{Votes, Adding}
 use Rattle.vote_law.specs.Runs.{Places, Keeps, Goes}
 use Rattle.vote_law.proofs.Genesis.{genesis_goes}
 use Rattle.vote_law.proofs.RunsSlots.{transition_goes, transition_slot}
 use Rattle.safety_law.specs.Histories.{Begins}
-use Rattle.safety_law.specs.Finals.{IsSteadyChain}
 use Rattle.safety_law.proofs.Chains.{top_of, top_is}
 
 -- the part of a chain up to a slot
@@ -33,6 +34,10 @@ CarriedBy (b ∷ chain) = Adding (CarriedBy chain) b.block.body.attestations b.s
 abbrev latest_slot : List AcceptedBlock → ℕ
 latest_slot [] = 0
 latest_slot (b ∷ chain) = b.block.slot
+
+-- each state on which epoch processing was entered on a chain is steady
+abbrev pub IsSteadyChain : PlainState → List AcceptedBlock → Type 0
+IsSteadyChain genesis chain = AllByRecursion (λ b. AllByRecursion (IsSteadyAt genesis) b.entered) chain
 
 -- what the state behind a chain says of its links, where the validators stay as they were at genesis
 pub record ChainGoes (genesis : PlainState) (chain : List AcceptedBlock) : Type 0 where

@@ -7,8 +7,10 @@ pub mod Beginning
 pub mod Events
 pub mod Followed
 pub mod Goes
+pub mod Finalizing
 pub mod Links
 pub mod Apart
 pub mod Offenders
 pub mod Safety
+pub mod Verdicts
 pub mod Judge

@@ -1,5 +1,6 @@
--- Accountable safety: where two steady histories on a large genesis conflict, the offenders have at least a third of the genesis total.
-use Rattle.std.proofs.Common.{◌≡◌, ◌∙◌, ℕ, ◌*◌, ◌<◌, ◌≤◌, ◌⊎◌, inl, inr, min, List, [], ◌∷◌, ◌++◌, map, sum, length, refl, sym, ap, subst, arith}
+-- Accountable safety: where two histories conflict on a large genesis whose validators stay, the offenders have at least a third of the
+-- genesis total.
+use Rattle.std.proofs.Common.{◌≡◌, ◌∙◌, ℕ, ◌*◌, ◌<◌, ◌≤◌, ◌⊎◌, inl, inr, min, max, List, [], ◌∷◌, ◌++◌, map, sum, length, refl, sym, ap, subst, arith}
 use Rattle.std.specs.List.{AllByRecursion, Contains}
 use Rattle.std.proofs.lemmas.Bool.{cases_lt}
 use Rattle.std.proofs.lemmas.List.Elements.{Contains-append_left, Contains-append_right}
@@ -14,7 +15,7 @@ use Rattle.spec_epochs.specs.WeighJustificationAndFinalization.{justification_of
 use Rattle.ffg_law.specs.declared.link.Link.{Link}
 use Rattle.ffg_law.specs.Weights.{among}
 use Rattle.ffg_law.specs.Links.{Voted, IsOneOf, links_of, link_of, IsChain, IsFinalized, AreApart, IsSlashable, IsConvicted, HaveTwoThirds}
-use Rattle.ffg_law.specs.Histories.{genesis_checkpoint, nothing_justified, last_from, made_from}
+use Rattle.ffg_law.specs.Histories.{IsLarge, genesis_checkpoint, nothing_justified, last_from, made_from}
 use Rattle.ffg_law.proofs.Finals.{finals_conflict_proof, third_of_conflict, slashable_data}
 use Rattle.ffg_law.proofs.Histories.{history_promises}
 use Rattle.spec_forensics.specs.declared.vote.Vote.{Vote}
@@ -22,19 +23,25 @@ use Rattle.spec_forensics.specs.declared.offence.Offence.{Offence}
 use Rattle.spec_forensics.specs.Histories.{AcceptedBlock, chain_to, state_behind, IsHistory}
 use Rattle.spec_forensics.specs.CarriedVotes.{carried_votes, all_votes}
 use Rattle.spec_forensics.specs.Offences.{offences_below}
-use Rattle.spec_forensics.specs.Steady.{genesis_weights}
-use Rattle.spec_forensics.specs.Verdict.{offences_of, balance_of}
+use Rattle.spec_forensics.specs.Steady.{genesis_weights, genesis_total}
+use Rattle.spec_forensics.specs.Verdict.{finalizing_root, offences_of, balance_of}
 use Rattle.vote_law.proofs.Lists.{all_of}
 use Rattle.safety_law.specs.Histories.{Begins, HaveOneContent, NoneIsGenesis, AreHistories}
-use Rattle.safety_law.specs.Finals.{IsConflict, IsFinalizing, IsLargeGenesis}
+use Rattle.safety_law.specs.Finals.{IsFinalOf, IsConflict, StaysSteady, IsLargeGenesis}
 use Rattle.safety_law.proofs.Lists.{first_of, later_of, image_of, in_first, in_second}
 use Rattle.safety_law.proofs.Chains.{top_of, IsKnown, AreOf, IsSound, top_is, chain_sound, chain_listed}
-use Rattle.safety_law.proofs.Goes.{up_to, StandsOn, CarriedBy, chain_goes}
+use Rattle.safety_law.proofs.Goes.{up_to, StandsOn, CarriedBy, IsSteadyChain, chain_goes}
+use Rattle.safety_law.proofs.Finalizing.{finalizes, steady_chain}
 use Rattle.safety_law.proofs.Links.{IsGoodLink, made_good, targets_stand}
 use Rattle.safety_law.proofs.Apart.{IsOn, on_chain, part_sound, same_roots, top_on, Final, shared_is_agreed}
 use Rattle.safety_law.proofs.Offenders.{VoteFor, active_is_low, vote_for_link, offends, among_offenders}
 
 -- ---- one side
+
+-- a block's state finalised a checkpoint, and on the chain to it the validators stay as they were at genesis
+record IsFinalizing (genesis : PlainState) (blocks : List AcceptedBlock) (finalized : Checkpoint) (root : List ℕ) : Type 0 where
+  finalizes : (state_behind genesis (chain_to blocks root)).finalized_checkpoint ≡ finalized
+  steady : IsSteadyChain genesis (chain_to blocks root)
 
 -- what a finalising chain gives the argument
 record Ready (genesis : PlainState) (blocks : List AcceptedBlock) (final : Checkpoint) : Type 0 where
@@ -51,7 +58,7 @@ finalized_of : (s : PlainState) (j : Justification) → j ≡ justification_of s
 unfolding justification_of
 finalized_of s j is = ap (λ (k : Justification). k.finalized) is
 
-ready : (config : ConfigValues) (genesis : PlainState) (blocks : List AcceptedBlock) (final : Checkpoint) (root : List ℕ) → Begins genesis → IsHistory config genesis blocks → IsLargeGenesis genesis → IsFinalizing genesis blocks final root → 0 < final.epoch
+ready : (config : ConfigValues) (genesis : PlainState) (blocks : List AcceptedBlock) (final : Checkpoint) (root : List ℕ) → Begins genesis → IsHistory config genesis blocks → IsLarge genesis.preset.effective_balance_increment (genesis_weights genesis) → IsFinalizing genesis blocks final root → 0 < final.epoch
     → Ready genesis blocks final
 ready config genesis blocks final root begins history large finalizing above =
     let chain : List AcceptedBlock = chain_to blocks root in
@@ -112,9 +119,8 @@ unequal a b (inr (inr around)) same = let source = ap (λ (d : AttestationData).
 more_votes : (one other votes : List Vote) (i : ℕ) (voted : AttestationData) → ((v : Vote) → IsOneOf v one → IsOneOf v votes) → VoteFor one i voted → VoteFor votes i voted
 more_votes one other votes i voted within for = record { vote = for.vote; cast = within for.vote for.cast; by = for.by; content = for.content }
 
--- Where two steady histories on a large genesis conflict, the offenders have at least a third of the genesis total
-pub accountable_safety : (config : ConfigValues) (genesis : PlainState) (first second : List AcceptedBlock) (a b : Checkpoint) (a_root b_root : List ℕ) → AreHistories config genesis first second
-    → IsConflict genesis first second a b → IsLargeGenesis genesis → IsFinalizing genesis first a a_root → IsFinalizing genesis second b b_root
+accountable_safety : (config : ConfigValues) (genesis : PlainState) (first second : List AcceptedBlock) (a b : Checkpoint) (a_root b_root : List ℕ) → AreHistories config genesis first second
+    → IsConflict genesis first second a b → IsLarge genesis.preset.effective_balance_increment (genesis_weights genesis) → IsFinalizing genesis first a a_root → IsFinalizing genesis second b b_root
     → sum (genesis_weights genesis) ≤ 3 * balance_of genesis (offences_of genesis first second)
 unfolding balance_of offences_of all_votes
 accountable_safety config genesis first second a b a_root b_root are conflict large a_final b_final =
@@ -153,3 +159,21 @@ accountable_safety config genesis first second a b a_root b_root are conflict la
     (more_votes our_votes their_votes votes i v.voted (λ k h. in_first k our_votes their_votes h) p)
     (more_votes their_votes our_votes votes i w.voted (λ k h. in_second k our_votes their_votes h) q)
     (slashable_data v.voted w.voted slashable) (unequal v.voted w.voted slashable)))
+
+-- Where two histories conflict on a large genesis whose validators stay, three times the offenders' balance is at least the total
+pub conflict_convicts : (config : ConfigValues) (genesis : PlainState) (first second : List AcceptedBlock) (a b : Checkpoint) → AreHistories config genesis first second → IsFinalOf genesis first a → IsFinalOf genesis second b
+    → IsConflict genesis first second a b → IsLargeGenesis genesis → StaysSteady genesis first a → StaysSteady genesis second b → genesis_total genesis ≤ 3 * balance_of genesis (offences_of genesis first second)
+unfolding genesis_total
+conflict_convicts config genesis first second a b are a_final b_final conflict large a_stays b_stays =
+    let ours = finalizes config genesis first a are.first_is
+    (λ p q one other same. are.content p q (Contains-append_left first second p one) (Contains-append_left first second q other) same)
+    (λ p one same. are.others p (Contains-append_left first second p one) same) conflict.first_above a_final in
+    let theirs = finalizes config genesis second b are.second_is
+    (λ p q one other same. are.content p q (Contains-append_right first second p one) (Contains-append_right first second q other) same)
+    (λ p one same. are.others p (Contains-append_right first second p one) same) conflict.second_above b_final in
+    let increment : ℕ = genesis.preset.effective_balance_increment in
+    let all : ℕ = sum (genesis_weights genesis) in
+    let enough : 2 * increment ≤ max increment all = large in
+    let third = accountable_safety config genesis first second a b (finalizing_root first a) (finalizing_root second b) are conflict (omega arith)
+    (record { finalizes = ours; steady = steady_chain genesis first a a_stays }) (record { finalizes = theirs; steady = steady_chain genesis second b b_stays }) in
+    omega arith

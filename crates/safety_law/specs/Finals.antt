@@ -1,12 +1,12 @@
 -- What histories finalised, when they conflict, and when their validators stay.
-use Rattle.std.specs.Prelude.{◌≡◌, ◌⊎◌, ℕ, ◌*◌, ◌<◌, ◌≤◌, Contains, List, sum}
+use Rattle.std.specs.Prelude.{◌≡◌, ◌⊎◌, ℕ, ◌*◌, ◌<◌, ◌≤◌, Contains, List}
 use Rattle.std.specs.List.{AllByRecursion}
 use Rattle.beacon_types.specs.declared.checkpoint.Checkpoint.{Checkpoint}
 use Rattle.spec_state.specs.declared.plain.PlainState.{PlainState}
 use Rattle.spec_state.specs.Genesis.{header_root_of}
-use Rattle.spec_forensics.specs.Histories.{AcceptedBlock, chain_to, state_behind}
-use Rattle.spec_forensics.specs.Steady.{genesis_weights, IsSteadyAt}
-use Rattle.spec_forensics.specs.Verdict.{roots_of}
+use Rattle.spec_forensics.specs.Histories.{AcceptedBlock, chain_to}
+use Rattle.spec_forensics.specs.Steady.{genesis_total, IsSteadyAt}
+use Rattle.spec_forensics.specs.Verdict.{roots_of, finalizing_chain, offences_of, balance_of}
 
 -- A checkpoint is that of the state of a block of a history
 pub record IsFinalizedBy (history : List AcceptedBlock) (finalized : Checkpoint) : Type 0 where
@@ -25,15 +25,20 @@ pub record IsConflict (genesis : PlainState) (first second : List AcceptedBlock)
   pub first_apart : Contains (roots_of genesis (chain_to second b.root)) a.root → ⊥
   pub second_apart : Contains (roots_of genesis (chain_to first a.root)) b.root → ⊥
 
--- each state on which epoch processing was entered on a chain is steady
-abbrev pub IsSteadyChain : PlainState → List AcceptedBlock → Type 0
-IsSteadyChain genesis chain = AllByRecursion (λ b. AllByRecursion (IsSteadyAt genesis) b.entered) chain
-
--- A block's state finalised a checkpoint, and on the chain to it the validators stay as they were at genesis
-pub record IsFinalizing (genesis : PlainState) (blocks : List AcceptedBlock) (finalized : Checkpoint) (root : List ℕ) : Type 0 where
-  pub finalizes : (state_behind genesis (chain_to blocks root)).finalized_checkpoint ≡ finalized
-  pub steady : IsSteadyChain genesis (chain_to blocks root)
+-- The validators stay as they were at genesis on the chain from genesis to the block that finalised a checkpoint: each state on which
+-- epoch processing was entered on the way is steady
+abbrev pub StaysSteady : PlainState → List AcceptedBlock → Checkpoint → Type 0
+StaysSteady genesis history finalized = AllByRecursion (λ b. AllByRecursion (IsSteadyAt genesis) b.entered) (finalizing_chain history finalized)
 
 -- The genesis total is at least two increments
 abbrev pub IsLargeGenesis : PlainState → Type 0
-IsLargeGenesis genesis = 2 * genesis.preset.effective_balance_increment ≤ sum (genesis_weights genesis)
+IsLargeGenesis genesis = 2 * genesis.preset.effective_balance_increment ≤ genesis_total genesis
+
+-- Two histories conflict, on a large genesis whose validators stay; the offenders' balance and the total are these
+pub record AreInConflict (genesis : PlainState) (first second : List AcceptedBlock) (a b : Checkpoint) (balance total : ℕ) : Type 0 where
+  pub conflict : IsConflict genesis first second a b
+  pub large : IsLargeGenesis genesis
+  pub first_stays : StaysSteady genesis first a
+  pub second_stays : StaysSteady genesis second b
+  pub balance_is : balance_of genesis (offences_of genesis first second) ≡ balance
+  pub total_is : genesis_total genesis ≡ total
