@@ -1,12 +1,11 @@
 -- The blocks that a store keeps of a history: which block of it stands for a root, and what the comparison with them says of a
 -- further block.
-use Rattle.std.proofs.Common.{◌≡◌, ◌∙◌, ◌<◌, ◌⊎◌, inl, inr, ℕ, Bool, true, false, not, nat_lt, if◌then◌else◌, List, [], ◌∷◌, ◌++◌, map, Option, Some, None, is_some, refl, sym, ap, subst, arith}
-use Rattle.std.specs.List.{Contains, find}
+use Rattle.std.proofs.Common.{◌≡◌, ◌∙◌, ◌<◌, ◌⊎◌, inl, inr, ℕ, Bool, true, false, not, nat_lt, if◌then◌else◌, List, [], ◌∷◌, ◌++◌, Option, Some, None, is_some, refl, sym, ap, arith}
+use Rattle.std.specs.List.{Contains}
 use Rattle.std.specs.Option.{option_map, option_map_or, option_or}
 use Rattle.std.specs.Cmp.Lexicographic.{bytes_decides}
-use Rattle.std.proofs.lemmas.Bool.{false≢true, not-false, not-true, ltb-true}
+use Rattle.std.proofs.lemmas.Bool.{false≢true, not-false, ltb-true}
 use Rattle.std.proofs.lemmas.List.Folds.{find-append}
-use Rattle.bc_words.specs.Outcome.{done}
 use Rattle.bc_preset.specs.declared.configuration.ConfigValues.{ConfigValues}
 use Rattle.beacon_types.specs.Equality.{same_root}
 use Rattle.beacon_body.specs.declared.block.BeaconBlock.{BeaconBlock}

@@ -1,5 +1,5 @@
 -- An accepted event: a tick and an attestation leave blocks, configuration and finalized checkpoint, and else a block was accepted.
-use Rattle.std.proofs.Common.{◌≡◌, ◌∙◌, ◌<◌, ◌^◌, ◌⊎◌, inl, inr, ℕ, Bool, true, false, ◌==◌, if◌then◌else◌, List, [], ◌∷◌, length, Option, Some, None, refl, sym, ap, subst}
+use Rattle.std.proofs.Common.{◌≡◌, ◌<◌, ◌^◌, ◌⊎◌, inl, inr, ℕ, Bool, ◌==◌, if◌then◌else◌, List, length, Option, Some, None, refl, sym, ap}
 use Rattle.bc_words.specs.Outcome.{Outcome, done, refused, limited}
 use Rattle.bc_words.specs.Events.{EventOutcome, accepted, event_refused, event_limited, event_clashes, then_event}
 use Rattle.bc_words.specs.declared.refusal.Refusal.TheVariants.{Malformed}

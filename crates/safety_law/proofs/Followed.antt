@@ -1,5 +1,5 @@
 -- A store follows its history from genesis on, over each event that it accepts; an accepted block is a step of the history.
-use Rattle.std.proofs.Common.{◌≡◌, ◌∙◌, ◌<◌, ◌^◌, ◌⊎◌, inl, inr, ℕ, Bool, true, false, if◌then◌else◌, List, [], ◌∷◌, ◌++◌, map, Option, Some, None, is_some, refl, sym, ap, subst}
+use Rattle.std.proofs.Common.{◌≡◌, ◌∙◌, ◌<◌, ◌^◌, inl, inr, ℕ, Bool, true, false, if◌then◌else◌, List, [], ◌∷◌, ◌++◌, map, Option, Some, None, is_some, refl, sym, ap, subst}
 use Rattle.std.specs.List.{Contains}
 use Rattle.std.specs.Option.{option_map, option_map_or}
 use Rattle.std.specs.Cmp.Lexicographic.{bytes_decides}
@@ -15,7 +15,7 @@ use Rattle.beacon_body.specs.Containers.{block_codec}
 use Rattle.beacon_body.specs.declared.block.BeaconBlock.{BeaconBlock}
 use Rattle.beacon_body.specs.declared.signed_block.SignedBeaconBlock.{SignedBeaconBlock}
 use Rattle.spec_state.specs.declared.plain.PlainState.{PlainState}
-use Rattle.spec_state.specs.Genesis.{header_root_of, zero_root}
+use Rattle.spec_state.specs.Genesis.{zero_root}
 use Rattle.spec_state.specs.States.{state_codec}
 use Rattle.spec_blocks.specs.Checks.{check}
 use Rattle.spec_blocks.specs.ProcessBlock.{process_block}
@@ -24,15 +24,15 @@ use Rattle.spec_transition.specs.ProcessSlots.{Stepped, process_slots}
 use Rattle.spec_transition.specs.StateTransition.{state_transition}
 use Rattle.spec_fork_choice.specs.Store.{KeptBlock, Store, block_of, is_kept}
 use Rattle.spec_fork_choice.specs.GetForkchoiceStore.{get_forkchoice_store, genesis_block}
-use Rattle.spec_fork_choice.specs.Clash.{clash_of, clash_with, is_another, place_of}
-use Rattle.spec_fork_choice.specs.OnBlock.{BlockIn, with_block, with_accepted, on_block}
+use Rattle.spec_fork_choice.specs.Clash.{clash_of, clash_with, is_another}
+use Rattle.spec_fork_choice.specs.OnBlock.{BlockIn, with_block, with_accepted}
 use Rattle.spec_fork_choice.specs.OnEvent.{Accepted, block, other, on_event}
 use Rattle.spec_fork_choice.proofs.Blocks.{accepted_blocks}
 use Rattle.spec_fork_choice.proofs.Took.{Took, took}
-use Rattle.spec_forensics.specs.Histories.{AcceptedBlock, with_event, chain_to, state_behind, IsStepOn, IsHistory}
+use Rattle.spec_forensics.specs.Histories.{AcceptedBlock, with_event, chain_to, state_behind, IsStepOn}
 use Rattle.spec_forensics.specs.Clash.{kept_block, first_accepted, clash_among}
-use Rattle.safety_law.specs.Histories.{Begins, HaveOneContent, NoneIsGenesis}
-use Rattle.safety_law.specs.Finals.{IsFinalizedBy, IsFinalOf}
+use Rattle.safety_law.specs.Histories.{Begins}
+use Rattle.safety_law.specs.Finals.{IsFinalOf}
 use Rattle.safety_law.specs.Follows.{Follows, IsAdded}
 use Rattle.safety_law.proofs.Lists.{first_of, later_of, none_of_none, image_of}
 use Rattle.safety_law.proofs.Chains.{IsKnown, behind_block}

@@ -15,7 +15,7 @@ use Rattle.vote_law.specs.Runs.{Places, Keeps, Goes}
 use Rattle.vote_law.proofs.Genesis.{genesis_goes}
 use Rattle.vote_law.proofs.RunsSlots.{transition_goes, transition_slot}
 use Rattle.safety_law.specs.Histories.{Begins}
-use Rattle.safety_law.proofs.Chains.{top_of, top_is}
+use Rattle.safety_law.proofs.Chains.{top_of}
 
 -- the part of a chain up to a slot
 unfoldable pub up_to : List AcceptedBlock → ℕ → List AcceptedBlock

@@ -1,13 +1,12 @@
 -- Two histories on one genesis with a block more.
-use Rattle.std.proofs.Common.{◌≡◌, ◌∙◌, ◌⊎◌, inl, inr, ℕ, List, [], ◌∷◌, ◌++◌, Option, Some, None, is_some, refl, sym, ap, subst}
+use Rattle.std.proofs.Common.{◌≡◌, ◌∙◌, ◌⊎◌, inl, inr, ℕ, List, [], ◌∷◌, ◌++◌, Option, Some, None, is_some, refl, sym, ap}
 use Rattle.std.specs.List.{Contains}
-use Rattle.std.specs.Option.{option_map}
 use Rattle.std.proofs.lemmas.Bool.{false≢true}
 use Rattle.std.proofs.lemmas.List.Elements.{Contains-append_left, Contains-append_right, Contains-append_cases}
 use Rattle.bc_preset.specs.declared.configuration.ConfigValues.{ConfigValues}
 use Rattle.spec_state.specs.declared.plain.PlainState.{PlainState}
 use Rattle.spec_state.specs.Genesis.{header_root_of}
-use Rattle.spec_forensics.specs.Histories.{AcceptedBlock, IsStepOn, IsHistory}
+use Rattle.spec_forensics.specs.Histories.{AcceptedBlock, IsStepOn}
 use Rattle.spec_forensics.specs.Clash.{first_accepted, clash_among, clash_with, first_or_second}
 use Rattle.safety_law.specs.Histories.{Begins, HaveOneContent, NoneIsGenesis, AreHistories}
 use Rattle.safety_law.proofs.Lists.{first_or_later, none_of_none}

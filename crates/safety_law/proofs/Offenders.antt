@@ -1,13 +1,12 @@
 -- A validator that cast two carried votes that nobody may cast both is an offender.
-use Rattle.std.proofs.Common.{◌≡◌, ◌∙◌, ℕ, zero, suc, ◌+◌, ◌<◌, ◌≤◌, ◌⊎◌, inl, inr, Bool, true, false, cond, ◌||◌, ◌==◌, nat_lt, List, [], ◌∷◌, ◌++◌, map, length, Option, Some, None, is_some, if◌then◌else◌, refl, sym, ap, subst, arith}
-use Rattle.std.specs.List.{Contains, find, filter, flat_map, enumerate_from}
+use Rattle.std.proofs.Common.{◌≡◌, ◌∙◌, ℕ, zero, suc, ◌+◌, ◌<◌, ◌⊎◌, inl, inr, Bool, true, false, cond, ◌||◌, ◌==◌, nat_lt, List, [], ◌∷◌, ◌++◌, map, length, Option, Some, None, is_some, if◌then◌else◌, refl, sym, ap, subst, arith}
+use Rattle.std.specs.List.{Contains, find, filter, enumerate_from}
 use Rattle.std.specs.Option.{option_map}
 use Rattle.std.proofs.lemmas.Bool.{eq-eqb, lt-ltb, false≢true, cases_lt}
 use Rattle.std.proofs.lemmas.List.{map-append}
 use Rattle.beacon_types.specs.declared.attestation_data.AttestationData.{AttestationData}
 use Rattle.beacon_types.specs.declared.validator.Validator.{Validator}
 use Rattle.beacon_types.specs.Slashable.{is_slashable_attestation_data}
-use Rattle.beacon_body.specs.declared.attestation.Attestation.{Attestation}
 use Rattle.spec_state.specs.declared.plain.PlainState.{PlainState}
 use Rattle.spec_state.specs.Accessors.{get_attesting_indices, get_active_validator_indices, indices_from}
 use Rattle.spec_state.specs.Predicates.{is_active_validator}

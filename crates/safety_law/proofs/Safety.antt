@@ -1,6 +1,6 @@
 -- Accountable safety: where two histories conflict on a large genesis whose validators stay, the offenders have at least a third of the
 -- genesis total.
-use Rattle.std.proofs.Common.{◌≡◌, ◌∙◌, ℕ, ◌*◌, ◌<◌, ◌≤◌, ◌⊎◌, inl, inr, min, max, List, [], ◌∷◌, ◌++◌, map, sum, length, refl, sym, ap, subst, arith}
+use Rattle.std.proofs.Common.{◌≡◌, ◌∙◌, ℕ, ◌*◌, ◌<◌, ◌≤◌, inl, inr, min, max, List, [], ◌∷◌, ◌++◌, map, sum, length, refl, sym, ap, subst, arith}
 use Rattle.std.specs.List.{AllByRecursion, Contains}
 use Rattle.std.proofs.lemmas.Bool.{cases_lt}
 use Rattle.std.proofs.lemmas.List.Elements.{Contains-append_left, Contains-append_right}
@@ -9,12 +9,11 @@ use Rattle.bc_preset.specs.declared.configuration.ConfigValues.{ConfigValues}
 use Rattle.beacon_types.specs.declared.attestation_data.AttestationData.{AttestationData}
 use Rattle.beacon_types.specs.declared.checkpoint.Checkpoint.{Checkpoint}
 use Rattle.spec_state.specs.declared.plain.PlainState.{PlainState}
-use Rattle.spec_state.specs.Genesis.{header_root_of}
 use Rattle.spec_epochs.specs.declared.justification.Justification.{Justification}
 use Rattle.spec_epochs.specs.WeighJustificationAndFinalization.{justification_of}
 use Rattle.ffg_law.specs.declared.link.Link.{Link}
 use Rattle.ffg_law.specs.Weights.{among}
-use Rattle.ffg_law.specs.Links.{Voted, IsOneOf, links_of, link_of, IsChain, IsFinalized, AreApart, IsSlashable, IsConvicted, HaveTwoThirds}
+use Rattle.ffg_law.specs.Links.{Voted, IsOneOf, links_of, link_of, IsChain, IsFinalized, AreApart, IsSlashable, HaveTwoThirds}
 use Rattle.ffg_law.specs.Histories.{IsLarge, genesis_checkpoint, nothing_justified, last_from, made_from}
 use Rattle.ffg_law.proofs.Finals.{finals_conflict_proof, third_of_conflict, slashable_data}
 use Rattle.ffg_law.proofs.Histories.{history_promises}
@@ -29,7 +28,7 @@ use Rattle.vote_law.proofs.Lists.{all_of}
 use Rattle.safety_law.specs.Histories.{Begins, HaveOneContent, NoneIsGenesis, AreHistories}
 use Rattle.safety_law.specs.Finals.{IsFinalOf, IsConflict, StaysSteady, IsLargeGenesis}
 use Rattle.safety_law.proofs.Lists.{first_of, later_of, image_of, in_first, in_second}
-use Rattle.safety_law.proofs.Chains.{top_of, IsKnown, AreOf, IsSound, top_is, chain_sound, chain_listed}
+use Rattle.safety_law.proofs.Chains.{top_of, IsKnown, AreOf, IsSound, top_is, chain_sound}
 use Rattle.safety_law.proofs.Goes.{up_to, StandsOn, CarriedBy, IsSteadyChain, chain_goes}
 use Rattle.safety_law.proofs.Finalizing.{finalizes, steady_chain}
 use Rattle.safety_law.proofs.Links.{IsGoodLink, made_good, targets_stand}

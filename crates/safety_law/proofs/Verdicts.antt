@@ -1,8 +1,8 @@
 -- A verdict of conflict, in words: what the tests of a verdict say, and where they say it.
-use Rattle.std.proofs.Common.{◌≡◌, ◌∙◌, ℕ, ◌*◌, ◌<◌, ◌≤◌, ◌⊎◌, inl, inr, Bool, true, false, ◌||◌, ◌&&◌, ◌==◌, nat_lt, nat_eq, if◌then◌else◌, List, [], ◌∷◌, map, Option, Some, None, is_some, refl, sym, ap, subst, arith}
-use Rattle.std.specs.List.{AllByRecursion, Contains, list_any}
+use Rattle.std.proofs.Common.{◌≡◌, ◌∙◌, ℕ, ◌*◌, ◌<◌, inl, inr, Bool, true, false, ◌||◌, ◌&&◌, ◌==◌, nat_lt, List, [], ◌∷◌, map, Option, Some, None, is_some, refl, sym, ap, arith}
+use Rattle.std.specs.List.{AllByRecursion, list_any}
 use Rattle.std.specs.Cmp.{unsigned_Decides}
-use Rattle.std.specs.Cmp.Lexicographic.{pointwise, pointwise_decides, bytes_decides}
+use Rattle.std.specs.Cmp.Lexicographic.{pointwise_decides, bytes_decides}
 use Rattle.std.proofs.lemmas.Bool.{and_parts, eqb-false, eqb-true, ltb-false, le-ltb, false≢true}
 use Rattle.beacon_types.specs.Equality.{same_root}
 use Rattle.beacon_types.specs.declared.checkpoint.Checkpoint.{Checkpoint}
@@ -15,8 +15,8 @@ use Rattle.spec_forensics.specs.declared.verdict.Verdict.{Verdict}
 use Rattle.spec_forensics.specs.declared.verdict.Verdict.TheVariants.{Agree, Small, Moved, Conflict}
 use Rattle.spec_forensics.specs.Histories.{AcceptedBlock, chain_to}
 use Rattle.spec_forensics.specs.Steady.{genesis_total, is_steady_in, is_steady_at, IsSteadyIn, IsSteadyAt}
-use Rattle.spec_forensics.specs.Verdict.{roots_of, is_on_chain, is_agreed, first_moved, moved_or, moved_on, finalizing_chain, balance_of, unless_moved, offences_of, verdict_of}
-use Rattle.safety_law.specs.Finals.{IsConflict, StaysSteady, IsLargeGenesis, AreInConflict}
+use Rattle.spec_forensics.specs.Verdict.{roots_of, is_on_chain, is_agreed, first_moved, moved_or, moved_on, finalizing_chain, unless_moved, verdict_of}
+use Rattle.safety_law.specs.Finals.{IsConflict, AreInConflict}
 use Rattle.safety_law.proofs.Lists.{one_of, of_one}
 use Rattle.safety_law.proofs.Goes.{IsSteadyChain}
 

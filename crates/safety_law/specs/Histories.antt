@@ -1,5 +1,5 @@
 -- Two histories on one genesis, in which a root is a name for one block. A list of accepted blocks has the latest first.
-use Rattle.std.specs.Prelude.{◌≡◌, ℕ, false, Contains, List, [], ◌++◌, length}
+use Rattle.std.specs.Prelude.{◌≡◌, false, Contains, List, [], ◌++◌, length}
 use Rattle.bc_preset.specs.declared.configuration.ConfigValues.{ConfigValues}
 use Rattle.bc_preset.specs.laws.Bounds.{HasPresetBounds}
 use Rattle.beacon_types.specs.Equality.{same_root}
