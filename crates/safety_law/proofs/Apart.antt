@@ -10,7 +10,7 @@ use Rattle.spec_forensics.specs.Histories.{AcceptedBlock}
 use Rattle.spec_forensics.specs.Verdict.{roots_of}
 use Rattle.safety_law.specs.Histories.{HaveOneContent, NoneIsGenesis}
 use Rattle.safety_law.proofs.Lists.{first_of, of_one}
-use Rattle.safety_law.proofs.Chains.{top_of, IsSound, shorter}
+use Rattle.safety_law.proofs.Chains.{top_of, IsSound, either_chain, shorter}
 use Rattle.safety_law.proofs.Goes.{up_to}
 
 -- a root is that of a block of a chain, or that of genesis
@@ -32,14 +32,10 @@ up_to_twice (b ∷ chain) low high order = elim (cases_lt high b.block.slot) [
   | inr here ↦ rw (le-leb b.block.slot high here) refl
 ]
 
-part_either : (P : List AcceptedBlock → Type 0) (choice : Bool) (xs ys : List AcceptedBlock) → P xs → P ys → P (if choice then xs else ys)
-part_either P true xs ys one other = one
-part_either P false xs ys one other = other
-
 pub part_sound : (genesis : PlainState) (blocks chain : List AcceptedBlock) (slot : ℕ) → IsSound genesis blocks chain → IsSound genesis blocks (up_to chain slot)
 unfolding up_to
 part_sound genesis blocks [] slot sound = sound
-part_sound genesis blocks (b ∷ chain) slot sound = part_either (IsSound genesis blocks) (leb b.block.slot slot) (b ∷ chain) (up_to chain slot) sound (part_sound genesis blocks chain slot (shorter genesis blocks b chain sound))
+part_sound genesis blocks (b ∷ chain) slot sound = either_chain (IsSound genesis blocks) (leb b.block.slot slot) (b ∷ chain) (up_to chain slot) sound (part_sound genesis blocks chain slot (shorter genesis blocks b chain sound))
 
 -- ---- two chains that end with one root
 

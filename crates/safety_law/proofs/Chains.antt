@@ -63,7 +63,7 @@ top_is genesis [] root (inr listed) = absurd (none_of_none root listed)
 top_is genesis (b ∷ blocks) root known = top_first genesis b blocks root (same_root b.root root) refl known (top_is genesis blocks root)
 
 -- one of two chains
-either_chain : (P : List AcceptedBlock → Type 0) (choice : Bool) (xs ys : List AcceptedBlock) → P xs → P ys → P (if choice then xs else ys)
+pub either_chain : (P : List AcceptedBlock → Type 0) (choice : Bool) (xs ys : List AcceptedBlock) → P xs → P ys → P (if choice then xs else ys)
 either_chain P true xs ys one other = one
 either_chain P false xs ys one other = other
 

@@ -1,5 +1,5 @@
 -- What the states of a history's chains say of links: which root stands at each slot of a chain, and what its blocks carried.
-use Rattle.std.proofs.Common.{◌≡◌, ◌∙◌, ℕ, ◌<◌, ◌≤◌, ◌^◌, Bool, true, false, leb, if◌then◌else◌, List, [], ◌∷◌, refl, sym, ap, subst, arith}
+use Rattle.std.proofs.Common.{◌≡◌, ◌∙◌, ℕ, ◌<◌, ◌≤◌, ◌^◌, leb, if◌then◌else◌, List, [], ◌∷◌, refl, sym, ap, subst, arith}
 use Rattle.std.specs.List.{AllByRecursion}
 use Rattle.std.proofs.lemmas.Bool.{le-leb, lt-leb}
 use Rattle.bc_preset.specs.declared.configuration.ConfigValues.{ConfigValues}
@@ -15,7 +15,7 @@ use Rattle.vote_law.specs.Runs.{Places, Keeps, Goes}
 use Rattle.vote_law.proofs.Genesis.{genesis_goes}
 use Rattle.vote_law.proofs.RunsSlots.{transition_goes, transition_slot}
 use Rattle.safety_law.specs.Histories.{Begins}
-use Rattle.safety_law.proofs.Chains.{top_of}
+use Rattle.safety_law.proofs.Chains.{top_of, either_chain}
 
 -- the part of a chain up to a slot
 unfoldable pub up_to : List AcceptedBlock → ℕ → List AcceptedBlock
@@ -83,10 +83,6 @@ block_goes config genesis earlier b begins step before =
       slot = transition_slot config s step.signed t step.step ∙ slot_is;
     }
 
-goes_either : (genesis : PlainState) (choice : Bool) (xs ys : List AcceptedBlock) → ChainGoes genesis xs → ChainGoes genesis ys → ChainGoes genesis (if choice then xs else ys)
-goes_either genesis true xs ys one other = one
-goes_either genesis false xs ys one other = other
-
 -- so do the states behind all chains of a history
 pub chain_goes : (config : ConfigValues) (genesis : PlainState) (blocks : List AcceptedBlock) (root : List ℕ) → Begins genesis → IsHistory config genesis blocks → ChainGoes genesis (chain_to blocks root)
 unfolding chain_to
@@ -95,6 +91,6 @@ chain_goes config genesis [] root g history = record {
   slot = g.slot;
 }
 chain_goes config genesis (b ∷ blocks) root g history =
-    goes_either genesis (same_root b.root root) (b ∷ chain_to blocks b.block.parent_root) (chain_to blocks root)
+    either_chain (ChainGoes genesis) (same_root b.root root) (b ∷ chain_to blocks b.block.parent_root) (chain_to blocks root)
     (block_goes config genesis blocks b g history.0 (chain_goes config genesis blocks b.block.parent_root g history.1))
     (chain_goes config genesis blocks root g history.1)
