@@ -31,7 +31,7 @@ use Rattle.spec_state.specs.Soundness.{IsSound}
 use Rattle.spec_state.specs.inside.EpochCommittees.{epoch_committees}
 use Rattle.spec_replay.specs.Run.{Run, End, done, limited, bad_duties, after_file, after_lines, over}
 use Rattle.spec_replay.specs.Duties.{checked_state, duties_lines, duties_run, slot_lines, sound_state_of, with_config, with_duties, with_epoch, with_file, with_state}
-use Rattle.spec_replay.specs.Soundness.{is_sound}
+use Rattle.spec_fork_choice.specs.Soundness.{is_sound}
 use Rattle.beacon_node.specs.declared.status.Status.{Status}
 use Rattle.beacon_node.specs.declared.status.Status.TheVariants as statuses
 use Rattle.beacon_node.specs.declared.tell_duties.StateStop.{StateStop}
@@ -44,7 +44,7 @@ use Rattle.beacon_node.specs.inside.Texts.{WritesText}
 use Rattle.beacon_node.proofs.DutyTables.{all_lines}
 use Rattle.beacon_node.proofs.Prefixes.{config_of-prefix}
 use Rattle.beacon_node.proofs.Reaching.{reaches_none, reaches_all, is_prefix, no_lines, lines_behind, lines_prefix}
-use Rattle.beacon_node.proofs.Soundness.{soundness_is_tested}
+use Rattle.spec_fork_choice.proofs.Soundness.{soundness_is_tested}
 use Rattle.beacon_node.proofs.Steps.{held_prefix, over_after, opened_more}
 use Rattle.beacon_node.proofs.Whole.{ends_whole, goes_on_whole, unread_whole}
 

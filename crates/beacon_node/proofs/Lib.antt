@@ -11,6 +11,5 @@ pub mod MakingGenesis
 pub mod Texts
 pub mod DutyLines
 pub mod DutyTables
-pub mod Soundness
 pub mod Whole
 pub mod Duties

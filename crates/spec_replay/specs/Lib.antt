@@ -4,4 +4,3 @@ pub mod Duties
 pub mod Genesis
 pub mod Lines
 pub mod Run
-pub mod Soundness

@@ -1,6 +1,6 @@
 use Rattle.std.proofs.Common.{◌∙◌, None, sym, ap}
-use Rattle.fork_store.specs.inside.Genesis.{array_at_genesis}
-use Rattle.fork_store.proofs.AtGenesis.{opened}
+use Rattle.fork_store.specs.inside.Openings.{array_at_genesis}
+use Rattle.fork_store.proofs.Opened.{opened}
 use Rattle.fork_store.proofs.Keepers.{keeper_same, genesis_keeper_of}
 use Rattle.fork_store.proofs.get_forkchoice_store.genesis_parts.Goals as goal
 

@@ -1,14 +1,13 @@
 -- The test of soundness is true exactly of the sound states.
-use Rattle.std.proofs.Common.{◌≡◌, ℕ, Bool, true, not, ◌||◌, nat_eq, List, [], ◌∷◌, length, refl, sym, ap, arith, inl, inr}
+use Rattle.std.proofs.Common.{◌≡◌, ◌↔◌, ℕ, Bool, true, not, ◌||◌, nat_eq, List, [], ◌∷◌, length, refl, sym, ap, arith, inl, inr}
 use Rattle.std.specs.Prelude.{◌==◌}
 use Rattle.std.specs.List.{list_all, AllByRecursion}
 use Rattle.std.proofs.lemmas.Bool.{and_parts, and_from, ltb-true, leb-true, eqb-true, lt-ltb, le-leb, eq-eqb, or_cases, or_left, or_right, cases_Bool, not-true, both_ways, not_from_false}
 use Rattle.beacon_types.specs.declared.pending_attestation.PendingAttestation.{PendingAttestation}
 use Rattle.spec_state.specs.declared.plain.PlainState.{PlainState}
 use Rattle.spec_state.specs.Accessors.{get_current_epoch, get_previous_epoch}
-use Rattle.spec_state.specs.Soundness.{IsSoundPending, IsSoundTo}
-use Rattle.spec_replay.specs.Soundness.{is_sound, is_sound_pending}
-use Rattle.beacon_node.specs.laws.Soundness.{SoundnessIsTested}
+use Rattle.spec_state.specs.Soundness.{IsSoundPending, IsSoundTo, IsSound}
+use Rattle.spec_fork_choice.specs.Soundness.{is_sound, is_sound_pending}
 
 pending_from : (s : PlainState) (epoch : ℕ) (a : PendingAttestation) → is_sound_pending s epoch a ≡ true → IsSoundPending s epoch a
 unfolding is_sound_pending
@@ -59,7 +58,7 @@ from_none epoch xs h = elim (cases_Bool (epoch == 0)) [
   | inr later ↦ or_left _ _ (not_from_false _ later)
 ]
 
-pub soundness_is_tested : SoundnessIsTested
+pub soundness_is_tested : (s : PlainState) → (is_sound s ≡ true) ↔ IsSound s
 unfolding is_sound
 soundness_is_tested s = (
   λ h.

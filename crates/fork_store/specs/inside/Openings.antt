@@ -1,4 +1,4 @@
--- A store at genesis.
+-- A store as it opens.
 use Rattle.std.specs.Prelude.{ℕ, List, Option}
 use Rattle.bc_preset.specs.declared.configuration.ConfigValues.{ConfigValues}
 use Rattle.beacon_types.specs.declared.checkpoint.Checkpoint.{Checkpoint}
@@ -11,11 +11,11 @@ use Rattle.fork_store.specs.inside.Wholes.{balances_for}
 use Rattle.spec_fork_choice.specs.Store.{KeptBlock, LatestMessage, Store}
 
 -- the store whose checkpoints are all this one, without a boost
-abbrev pub at_genesis : ConfigValues → ℕ → Checkpoint → List KeptBlock → List (Option LatestMessage) → Store
-at_genesis config time checkpoint blocks messages = record {
+abbrev pub as_opened : ConfigValues → ℕ → ℕ → Checkpoint → List KeptBlock → List (Option LatestMessage) → Store
+as_opened config time genesis_time checkpoint blocks messages = record {
   config = config;
   time = time;
-  genesis_time = time;
+  genesis_time = genesis_time;
   justified_checkpoint = checkpoint;
   finalized_checkpoint = checkpoint;
   best_justified_checkpoint = checkpoint;
@@ -24,8 +24,8 @@ at_genesis config time checkpoint blocks messages = record {
   latest_messages = messages;
 }
 
--- the array of a store whose one block has this root and facts of its state
-abbrev pub array_at_genesis : Store → List ℕ → Facts → PlainArray
-array_at_genesis store root facts =
+-- the array of a store whose one block has this slot and root and facts of its state
+abbrev pub array_as_opened : Store → ℕ → List ℕ → Facts → PlainArray
+array_as_opened store slot root facts =
     let balances : Balances = balances_for store store.justified_checkpoint in
-    with_balances (new_array store.config.preset.slots_per_epoch store.config.proposer_score_boost 0 root facts) balances.list balances.count balances.total
+    with_balances (new_array store.config.preset.slots_per_epoch store.config.proposer_score_boost slot root facts) balances.list balances.count balances.total

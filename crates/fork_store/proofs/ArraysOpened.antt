@@ -1,4 +1,4 @@
--- The store at genesis and an array of its one block.
+-- The store as it opens and an array of its one block.
 use Rattle.std.proofs.Common.{◌≡◌, ℕ, Bool, true, false, cond, not, List, [], ◌∷◌, Option, Some, None, is_some, refl, ap}
 use Rattle.bc_words.specs.declared.store_stop.ClashKind.{ClashKind}
 use Rattle.bc_preset.specs.declared.configuration.ConfigValues.{ConfigValues}
@@ -10,10 +10,10 @@ use Rattle.spec_state.specs.declared.plain.PlainState.{PlainState}
 use Rattle.spec_state.specs.Genesis.{zero_root}
 use Rattle.spec_fork_choice.specs.Store.{KeptBlock, block_of, is_kept}
 use Rattle.spec_fork_choice.specs.Clash.{place_of, clash_with, clash_of}
-use Rattle.spec_fork_choice.specs.GetForkchoiceStore.{genesis_block, get_forkchoice_store}
-use Rattle.spec_fork_choice.specs.OnEvent.{genesis_clash}
+use Rattle.spec_fork_choice.specs.GetForkchoiceStore.{get_forkchoice_store}
+use Rattle.spec_fork_choice.specs.OnEvent.{first_clash}
 use Rattle.spec_fork_choice.specs.StoreTargetCheckpointState.{store_target_checkpoint_state}
-use Rattle.fork_store.specs.Arrays.{node_number, facts_of, node_of, nodes_behind, nodes_of, messages_at, BeginsAtZero, IsBoostedNode, balances_of, balances_at, IsArrayOf}
+use Rattle.fork_store.specs.Arrays.{node_number, facts_of, node_of, nodes_behind, nodes_of, messages_at, IsBoostedNode, balances_of, balances_at, IsArrayOf}
 use Rattle.fork_store.proofs.ArraysPlaces.{is_same}
 
 -- a block that doesn't clash has a root that isn't zero
@@ -34,22 +34,21 @@ one_unkept : (kept : KeptBlock) → same_root kept.root zero_root ≡ false → 
 unfolding is_kept block_of
 one_unkept kept h = ap (λ b. is_some (cond b (Some kept) None)) h
 
-pub genesis_array : (config : ConfigValues) (genesis : PlainState) (balances : List ℕ) (count total : ℕ) → genesis_clash genesis ≡ None
+pub first_array : (config : ConfigValues) (state : PlainState) (block : BeaconBlock) (balances : List ℕ) (count total : ℕ) → first_clash block ≡ None
     → record { list = balances; count = count; total = total } ≡ balances_of
-    (store_target_checkpoint_state (get_forkchoice_store config genesis) (get_forkchoice_store config genesis).justified_checkpoint)
-    → IsArrayOf (get_forkchoice_store config genesis) (with_balances
-    (new_array config.preset.slots_per_epoch config.proposer_score_boost 0 (block_codec.hash_tree_root (genesis_block genesis)) (facts_of genesis))
+    (store_target_checkpoint_state (get_forkchoice_store config state block) (get_forkchoice_store config state block).justified_checkpoint)
+    → IsArrayOf (get_forkchoice_store config state block) (with_balances
+    (new_array config.preset.slots_per_epoch config.proposer_score_boost block.slot (block_codec.hash_tree_root block) (facts_of state))
     balances count total)
-unfolding get_forkchoice_store genesis_block genesis_clash nodes_of nodes_behind node_of node_number is_kept block_of messages_at BeginsAtZero IsBoostedNode
-    balances_at
-genesis_array config genesis balances count total none ready =
-    let root : List ℕ = block_codec.hash_tree_root (genesis_block genesis) in
-    let kept : KeptBlock = record { root = root; block = genesis_block genesis; state = genesis } in
+unfolding get_forkchoice_store first_clash nodes_of nodes_behind node_of node_number is_kept block_of messages_at IsBoostedNode balances_at
+first_array config state block balances count total none ready =
+    let root : List ℕ = block_codec.hash_tree_root block in
+    let kept : KeptBlock = record { root = root; block = block; state = state } in
     record {
       slots_per_epoch = refl;
       percent = refl;
       nodes = refl;
-      rooted = record { begins = (refl, refl); named = one_unkept kept (unclashed_root [] root _ (genesis_block genesis) none) };
+      named = one_unkept kept (unclashed_root [] root _ block none);
       messages = refl;
       voted = tt;
       balances = ready;
