@@ -4,6 +4,7 @@ pub mod Steps
 pub mod OneByOne
 pub mod Readers
 pub mod Outside
+pub mod AnchorReaders
 pub mod Commands
 pub mod InMemory
 pub mod Drilled

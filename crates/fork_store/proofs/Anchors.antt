@@ -3,7 +3,7 @@ use Rattle.std.proofs.Common.{◌≡◌, ◌≤◌, ◌<◌, ◌+◌, ◌*◌, �
 use Rattle.std.specs.Prelude.{◌==◌}
 use Rattle.std.specs.Cmp.Lexicographic.{bytes_decides}
 use Rattle.std.proofs.lemmas.Bool.{eqb-true, eq-eqb, ltb-true, lt-ltb}
-use Rattle.std.proofs.Math.Nat.{mul-div-le, mul_comm}
+use Rattle.std.proofs.Math.Nat.{div-mul-le_self}
 use Rattle.bc_preset.specs.declared.configuration.ConfigValues.{ConfigValues}
 use Rattle.bc_preset.specs.declared.presets.Preset.{Preset}
 use Rattle.beacon_types.specs.Equality.{same_root}
@@ -96,7 +96,7 @@ none_wrong true fault rest h k = k
 none_wrong false fault rest h k = absurd cc
 
 zero_start : (n slot : ℕ) → slot ≡ 0 → slot / n * n ≡ slot
-zero_start n slot is = omega (arith, is, mul-div-le slot n, mul_comm n (slot / n))
+zero_start n slot is = omega (arith, is, div-mul-le_self slot n)
 
 -- a genesis with its block is an anchor
 pub genesis_is_anchor : (config : ConfigValues) (s : PlainState) → genesis_fault s ≡ None → s.genesis_time < 2 ^ 64 → anchor_fault config s (genesis_block s) ≡ None
@@ -112,3 +112,7 @@ genesis_is_anchor config s good low =
     (none_wrong (same_root (header_root_of s) (block_codec.hash_tree_root (genesis_block s))) _ _
     ((bytes_decides _ _).1 (genesis_latest s (genesis_header s (passed (is_genesis_header s.latest_block_header) _ _ slot.1).0)))
     (none_wrong (nat_lt (time_of_slot config s) (2 ^ 64)) _ _ (lt-ltb _ _ (omega (arith, low, time))) refl)))))
+
+pub ruleset opening = (first_is_kept, first_begins, first_is_late)
+
+pub ruleset at_genesis = (genesis_is_anchor)

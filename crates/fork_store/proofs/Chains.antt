@@ -6,7 +6,7 @@ use Rattle.std.proofs.Common.{◌≡◌, ◌∙◌, ℕ, ◌<◌, ◌≤◌, ◌
 use Rattle.std.proofs.Common.{if◌then◌else◌, refl, sym, ap, subst, arith, inl, inr}
 use Rattle.std.specs.Cmp.Lexicographic.{bytes_decides}
 use Rattle.std.proofs.lemmas.Bool.{cases_lt, false≢true, ltb-true, not-false}
-use Rattle.std.proofs.Math.Nat.{mul-div-le, mul_comm}
+use Rattle.std.proofs.Math.Nat.{div-mul-le_self}
 use Rattle.bc_words.specs.Outcome.{Outcome, done, bind}
 use Rattle.bc_words.specs.declared.refusal.Refusal.TheVariants.{FcTargetUnknown}
 use Rattle.bc_preset.specs.declared.presets.Preset.{Preset}
@@ -134,7 +134,7 @@ first_chained config root block s sound at is preset =
     let kept : KeptBlock = record { root = root; block = block; state = s } in
     let n : ℕ = s.preset.slots_per_epoch in
     let same : n ≡ config.preset.slots_per_epoch = ap (λ (p : Preset). p.slots_per_epoch) preset in
-    let start : s.slot / n * n ≤ s.slot = omega (arith, mul-div-le s.slot n, mul_comm n (s.slot / n)) in
+    let start : s.slot / n * n ≤ s.slot = div-mul-le_self s.slot n in
     let starts : s.slot / n * config.preset.slots_per_epoch ≤ s.slot = subst (λ (m : ℕ). s.slot / n * m ≤ s.slot) same start in
     let reached : IsReachedCheckpoint config (kept ∷ []) (record { epoch = s.slot / n; root = root }) = record {
       kept = kept;

@@ -2,7 +2,7 @@
 use Rattle.std.proofs.Common.{◌≡◌, ◌≤◌, ◌<◌, ◌+◌, ◌*◌, ◌/◌, ◌%◌, ℕ, List, [], ◌∷◌, ◌++◌, length, length-append, Option, Some, sym, subst, ap, arith, inl, inr, refl}
 use Rattle.std.specs.List.{AllByRecursion}
 use Rattle.std.specs.Option.{option_map_or}
-use Rattle.std.proofs.Math.Nat.{div-add-mod, mod-lt, mul-le-mul_left, mul_comm}
+use Rattle.std.proofs.Math.Nat.{lt-div-mul-add, mul-le-mul_right, suc-mul}
 use Rattle.state_parts.proofs.Within.{all_push}
 use Rattle.bc_preset.specs.declared.presets.Preset.{Preset}
 use Rattle.beacon_types.specs.declared.checkpoint.Checkpoint.{Checkpoint}
@@ -67,16 +67,14 @@ epoch_stays preset blocks more some = ap (compute_epoch_at_slot preset) (first_s
 -- ---- epochs and their first slots
 
 starts_late : (n : ℕ) (a b : ℕ) → a ≤ b → a * n ≤ b * n
-starts_late n a b less = omega (arith, mul-le-mul_left {m = a} {n = b} n less, mul_comm n a, mul_comm n b)
+starts_late n a b less = mul-le-mul_right n less
 
 -- the first slot of a later epoch is behind a slot
 pub before_later : (n slot epoch : ℕ) → 0 < n → slot / n < epoch → slot ≤ epoch * n
 before_later n slot epoch some later =
-    let q : ℕ = slot / n in
-    let more : (q + 1) * n ≤ epoch * n = starts_late n (q + 1) epoch (omega arith) in
-    let parts = div-add-mod slot n in
-    let low : slot % n < n = mod-lt slot some in
-    omega (arith, more, parts, low, mul_comm q n)
+    let more : (slot / n + 1) * n ≤ epoch * n = starts_late n (slot / n + 1) epoch (omega (arith, later)) in
+    let less : slot < slot / n * n + n = lt-div-mul-add some in
+    omega (arith, more, less, suc-mul (slot / n) n)
 
 -- a checkpoint that isn't of an epoch before that of the first kept block begins no earlier than the block
 pub late_start : (store : Store) (checkpoint : Checkpoint) → IsStore store → IsLate store checkpoint → first_slot store.blocks ≤ start_slot_of store checkpoint

@@ -44,3 +44,5 @@ module _ (config : ConfigValues) (state : PlainState) (block : BeaconBlock) (roo
   opened store array stores at =
       subst (λ (s : Store). IsWhole s array ready) (sym stores)
       (subst (λ (x : PlainArray). IsWhole opens x ready) (sym (at ∙ ap (λ (s : Store). array_as_opened s block.slot root (facts_of state)) stores)) whole_of)
+
+pub ruleset opening = (opened)

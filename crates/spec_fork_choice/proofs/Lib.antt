@@ -3,3 +3,4 @@ pub mod Blocks
 pub mod Took
 pub mod Grows
 pub mod Soundness
+pub mod Genesis

@@ -1,5 +1,5 @@
 -- The test of soundness is true exactly of the sound states.
-use Rattle.std.proofs.Common.{◌≡◌, ◌↔◌, ℕ, Bool, true, not, ◌||◌, nat_eq, List, [], ◌∷◌, length, refl, sym, ap, arith, inl, inr}
+use Rattle.std.proofs.Common.{◌≡◌, ◌↔◌, ℕ, Bool, true, false, IsTrue, not, ◌||◌, nat_eq, List, [], ◌∷◌, length, refl, sym, ap, arith, inl, inr}
 use Rattle.std.specs.Prelude.{◌==◌}
 use Rattle.std.specs.List.{list_all, AllByRecursion}
 use Rattle.std.proofs.lemmas.Bool.{and_parts, and_from, ltb-true, leb-true, eqb-true, lt-ltb, le-leb, eq-eqb, or_cases, or_left, or_right, cases_Bool, not-true, both_ways, not_from_false}
@@ -84,3 +84,13 @@ soundness_is_tested s = (
       (and_from _ _ (le-leb _ _ sound.current_justified) (and_from _ _ (le-leb _ _ sound.finalized) (and_from _ _ (from_all s _ _ sound.previous_attestations)
       (and_from _ _ (from_all s _ _ sound.current_attestations) (from_none _ _ sound.none_before))))))),
 )
+
+-- the code's test of soundness
+pub tested : (s : PlainState) (sound : Bool) → IsTrue sound ↔ IsSound s → is_sound s ≡ sound
+tested s true h = (soundness_is_tested s).1 (h.0 refl)
+tested s false h = elim (cases_Bool (is_sound s)) [
+  | inl sound ↦ absurd (let no : false ≡ true = h.1 ((soundness_is_tested s).0 sound) in cc)
+  | inr unsound ↦ unsound
+]
+
+pub ruleset testing = (tested)

@@ -1,3 +1,4 @@
+pub mod Anchor
 pub mod Commands
 pub mod Drill
 pub mod Duties
