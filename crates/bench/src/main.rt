@@ -2,9 +2,10 @@
 //!
 //! The word behind the program's name says what to measure: `pairs`, `shuffle`, `state`, `registry`, `change`, `iter`, `many`,
 //! `slots`, `block`, `attestation`, `operations`, `epoch`, `head`, `record`, `events`, `bodies`,
-//! `mainnet`, `drill`, `drill_mainnet`, `deposits`, `duties` or `book`. Without a word nothing is measured.
+//! `mainnet`, `drill`, `drill_mainnet`, `deposits`, `anchor`, `duties` or `book`. Without a word nothing is measured.
 #![tactic(auto)]
 
+mod anchor;
 mod attestation;
 mod block;
 mod book;
@@ -41,7 +42,7 @@ use std::time::CpuClock;
 
 /// What is printed where no word names a measurement.
 const USAGE: &str =
-    "name what to measure: pairs, shuffle, state, registry, change, iter, many, slots, block, attestation, operations, epoch, head, record, events, bodies, mainnet, drill, drill_mainnet, deposits, duties or book";
+    "name what to measure: pairs, shuffle, state, registry, change, iter, many, slots, block, attestation, operations, epoch, head, record, events, bodies, mainnet, drill, drill_mainnet, deposits, anchor, duties or book";
 
 /// Measures what a word names.
 fn measure(rt: &(impl AllocGlobal + Print + CpuClock + Files), word: &str) -> Result<()> {
@@ -53,6 +54,7 @@ fn measure(rt: &(impl AllocGlobal + Print + CpuClock + Files), word: &str) -> Re
         "drill" => drill::measure(rt),
         "drill_mainnet" => drill::measure_mainnet(rt),
         "deposits" => deposits::measure(rt),
+        "anchor" => anchor::measure(rt),
         "book" => book::measure(rt),
         _ => measure_steps(rt, word),
     }
