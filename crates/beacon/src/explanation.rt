@@ -8,6 +8,7 @@ use beacon_state::shortest_state;
 use command_words::{COMMANDS, Command};
 use duties::DutiesFault;
 use genesis_maker::{DEPOSIT_LEN, DEPOSITS_HEAD_LEN};
+use spec_fork_choice::AnchorFault;
 use spec_genesis::DepositsFault;
 use spec_state::GenesisFault;
 use std::fmt;
@@ -87,6 +88,11 @@ fn origins_of<'a>(command: &Option<Command<'a>>) -> Origins<'a> {
             words.config,
             Origin::File(words.state),
             Origin::File("RECORD"),
+        ),
+        Some(Command::Anchor(files)) => (
+            files.config,
+            Origin::File(files.state),
+            Origin::File(files.events),
         ),
         None => ("CONFIG", Origin::File("GENESIS"), Origin::File("RECORD")),
     };
@@ -280,16 +286,84 @@ fn write_duties<W: fmt::Write>(
     }
 }
 
-/// How the root of a block that would be accepted is no name for it alone. Event 0 is the genesis block.
+/// The file of the block that is a state's, or a placeholder where the command has none.
+fn block_of<'a>(command: &Option<Command<'a>>) -> Origin<'a> {
+    match command {
+        Some(Command::Anchor(files)) => Origin::File(files.block),
+        _ => Origin::File("BLOCK"),
+    }
+}
+
+/// A root in hexadecimal.
+fn write_root<W: fmt::Write>(f: &mut fmt::Formatter<W>, root: &[u8; 32]) -> fmt::Result {
+    write!(f, "0x")?;
+    for byte in root {
+        write!(f, "{byte:02x}")?;
+    }
+    Ok(())
+}
+
+/// Two roots that aren't the same: that of the state's file, and that of the block's.
+fn write_roots<W: fmt::Write>(
+    f: &mut fmt::Formatter<W>,
+    of_state: &[u8; 32],
+    of_block: &[u8; 32],
+) -> fmt::Result {
+    write!(f, ": by the state ")?;
+    write_root(f, of_state)?;
+    write!(f, ", by the block ")?;
+    write_root(f, of_block)
+}
+
+/// Why a state and a block are no anchor: which file it is that is wrong, or which values of the two differ.
+fn write_anchor<W: fmt::Write>(
+    f: &mut fmt::Formatter<W>,
+    command: &Option<Command<'_>>,
+    fault: AnchorFault,
+    len: Option<usize>,
+) -> fmt::Result {
+    let state = origins_of(command).genesis;
+    let block = block_of(command);
+    match fault {
+        AnchorFault::BlockTooLong | AnchorFault::BlockNotAWriting => {
+            write!(f, "Anchor: {block}: {fault}")
+        }
+        AnchorFault::BlockSlot(_, _) => write!(f, "Anchor: {state} and {block}: {fault}"),
+        AnchorFault::StateRoot(of_state, of_block) | AnchorFault::Header(of_state, of_block) => {
+            write!(f, "Anchor: {state} and {block}: {fault}")?;
+            write_roots(f, &of_state, &of_block)
+        }
+        AnchorFault::StateNotAWriting => {
+            write!(f, "Anchor: {state}: {fault}")?;
+            write_sizes(f, len)
+        }
+        _ => write!(f, "Anchor: {state}: {fault}"),
+    }
+}
+
+/// What the first kept block is.
+fn first_block(command: &Option<Command<'_>>) -> &'static str {
+    match command {
+        Some(Command::Anchor(_)) => "the anchor's block",
+        _ => "the genesis block",
+    }
+}
+
+/// How the root of a block that would be accepted is no name for it alone. Event 0 is the first kept block.
 fn write_clash<W: fmt::Write>(
     f: &mut fmt::Formatter<W>,
-    genesis: Origin<'_>,
-    events: Origin<'_>,
+    command: &Option<Command<'_>>,
     event: u32,
     kind: ClashKind,
 ) -> fmt::Result {
+    let Origins {
+        genesis,
+        events,
+        ..
+    } = origins_of(command);
+    let first = first_block(command);
     if event == 0 {
-        write!(f, "Clash: {genesis}: the genesis block: ")?;
+        write!(f, "Clash: {genesis}: {first}: ")?;
     } else {
         write!(f, "Clash: {events}: event {event}: ")?;
     }
@@ -298,7 +372,7 @@ fn write_clash<W: fmt::Write>(
         ClashKind::ZeroState => write!(f, "the block's state root is zero"),
         ClashKind::Kept(0) => write!(
             f,
-            "the block has the root of the genesis block, and is another one"
+            "the block has the root of {first}, and is another one"
         ),
         ClashKind::Kept(number) => write!(
             f,
@@ -331,9 +405,10 @@ impl fmt::Display for Explanation<'_, '_> {
                 write_place(f, &self.command, *event)?;
                 write_limit(f, *limit)
             }
-            Status::Clash { event, kind, .. } => write_clash(f, genesis, events, *event, *kind),
+            Status::Clash { event, kind, .. } => write_clash(f, &self.command, *event, *kind),
             Status::Deposits(fault) => write_deposits(f, genesis, *fault, self.genesis_len),
             Status::Duties(fault) => write_duties(f, &self.command, *fault, self.genesis_len),
+            Status::Anchor(fault) => write_anchor(f, &self.command, *fault, self.genesis_len),
             Status::ReadFault => write_cause(
                 f,
                 "ReadFault",

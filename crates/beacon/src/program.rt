@@ -4,7 +4,7 @@ use crate::explanation::{Cause, Explanation};
 use crate::progress::{Progress, Watch, WatchedOut, WatchedShelf, WatchedSink};
 use bc_outside::{DiskShelf, StdSink};
 use beacon_node::{Status, beacon_main};
-use command_words::{read_command, what_is_wrong};
+use command_words::{Command, read_command, what_is_wrong};
 use std::alloc::Global;
 use std::io::{Eprint, Print};
 use std::rt::{Env, Files};
@@ -58,10 +58,22 @@ fn cause_of<'a, R: Files, W: io::Write>(
     }
 }
 
+/// The file of the record, by the order of the words.
+fn record_of(alloc: Global, words: &[String]) -> u32 {
+    match read_command(alloc, words) {
+        Ok(Command::Anchor(_)) => 3,
+        _ => 2,
+    }
+}
+
 /// The number of the event that was read or whose line was written, where the record was opened: each event before it
 /// has its line.
-fn event_at<R: Files, W: io::Write>(shelf: &DiskShelf<'_, R>, out: &StdSink<W>) -> Option<u64> {
-    match shelf.handed_out(2) {
+fn event_at<R: Files, W: io::Write>(
+    shelf: &DiskShelf<'_, R>,
+    out: &StdSink<W>,
+    record: u32,
+) -> Option<u64> {
+    match shelf.handed_out(record as usize) {
         Some(_) => Some(out.lines().saturating_add(1)),
         None => None,
     }
@@ -83,7 +95,7 @@ fn explain<'a, R: Eprint + Files, W: io::Write>(
             command: read_command(alloc, words).ok(),
             wrong: wrong.as_deref(),
             cause: cause_of(status, shelf, out),
-            event: event_at(shelf, out),
+            event: event_at(shelf, out, record_of(alloc, words)),
             genesis_len: shelf.handed_out(1),
         };
         let _ = eprintln!(rt; "{explanation}");
@@ -104,7 +116,7 @@ pub fn run<R: Env + Files + Print + Eprint + Clock + AllocGlobal>(
             return status.number();
         }
     };
-    let watch = Watch::new(rt, progress);
+    let watch = Watch::new(rt, progress, record_of(rt.alloc(), &words));
     let mut shelf = WatchedShelf::new(DiskShelf::new(rt.alloc(), rt), &watch);
     let written = StdSink::new(rt.alloc(), WatchedOut::new(rt, &watch));
     let mut out = WatchedSink::new(written, &watch);

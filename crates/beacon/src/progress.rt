@@ -13,9 +13,6 @@ use std::io;
 use std::io::{Eprint, IsTerminal, Print, Write};
 use std::time::{Clock, Duration};
 
-/// The file of the record, by the order of the command's words.
-const RECORD: u32 = 2;
-
 /// How much time passes between one show and the next, in milliseconds.
 const PAUSE: u64 = 200;
 
@@ -44,6 +41,8 @@ impl Progress {
 pub struct Watch<'a, R: Eprint + Clock> {
     rt: &'a R,
     progress: Progress,
+    // The file of the record, by the order of the command's words.
+    record: u32,
     events: Cell<u64>,
     bytes: Cell<u64>,
     // When it was shown last, or the run's beginning.
@@ -52,11 +51,12 @@ pub struct Watch<'a, R: Eprint + Clock> {
 }
 
 impl<'a, R: Eprint + Clock> Watch<'a, R> {
-    /// A run that did nothing yet.
-    pub fn new(rt: &'a R, progress: Progress) -> Self {
+    /// A run that did nothing yet, whose record is the file of this number.
+    pub fn new(rt: &'a R, progress: Progress, record: u32) -> Self {
         Watch {
             rt,
             progress,
+            record,
             events: Cell::new(0),
             bytes: Cell::new(0),
             shown: Cell::new(rt.monotonic().unwrap_or(Duration::ZERO)),
@@ -95,10 +95,12 @@ impl<'a, R: Eprint + Clock> Watch<'a, R> {
         }
     }
 
-    /// Counts bytes that were read of the record.
-    fn count_bytes(&self, count: usize) {
-        self.bytes
-            .set(self.bytes.get().saturating_add(count as u64));
+    /// Counts bytes that were read of a file, where it is the record.
+    fn count_bytes(&self, file: u32, count: usize) {
+        if file == self.record {
+            self.bytes
+                .set(self.bytes.get().saturating_add(count as u64));
+        }
     }
 
     /// Counts a line where it ends in bytes that were written: no write has more than one.
@@ -158,9 +160,7 @@ impl<'a, 'b, F: Shelf + Drop, R: Eprint + Clock> Shelf for WatchedShelf<'a, 'b, 
         ensures keeps { ShelfKeeps [] (F.told self.old.shelf) (F.told self.new.shelf) }
     {
         let count = self.shelf.read(file, into)?;
-        if file == RECORD {
-            self.watch.count_bytes(count);
-        }
+        self.watch.count_bytes(file, count);
         Ok(count)
     }
 }

@@ -21,7 +21,7 @@ use Rattle.bc_words.specs.declared.store_stop.StoreStop.TheVariants as stores
 use Rattle.record_file.specs.Record.{Events}
 use Rattle.spec_state.specs.declared.plain.PlainState.{PlainState}
 use Rattle.spec_fork_choice.specs.Store.{Store}
-use Rattle.spec_fork_choice.specs.GetForkchoiceStore.{get_forkchoice_store}
+use Rattle.spec_fork_choice.specs.GetForkchoiceStore.{genesis_store}
 use Rattle.spec_fork_choice.specs.OnEvent.{genesis_clash, open_store}
 use Rattle.spec_drill.specs.Plan.{Plan}
 use Rattle.spec_drill.specs.Make.{Made, before, made}
@@ -122,6 +122,7 @@ done_status statuses.NoMemory is = absurd cc
 done_status (statuses.Clash which event kind kept_which) is = absurd cc
 done_status (statuses.Deposits fault) is = absurd cc
 done_status (statuses.Duties fault) is = absurd cc
+done_status (statuses.Anchor fault) is = absurd cc
 
 -- a run that ended before all was done writes nothing
 module _ (run : Run) (lines w : List ℕ) (is : run.lines ≡ if_done run.end lines) (files : run.files ≡ 0) where
@@ -145,6 +146,7 @@ module _ (run : Run) (lines w : List ℕ) (is : run.lines ≡ if_done run.end li
   not_done (statuses.Clash which event kind kept_which) other ends = at_end (statuses.Clash which event kind kept_which) _ (ends refl) refl refl refl refl refl
   not_done (statuses.Deposits fault) other ends = at_end (statuses.Deposits fault) _ (ends refl) refl refl refl refl refl
   not_done (statuses.Duties fault) other ends = at_end (statuses.Duties fault) _ (ends refl) refl refl refl refl refl
+  not_done (statuses.Anchor fault) other ends = at_end (statuses.Anchor fault) _ (ends refl) refl refl refl refl refl
   not_done statuses.ReadFault other ends = record {
     ends = λ never. cc;
     lines = no_lines true _ w (is_prefix 0 _ (omega arith));
@@ -210,10 +212,10 @@ digest_outside status s t lines took h = record {
 
 module _ (config : ConfigValues) (genesis : PlainState) (rest : Events) where
   pub opened_drills : (store : Store) (status : Status) (w x : List ℕ) → open_store config genesis ≡ accepted store → Finished status (drill_events store rest) w x
-      → Finished status (drill_store (genesis_clash genesis) (get_forkchoice_store config genesis) rest) w x
+      → Finished status (drill_store (genesis_clash genesis) (genesis_store config genesis) rest) w x
   unfolding open_store drill_store
   opened_drills store status w x is h =
-      let opened = opened_without (genesis_clash genesis) (get_forkchoice_store config genesis) store is in
+      let opened = opened_without (genesis_clash genesis) (genesis_store config genesis) store is in
       rw (opened.0, ← opened.1) h
 
   no_files : (clash : Option ClashKind) (store : Store) → (drill_store clash store rest).files ≡ 0
@@ -221,14 +223,14 @@ module _ (config : ConfigValues) (genesis : PlainState) (rest : Events) where
   no_files (Some kind) store = refl
   no_files None store = refl
 
-  pub not_opened : (stop : StoreStop) (w : List ℕ) → StoreStops stop (open_store config genesis) → Finished (no_store stop) (drill_store (genesis_clash genesis) (get_forkchoice_store config genesis) rest) w w
+  pub not_opened : (stop : StoreStop) (w : List ℕ) → StoreStops stop (open_store config genesis) → Finished (no_store stop) (drill_store (genesis_clash genesis) (genesis_store config genesis) rest) w w
   unfolding open_store drill_store
   not_opened (stores.Clash kind) w is =
-      let clashes = clash_of_opening (genesis_clash genesis) (get_forkchoice_store config genesis) kind is in
+      let clashes = clash_of_opening (genesis_clash genesis) (genesis_store config genesis) kind is in
       rw clashes (nothing_written (statuses.Clash 0 0 kind 0) (clash 0 0 kind 0) w refl refl refl refl)
-  not_opened (stores.Refused why) w is = no_memory _ w (no_files (genesis_clash genesis) (get_forkchoice_store config genesis))
-  not_opened (stores.Limit bound) w is = no_memory _ w (no_files (genesis_clash genesis) (get_forkchoice_store config genesis))
-  not_opened stores.NoMemory w is = no_memory _ w (no_files (genesis_clash genesis) (get_forkchoice_store config genesis))
+  not_opened (stores.Refused why) w is = no_memory _ w (no_files (genesis_clash genesis) (genesis_store config genesis))
+  not_opened (stores.Limit bound) w is = no_memory _ w (no_files (genesis_clash genesis) (genesis_store config genesis))
+  not_opened stores.NoMemory w is = no_memory _ w (no_files (genesis_clash genesis) (genesis_store config genesis))
 
 -- ---- the configuration
 
@@ -238,7 +240,7 @@ module _ (number : ℕ) (config : ConfigValues) where
 
   no_plan_files : (b : Bool) → (if b then drill_plan plan else over (bad_config (OutOfRange EjectionBalance))).files ≡ 0
   unfolding drill_plan
-  no_plan_files true = no_files config (genesis_of_plan plan) (events_to_come 0 (made plan)) (genesis_clash (genesis_of_plan plan)) (get_forkchoice_store config (genesis_of_plan plan))
+  no_plan_files true = no_files config (genesis_of_plan plan) (events_to_come 0 (made plan)) (genesis_clash (genesis_of_plan plan)) (genesis_store config (genesis_of_plan plan))
   no_plan_files false = refl
 
   pub no_config_files : (drill_config number (Ok config)).files ≡ 0
@@ -255,7 +257,7 @@ module _ (number : ℕ) (config : ConfigValues) where
   all_to_come maker is = ap to_come is ∙ sym (new_has_given plan)
 
   pub drills : (maker : PlainMaker) (genesis : PlainState) (status : Status) (w x : List ℕ) → nat_lt config.ejection_balance 32_000_000_000 ≡ true → maker ≡ new_maker plan → genesis ≡ genesis_of_plan plan
-      → Finished status (drill_store (genesis_clash genesis) (get_forkchoice_store config genesis) (events_to_come 0 (to_come maker))) w x → Finished status (drill_config number (Ok config)) w x
+      → Finished status (drill_store (genesis_clash genesis) (genesis_store config genesis) (events_to_come 0 (to_come maker))) w x → Finished status (drill_config number (Ok config)) w x
   unfolding drill_config drill_plan
   drills maker genesis status w x low new is h = rw (low, ← is, ← all_to_come maker new) h
 
@@ -287,6 +289,7 @@ pace_behind statuses.NoMemory run cut w x h = h
 pace_behind (statuses.Clash which event kind kept_which) run cut w x h = h
 pace_behind (statuses.Deposits fault) run cut w x h = h
 pace_behind (statuses.Duties fault) run cut w x h = h
+pace_behind (statuses.Anchor fault) run cut w x h = h
 
 -- a run behind its only file
 finished_behind : (status : Status) (run : Run) (name : List ℕ) (asked mid : List (List ℕ)) (w x : List ℕ) → mid ≡ asked ++ name ∷ [] → Finished status run w x

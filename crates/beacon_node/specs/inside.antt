@@ -1,3 +1,4 @@
+pub mod AnchorAnswers
 pub mod Duties
 pub mod Files
 pub mod GenesisAnswers

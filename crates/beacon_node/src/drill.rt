@@ -4,7 +4,7 @@
 ghost use Rattle.std.specs.Prelude.{◌≡◌, ◌≢◌, ◌<◌, ◌≤◌, ◌+◌, ◌^◌, ◌∷◌, [], length, None, Some, Ok};
 ghost use Rattle.bc_outside.specs.Told.{SinkTold};
 ghost use Rattle.spec_state.specs.Genesis.{genesis_fault};
-ghost use Rattle.spec_fork_choice.specs.GetForkchoiceStore.{get_forkchoice_store};
+ghost use Rattle.spec_fork_choice.specs.GetForkchoiceStore.{genesis_store};
 ghost use Rattle.spec_fork_choice.specs.OnEvent.{genesis_clash};
 ghost use Rattle.spec_drill.specs.AsEvents.{events_to_come};
 ghost use Rattle.spec_drill.specs.Maker.{new_maker, to_come};
@@ -122,7 +122,7 @@ fn drill_from<F: Shelf, O: Sink>(
 ) -> Status
     requires genesis { (genesis.preset ≡ config.now.preset) × (genesis_fault genesis ≡ None) }
     requires new { maker ≡ new_maker maker.plan }
-    ensures over { Finished result (drill_store (genesis_clash genesis) (get_forkchoice_store config.now genesis) (events_to_come 0 (to_come maker)))
+    ensures over { Finished result (drill_store (genesis_clash genesis) (genesis_store config.now genesis) (events_to_come 0 (to_come maker)))
         (O.told out.old).taken (O.told out.new).taken }
     ensures still { F.told shelf.new ≡ F.told shelf.old }
     ensures command { result ≢ Status.Words }

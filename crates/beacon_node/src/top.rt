@@ -5,6 +5,7 @@ ghost use Rattle.spec_replay.specs.Commands.{run_of};
 ghost use Rattle.command_words.specs.Commands.{IsDeclined, command_of, names_of};
 ghost use Rattle.beacon_node.specs.Answers.{OutsideKeeps, Replayed, taken_run_of};
 
+use crate::anchor::anchor;
 use crate::drill::drill;
 use crate::make_genesis::make_genesis;
 use crate::replay::replay;
@@ -48,6 +49,7 @@ pub fn beacon_main<F: Shelf, O: Sink>(
         Ok(Command::Drill(words)) => drill(alloc, &words, shelf, out),
         Ok(Command::Genesis(files)) => make_genesis(alloc, &files, shelf, out),
         Ok(Command::Duties(words)) => tell_duties(alloc, &words, shelf, out),
+        Ok(Command::Anchor(files)) => anchor(alloc, &files, shelf, out),
         Err(WordsStop::NoCommand) => Status::Words,
         Err(WordsStop::NoMemory) => Status::NoMemory,
     }

@@ -17,7 +17,7 @@ use Rattle.spec_state.specs.Genesis.{header_root_of, genesis_fault}
 use Rattle.spec_blocks.proofs.Done.{same_value}
 use Rattle.spec_transition.specs.ProcessSlots.{Stepped, process_slots}
 use Rattle.spec_fork_choice.specs.Store.{Store}
-use Rattle.spec_fork_choice.specs.GetForkchoiceStore.{get_forkchoice_store}
+use Rattle.spec_fork_choice.specs.GetForkchoiceStore.{genesis_store}
 use Rattle.spec_fork_choice.specs.OnEvent.{on_event, genesis_clash}
 use Rattle.record_file.specs.declared.event.Event.{Event}
 use Rattle.spec_drill.specs.Plan.{Plan, IsPlan, last_slot, is_skipped}
@@ -144,7 +144,7 @@ gives_block maker new due made payload grows same is =
 
 pub accepted_next : (maker new : PlainMaker) (result : Result (Option Event) Stop) (given : List MadeEvent) (store : Store) → IsPlan maker.plan → NextIs result maker new
     → genesis_clash (genesis_of_plan maker.plan) ≡ None → HasGiven given maker
-    → store_after (get_forkchoice_store maker.plan.config (genesis_of_plan maker.plan)) given ≡ Some store → IsAcceptedBy store result
+    → store_after (genesis_store maker.plan.config (genesis_of_plan maker.plan)) given ≡ Some store → IsAcceptedBy store result
 accepted_next maker new (Ok (Some event)) given store ok next none has e =
     let taken = next_is_accepted maker given next.0 (to_come new) store ok none has next.2 e in
     subst (λ (payload : List ℕ). Takes (on_event store event.kind payload) (λ new. Unit {0})) (sym next.1.payload)

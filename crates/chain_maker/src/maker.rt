@@ -4,7 +4,7 @@ ghost use Rattle.std.specs.Prelude.{◌≡◌, ◌<◌, ◌≤◌, List, [], Som
 ghost use Rattle.hash_tree.specs.Merkle.{uint_to_bytes};
 ghost use Rattle.spec_state.specs.Genesis.{genesis_fault};
 ghost use Rattle.spec_fork_choice.specs.Store.{Store};
-ghost use Rattle.spec_fork_choice.specs.GetForkchoiceStore.{get_forkchoice_store};
+ghost use Rattle.spec_fork_choice.specs.GetForkchoiceStore.{genesis_store};
 ghost use Rattle.spec_fork_choice.specs.OnEvent.{genesis_clash};
 ghost use Rattle.spec_drill.specs.Plan.{IsPlan, last_slot};
 ghost use Rattle.spec_drill.specs.MakeGenesis.{genesis_of_plan};
@@ -187,7 +187,7 @@ impl Maker {
         ensures gives { NextIs result self.old self.new }
         ensures plan { self.new.plan ≡ self.old.plan }
         ensures accepted { (given : List MadeEvent) (store : Store) → genesis_clash (genesis_of_plan self.old.plan) ≡ None → HasGiven given self.old
-            → store_after (get_forkchoice_store self.old.plan.config (genesis_of_plan self.old.plan)) given ≡ Some store → IsAcceptedBy store result }
+            → store_after (genesis_store self.old.plan.config (genesis_of_plan self.old.plan)) given ≡ Some store → IsAcceptedBy store result }
     {
         self.give(alloc)
     }

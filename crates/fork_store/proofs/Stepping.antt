@@ -1,5 +1,5 @@
 -- The checks of a block and the step of its parent's state, one after another.
-use Rattle.std.proofs.Common.{◌≡◌, ◌∙◌, ℕ, true, false, leb, nat_lt, Option, Some, None, Result, is_some, refl, sym, ap, subst}
+use Rattle.std.proofs.Common.{◌≡◌, ◌∙◌, ◌<◌, ◌^◌, ℕ, true, false, leb, nat_lt, Option, Some, None, Result, is_some, refl, sym, ap, subst}
 use Rattle.bc_words.specs.Outcome.{Outcome, done, refused, bind, Stops, StopsExactly, Gives}
 use Rattle.bc_words.specs.declared.stop.Stop.{Stop}
 use Rattle.bc_words.specs.declared.refusal.Refusal.TheVariants.{ParentUnknown, FutureBlock, BeforeFinalized, NotOnFinalized}
@@ -80,8 +80,8 @@ module _ (store : Store) (block : SignedBeaconBlock) (parent : PlainState) (step
   pub step_parent : HasParent store.blocks block.message
   step_parent = has_parent store.blocks behind.kept block store.config step (sym behind.found) behind.good (from_kept store.config store.blocks block parent step behind is)
 
-  pub step_linked : IsChained store → IsPreset store.config.preset → IsLinked store.config store.blocks step.state
-  step_linked chained preset = block_state_is_linked store behind.kept block step chained preset (sym behind.found) behind.good (from_kept store.config store.blocks block parent step behind is)
+  pub step_linked : IsChained store → IsPreset store.config.preset → block.message.slot < 2 ^ 64 → IsLinked store.config store.blocks step.state
+  step_linked chained preset low = block_state_is_linked store behind.kept block step chained preset (sym behind.found) behind.good low (from_kept store.config store.blocks block parent step behind is)
 
   pub stepped_on : IsStore store → IsStepOn store.config store.blocks block step.state
   stepped_on sound = is_step store.config store.blocks block parent step behind is sound.presets

@@ -17,7 +17,7 @@ ghost use Rattle.fork_store.specs.inside.Following.{may_move, AreGiven};
 ghost use Rattle.fork_store.specs.Keepers.{IsKeeperOf};
 ghost use Rattle.fork_store.specs.inside.Keepers.{IsStepOn, IsStateBehind};
 ghost use Rattle.fork_store.specs.Stays.{ArrayStays, KeeperStays};
-ghost use Rattle.fork_store.specs.Stores.{IsKept, IsRootOf, IsBehind};
+ghost use Rattle.fork_store.specs.Stores.{IsKept, IsLate, IsRootOf, IsBehind, first_epoch};
 ghost use Rattle.fork_store.specs.Trees.{HasParent};
 ghost use Rattle.spec_fork_choice.specs.Slots.{start_slot_of};
 ghost use Rattle.spec_fork_choice.specs.OnBlock.{with_block, with_accepted, block_step, accept_block, on_block};
@@ -96,6 +96,7 @@ fn step_from(
     ensures stepped { IfOk result (λ step. IsStepOn store.now.config store.now.blocks block.now step.state) }
 {
     store.is_sound();
+    let _slot = block.message.slot;
     let step = state_transition(alloc, parent, block, store.config())?;
     Ok(step)
 }
@@ -146,6 +147,7 @@ fn block_step(
 #[tactic(auto, unfolding(crate::specs::inside::Accepted::finalized_by))]
 fn finalize(store: &mut StoreFields, finalized: Checkpoint, justified: Checkpoint)
     requires low { start_slot_of store.old justified < 2 ^ 64 }
+    requires late { first_epoch store.old.config.preset store.old.blocks < finalized.epoch → IsLate store.old justified }
     ensures { store.new ≡ finalized_by store.old finalized justified }
 {
     if store.finalized().epoch < finalized.epoch {
@@ -166,6 +168,7 @@ fn settle(
 )
     requires nodes { AreNodesOf store.old.blocks array.now.nodes }
     requires low { start_slot_of store.old justified < 2 ^ 64 }
+    requires late { first_epoch store.old.config.preset store.old.blocks < finalized.epoch → IsLate store.old justified }
     ensures { store.new ≡ settled store.old slot root justified finalized }
 {
     boost(store, slot, root);
@@ -317,6 +320,7 @@ fn settle_whole(
     facts: Facts,
 )
     requires low { start_slot_of store.old facts.justified < 2 ^ 64 }
+    requires late { first_epoch store.old.config.preset store.old.blocks < facts.finalized.epoch → IsLate store.old facts.justified }
     requires few { length store.old.blocks < 2 ^ 32 }
     requires array { IsArrayOf store.old array.old }
     requires ready { IsReady store.old ready.old }
@@ -364,6 +368,7 @@ fn accept(
     ensures array_stays { IfErr result (λ _. ArrayStays array.old array.new) }
     ensures keeper_stays { IfErr result (λ _. KeeperStays keeper.old keeper.new) }
 {
+    store.is_sound();
     let _slot = state.slot();
     let mut given = prepare(alloc, store, keeper, facts)?;
     keep_block(

@@ -16,7 +16,7 @@ use Rattle.fork_store.specs.Stores.{IsBehind}
 use Rattle.fork_store.specs.Trees.{HasParent}
 use Rattle.fork_store.specs.inside.Wholes.{IsWhole}
 use Rattle.fork_store.proofs.Keepers.{keeper_same}
-use Rattle.fork_store.proofs.ArraysGenesis.{unclashed_root}
+use Rattle.fork_store.proofs.ArraysOpened.{unclashed_root}
 use Rattle.fork_store.proofs.Stays.{keeper_behind, keeper_unchanged, stop_leaves}
 use Rattle.fork_store.proofs.on_block.accept_unless.Goals as goal
 
