@@ -102,7 +102,7 @@ fn step_from(
 
 /// The number of a block's parent. Refused where it isn't kept.
 #[tactic(auto, using(crate::proofs::Stepping::parent_unknown))]
-fn parent_of(store: &StoreFields, block: &SignedBeaconBlock) -> Result<u32, Stop>
+fn parent_number(store: &StoreFields, block: &SignedBeaconBlock) -> Result<u32, Stop>
     requires few { length store.now.blocks < 2 ^ 32 }
     ensures number { IfOk result (λ parent. Some parent ≡ node_number store.now.blocks block.now.message.parent_root) }
     ensures unknown { IfErr result (λ stop. Stops stop (block_step store.now block.now)) }
@@ -445,7 +445,7 @@ fn on_block(
     ensures array_stays { IfErr result (λ _. ArrayStays array.old array.new) }
     ensures keeper_stays { IfErr result (λ _. KeeperStays keeper.old keeper.new) }
 {
-    let parent = parent_of(store, block)?;
+    let parent = parent_number(store, block)?;
     let step = block_step(alloc, store, keeper, array, parent, block)?;
     // the header behind the block is the block's, so the body isn't hashed once more
     let root = step.state.header_root();

@@ -50,8 +50,8 @@ returns-clause-array_stays c = c.accept_unless.ensures.array_stays
 pub returns-clause-keeper_stays : goal.returns-clause-keeper_stays
 returns-clause-keeper_stays c = subst (λ k. IfErr c.accept_unless.result (λ _. KeeperStays k c.accept_unless.new.keeper)) c.in_ok-step.ensures.same c.accept_unless.ensures.keeper_stays
 
-pub parent_of-requires : goal.parent_of-requires
-parent_of-requires c = record { few = c.requires.parts.whole.few }
+pub parent_number-requires : goal.parent_number-requires
+parent_number-requires c = record { few = c.requires.parts.whole.few }
 
 pub returns-in_err-parent-clause-balances_set_stays : goal.returns-in_err-parent-clause-balances_set_stays
 returns-in_err-parent-clause-balances_set_stays c = λ _. refl
