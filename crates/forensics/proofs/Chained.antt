@@ -1,8 +1,8 @@
 -- Entries say of a history's chains what its blocks do.
-use Rattle.std.proofs.Common.{◌≡◌, ◌∙◌, ℕ, zero, suc, ◌+◌, ◌<◌, nat_eq, Bool, true, false, cond, ◌||◌, List, [], ◌∷◌, ◌++◌, map, reverse, take, get_or, length, Option, Some, None, refl, sym, ap, subst, arith}
+use Rattle.std.proofs.Common.{◌≡◌, ◌∙◌, ℕ, zero, suc, ◌+◌, ◌-◌, ◌<◌, ◌≤◌, nat_eq, Bool, true, false, cond, ◌||◌, List, [], ◌∷◌, ◌++◌, map, reverse, take, drop, get_or, length, Option, Some, None, refl, sym, ap, subst, arith}
 use Rattle.std.specs.List.{All, find, list_any}
 use Rattle.std.specs.Option.{option_map, option_map_or}
-use Rattle.std.proofs.lemmas.List.{take_more, reverse-append, reverse-reverse, take_all}
+use Rattle.std.proofs.lemmas.List.{take_more, drop_more, drop_all, reverse-append, reverse-reverse, take_all}
 use Rattle.std.proofs.lemmas.List.Elements.{All-nil, All-cons, All-tail}
 use Rattle.indexmap.proofs.ReorderLemmas.{map-reverse}
 use Rattle.beacon_types.specs.Equality.{same_root, same_checkpoint}
@@ -11,6 +11,7 @@ use Rattle.spec_state.specs.declared.plain.PlainState.{PlainState}
 use Rattle.spec_state.specs.Genesis.{header_root_of}
 use Rattle.spec_forensics.specs.Histories.{AcceptedBlock, chain_to}
 use Rattle.spec_forensics.specs.Verdict.{roots_of, is_on_chain, first_moved, moved_or, moved_on, finalizing_root, finalizing_chain}
+use Rattle.forensics.specs.inside.Whole.{PlainHistory, with_latest}
 use Rattle.forensics.specs.declared.entries.Entry.{Entry}
 use Rattle.forensics.specs.inside.Entries.{entry_of, entries_of, IsKeptOf, reaches, move_or, earliest, finalizing}
 
@@ -19,16 +20,30 @@ use Rattle.forensics.specs.inside.Entries.{entry_of, entries_of, IsKeptOf, reach
 latest_first : {A : Type 0} (x : A) (xs : List A) → reverse (x ∷ xs) ≡ reverse xs ++ x ∷ []
 latest_first x xs = reverse-append (x ∷ []) xs
 
-pub none_kept : (genesis : PlainState) (entries : List Entry) → entries ≡ [] → IsKeptOf genesis [] entries
+pub none_kept : (genesis : PlainState) (blocks : List AcceptedBlock) (entries : List Entry) → blocks ≡ [] → entries ≡ [] → IsKeptOf genesis blocks entries
 unfolding entries_of
-none_kept genesis entries none = record { same = none; rooted = All-nil (λ (b : AcceptedBlock). length b.root ≡ 32) }
+none_kept genesis blocks entries no_block none = subst (λ (bs : List AcceptedBlock). IsKeptOf genesis bs entries) (sym no_block) (record { same = none; rooted = All-nil (λ (b : AcceptedBlock). length b.root ≡ 32) })
 
-pub entry_added : (genesis : PlainState) (blocks now : List AcceptedBlock) (entries entries_now : List Entry) (b : AcceptedBlock) (e : Entry) → IsKeptOf genesis blocks entries → length b.root ≡ 32 → e ≡ entry_of genesis b
+-- what is seen of a history with it
+pub latest_is : (history : PlainHistory) (genesis : PlainState) (finalized : Checkpoint) (blocks now : List AcceptedBlock) (b : AcceptedBlock) → record { genesis = genesis; blocks = blocks; finalized = finalized } ≡ history → now ≡ b ∷ blocks
+    → record { genesis = genesis; blocks = now; finalized = finalized } ≡ with_latest history b
+unfolding with_latest
+latest_is history genesis finalized blocks now b is more = ap (λ (bs : List AcceptedBlock). record { genesis = genesis; blocks = bs; finalized = finalized }) more ∙ ap (λ (h : PlainHistory). record h { blocks = b ∷ h.blocks }) is
+
+entry_is : (view : PlainHistory) (genesis : PlainState) (finalized : Checkpoint) (blocks : List AcceptedBlock) (b : AcceptedBlock) (moved : Option ℕ) → record { genesis = genesis; blocks = blocks; finalized = finalized } ≡ view → moved ≡ first_moved view.genesis b.entered
+    → record { root = b.root; parent = b.block.parent_root; finalized = b.state.finalized_checkpoint; moved = moved } ≡ entry_of genesis b
+unfolding entry_of
+entry_is view genesis finalized blocks b moved seen is =
+    ap (λ (m : Option ℕ). record { root = b.root; parent = b.block.parent_root; finalized = b.state.finalized_checkpoint; moved = m }) (is ∙ ap (λ (h : PlainHistory). first_moved h.genesis b.entered) (sym seen))
+
+pub entry_added : (view : PlainHistory) (genesis : PlainState) (finalized : Checkpoint) (blocks now : List AcceptedBlock) (entries entries_now : List Entry) (b : AcceptedBlock) (e : Entry) (moved : Option ℕ)
+    → record { genesis = genesis; blocks = blocks; finalized = finalized } ≡ view → IsKeptOf genesis blocks entries → length b.root ≡ 32
+    → e ≡ record { root = b.root; parent = b.block.parent_root; finalized = b.state.finalized_checkpoint; moved = moved } → moved ≡ first_moved view.genesis b.entered
     → entries_now ≡ entries ++ e ∷ [] → now ≡ b ∷ blocks → IsKeptOf genesis now entries_now
 unfolding entries_of
-entry_added genesis blocks now entries entries_now b e is rooted same grown more =
+entry_added view genesis finalized blocks now entries entries_now b e moved seen is rooted same moved_is grown more =
     subst (λ (bs : List AcceptedBlock). IsKeptOf genesis bs entries_now) (sym more) (record {
-      same = grown ∙ ap (λ (x : Entry). entries ++ x ∷ []) same ∙ ap (λ (es : List Entry). es ++ entry_of genesis b ∷ []) is.same ∙ sym (latest_first (entry_of genesis b) (map (entry_of genesis) blocks));
+      same = grown ∙ ap (λ (x : Entry). entries ++ x ∷ []) (same ∙ entry_is view genesis finalized blocks b moved seen moved_is) ∙ ap (λ (es : List Entry). es ++ entry_of genesis b ∷ []) is.same ∙ sym (latest_first (entry_of genesis b) (map (entry_of genesis) blocks));
       rooted = All-cons (λ (x : AcceptedBlock). length x.root ≡ 32) b blocks rooted is.rooted;
     })
 
@@ -43,14 +58,14 @@ module _ {A : Type 0} where
   unfolding back
   back_all xs n is = ap reverse (take_all n xs (omega arith))
 
-  pub back_none : (xs : List A) → back 0 xs ≡ []
+  back_none : (xs : List A) → back 0 xs ≡ []
   unfolding back
   back_none [] = refl
   back_none (x ∷ xs) = refl
 
-  pub back_one : (xs : List A) (i : ℕ) (x : A) → i < length xs → x ≡ get_or xs i x → back (i + 1) xs ≡ x ∷ back i xs
+  back_one : (xs : List A) (i : ℕ) (d : A) → i < length xs → back (i + 1) xs ≡ get_or xs i d ∷ back i xs
   unfolding back
-  back_one xs i x less is = ap reverse (take_more xs i x less) ∙ reverse-append (take i xs) (get_or xs i x ∷ []) ∙ ap (λ (y : A). y ∷ reverse (take i xs)) (sym is)
+  back_one xs i d less = ap reverse (take_more xs i d less) ∙ reverse-append (take i xs) (get_or xs i d ∷ [])
 
 -- ---- a root on a chain
 
@@ -80,9 +95,9 @@ module _ (genesis : PlainState) where
   unfolding entries_of
   backwards blocks entries is = ap reverse is.same ∙ reverse-reverse (kept blocks)
 
-  pub on_chain_is : (blocks : List AcceptedBlock) (entries : List Entry) (genesis_root root ancestor : List ℕ) → IsKeptOf genesis blocks entries → genesis_root ≡ header_root_of genesis
+  on_chain_of : (blocks : List AcceptedBlock) (entries : List Entry) (genesis_root root ancestor : List ℕ) → IsKeptOf genesis blocks entries → genesis_root ≡ header_root_of genesis
       → reaches genesis_root ancestor (reverse entries) root ≡ is_on_chain genesis blocks root ancestor
-  on_chain_is blocks entries genesis_root root ancestor is same =
+  on_chain_of blocks entries genesis_root root ancestor is same =
       ap (λ (r : List ℕ). reaches r ancestor (reverse entries) root) same
       ∙ ap (λ (es : List Entry). reaches (header_root_of genesis) ancestor es root) (backwards blocks entries is)
       ∙ reaches_chain blocks root ancestor
@@ -92,7 +107,7 @@ module _ (genesis : PlainState) where
   abbrev Move : Type 0
   Move = Option (List ℕ × ℕ)
 
-  or_else : Move → Move → Move
+  abbrev or_else : Move → Move → Move
   or_else (Some x) other = Some x
   or_else None other = other
 
@@ -171,59 +186,120 @@ module _ (genesis : PlainState) where
 
   -- ---- the first move on the way to it
 
-  pub move_found : (blocks : List AcceptedBlock) (entries : List Entry) (finalized : Checkpoint) (root : List ℕ) (result : Move) → IsKeptOf genesis blocks entries → Some root ≡ finalizing entries finalized
+  moved_there : (blocks : List AcceptedBlock) (entries : List Entry) (finalized : Checkpoint) (root : List ℕ) (result : Move) → IsKeptOf genesis blocks entries → Some root ≡ finalizing entries finalized
       → result ≡ earliest (reverse entries) root None → result ≡ moved_on genesis (finalizing_chain blocks finalized)
   unfolding finalizing_chain finalizing_root
-  move_found blocks entries finalized root result is last found =
+  moved_there blocks entries finalized root result is last found =
       found
       ∙ ap (λ (es : List Entry). earliest es root None) (backwards blocks entries is)
       ∙ earliest_chain blocks root None
       ∙ or_else_none (moved_on genesis (reverse (chain_to blocks root)))
       ∙ ap (λ (r : List ℕ). moved_on genesis (reverse (chain_to blocks r))) (sym (root_or (find (λ (b : AcceptedBlock). same_checkpoint b.state.finalized_checkpoint finalized) (reverse blocks)) root (last ∙ finalizing_is blocks entries finalized is)))
 
-  pub no_move : (blocks : List AcceptedBlock) (entries : List Entry) (finalized : Checkpoint) → IsKeptOf genesis blocks entries → None ≡ finalizing entries finalized → None ≡ moved_on genesis (finalizing_chain blocks finalized)
+  none_moved : (blocks : List AcceptedBlock) (entries : List Entry) (finalized : Checkpoint) → IsKeptOf genesis blocks entries → None ≡ finalizing entries finalized → None ≡ moved_on genesis (finalizing_chain blocks finalized)
   unfolding finalizing_chain finalizing_root moved_on
-  no_move blocks entries finalized is last =
+  none_moved blocks entries finalized is last =
       ap (λ (bs : List AcceptedBlock). moved_on genesis (reverse bs)) (sym (no_chain blocks is.rooted))
       ∙ ap (λ (r : List ℕ). moved_on genesis (reverse (chain_to blocks r))) (sym (no_root_or (find (λ (b : AcceptedBlock). same_checkpoint b.state.finalized_checkpoint finalized) (reverse blocks)) (last ∙ finalizing_is blocks entries finalized is)))
 
 -- ---- as code comes by it
 
-pub reach_ends : (genesis_root ancestor root : List ℕ) → reaches genesis_root ancestor [] root ≡ same_root genesis_root ancestor
-unfolding reaches
-reach_ends genesis_root ancestor root = refl
+module _ (view : PlainHistory) (entries : List Entry) (genesis : PlainState) (blocks : List AcceptedBlock) (finalized : Checkpoint) (seen : record { genesis = genesis; blocks = blocks; finalized = finalized } ≡ view) (is : IsKeptOf genesis blocks entries) where
+  pub on_chain_is : (genesis_root root ancestor : List ℕ) → genesis_root ≡ header_root_of view.genesis → reaches genesis_root ancestor (reverse entries) root ≡ is_on_chain view.genesis view.blocks root ancestor
+  on_chain_is genesis_root root ancestor same =
+      on_chain_of genesis blocks entries genesis_root root ancestor is (same ∙ sym (ap (λ (h : PlainHistory). header_root_of h.genesis) seen))
+      ∙ ap (λ (h : PlainHistory). is_on_chain h.genesis h.blocks root ancestor) seen
 
-pub reach_stops : (genesis_root ancestor : List ℕ) (e : Entry) (earlier : List Entry) (root : List ℕ) → same_root e.root root ≡ true → same_root e.root ancestor ≡ true → reaches genesis_root ancestor (e ∷ earlier) root ≡ true
-unfolding reaches
-reach_stops genesis_root ancestor e earlier root own is =
-    ap (λ c. cond c (cond (same_root e.root ancestor) true (reaches genesis_root ancestor earlier e.parent)) (reaches genesis_root ancestor earlier root)) own
-    ∙ ap (λ c. cond c true (reaches genesis_root ancestor earlier e.parent)) is
+  pub move_found : (root : List ℕ) (result : Option (List ℕ × ℕ)) → Some root ≡ finalizing entries finalized → result ≡ earliest (reverse entries) root None → result ≡ moved_on view.genesis (finalizing_chain view.blocks view.finalized)
+  move_found root result last found = moved_there genesis blocks entries finalized root result is last found ∙ ap (λ (h : PlainHistory). moved_on h.genesis (finalizing_chain h.blocks h.finalized)) seen
 
-pub reach_goes : (genesis_root ancestor : List ℕ) (e : Entry) (earlier : List Entry) (root : List ℕ) → same_root e.root root ≡ true → same_root e.root ancestor ≡ false → reaches genesis_root ancestor (e ∷ earlier) root ≡ reaches genesis_root ancestor earlier e.parent
-unfolding reaches
-reach_goes genesis_root ancestor e earlier root own is =
-    ap (λ c. cond c (cond (same_root e.root ancestor) true (reaches genesis_root ancestor earlier e.parent)) (reaches genesis_root ancestor earlier root)) own
-    ∙ ap (λ c. cond c true (reaches genesis_root ancestor earlier e.parent)) is
+  pub no_move : None ≡ finalizing entries finalized → None ≡ moved_on view.genesis (finalizing_chain view.blocks view.finalized)
+  no_move last = none_moved genesis blocks entries finalized is last ∙ ap (λ (h : PlainHistory). moved_on h.genesis (finalizing_chain h.blocks h.finalized)) seen
 
-pub reach_passes : (genesis_root ancestor : List ℕ) (e : Entry) (earlier : List Entry) (root : List ℕ) → same_root e.root root ≡ false → reaches genesis_root ancestor (e ∷ earlier) root ≡ reaches genesis_root ancestor earlier root
-unfolding reaches
-reach_passes genesis_root ancestor e earlier root other =
-    ap (λ c. cond c (cond (same_root e.root ancestor) true (reaches genesis_root ancestor earlier e.parent)) (reaches genesis_root ancestor earlier root)) other
+-- the entry that a walk comes to, where there are so many left
+module _ (entries : List Entry) (i : ℕ) (d : Entry) (some : 0 < i) (within : i ≤ length entries) where
+  abbrev here : Entry
+  here = get_or entries (i - 1) d
 
-pub earliest_ends : (root : List ℕ) (found : Option (List ℕ × ℕ)) → earliest [] root found ≡ found
+  left : back i entries ≡ here ∷ back (i - 1) entries
+  left = let e : i ≡ i - 1 + 1 = omega arith in ap (λ n. back n entries) e ∙ back_one entries (i - 1) d (omega arith)
+
+  module _ (genesis_root ancestor root : List ℕ) (all : Bool) (reaching : reaches genesis_root ancestor (back i entries) root ≡ all) where
+    on : cond (same_root here.root root) (cond (same_root here.root ancestor) true (reaches genesis_root ancestor (back (i - 1) entries) here.parent)) (reaches genesis_root ancestor (back (i - 1) entries) root) ≡ all
+    unfolding reaches
+    on = sym (ap (λ (es : List Entry). reaches genesis_root ancestor es root) left) ∙ reaching
+
+    pub reach_stops : (own is : Bool) → own ≡ same_root here.root root → own ≡ true → is ≡ same_root here.root ancestor → is ≡ true → true ≡ all
+    reach_stops own is own_is so is_is also =
+        sym (ap (λ b. cond b (cond (same_root here.root ancestor) true (reaches genesis_root ancestor (back (i - 1) entries) here.parent)) (reaches genesis_root ancestor (back (i - 1) entries) root)) (sym own_is ∙ so)
+        ∙ ap (λ b. cond b true (reaches genesis_root ancestor (back (i - 1) entries) here.parent)) (sym is_is ∙ also))
+        ∙ on
+
+    pub reach_goes : (own is : Bool) → own ≡ same_root here.root root → own ≡ true → is ≡ same_root here.root ancestor → is ≡ false → reaches genesis_root ancestor (back (i - 1) entries) here.parent ≡ all
+    reach_goes own is own_is so is_is other =
+        sym (ap (λ b. cond b (cond (same_root here.root ancestor) true (reaches genesis_root ancestor (back (i - 1) entries) here.parent)) (reaches genesis_root ancestor (back (i - 1) entries) root)) (sym own_is ∙ so)
+        ∙ ap (λ b. cond b true (reaches genesis_root ancestor (back (i - 1) entries) here.parent)) (sym is_is ∙ other))
+        ∙ on
+
+    pub reach_passes : (own : Bool) → own ≡ same_root here.root root → own ≡ false → reaches genesis_root ancestor (back (i - 1) entries) root ≡ all
+    reach_passes own own_is not_so =
+        sym (ap (λ b. cond b (cond (same_root here.root ancestor) true (reaches genesis_root ancestor (back (i - 1) entries) here.parent)) (reaches genesis_root ancestor (back (i - 1) entries) root)) (sym own_is ∙ not_so))
+        ∙ on
+
+  module _ (root : List ℕ) (found all : Option (List ℕ × ℕ)) (moving : earliest (back i entries) root found ≡ all) where
+    next : cond (same_root here.root root) (earliest (back (i - 1) entries) here.parent (move_or here here.moved found)) (earliest (back (i - 1) entries) root found) ≡ all
+    unfolding earliest
+    next = sym (ap (λ (es : List Entry). earliest es root found) left) ∙ moving
+
+    pub earliest_goes : (own : Bool) (now : Option (List ℕ × ℕ)) → own ≡ same_root here.root root → own ≡ true → now ≡ move_or here here.moved found → earliest (back (i - 1) entries) here.parent now ≡ all
+    earliest_goes own now own_is so now_is =
+        ap (earliest (back (i - 1) entries) here.parent) now_is
+        ∙ sym (ap (λ b. cond b (earliest (back (i - 1) entries) here.parent (move_or here here.moved found)) (earliest (back (i - 1) entries) root found)) (sym own_is ∙ so))
+        ∙ next
+
+    pub earliest_passes : (own : Bool) → own ≡ same_root here.root root → own ≡ false → earliest (back (i - 1) entries) root found ≡ all
+    earliest_passes own own_is not_so =
+        sym (ap (λ b. cond b (earliest (back (i - 1) entries) here.parent (move_or here here.moved found)) (earliest (back (i - 1) entries) root found)) (sym own_is ∙ not_so))
+        ∙ next
+
+pub reach_ends : (entries : List Entry) (i : ℕ) (genesis_root ancestor root : List ℕ) (all result : Bool) → i ≡ 0 → reaches genesis_root ancestor (back i entries) root ≡ all → result ≡ same_root genesis_root ancestor → result ≡ all
+unfolding reaches
+reach_ends entries i genesis_root ancestor root all result none reaching is =
+    is ∙ sym (ap (λ (es : List Entry). reaches genesis_root ancestor es root) (ap (λ n. back n entries) none ∙ back_none entries)) ∙ reaching
+
+pub earliest_ends : (entries : List Entry) (i : ℕ) (root : List ℕ) (found all : Option (List ℕ × ℕ)) → i ≡ 0 → earliest (back i entries) root found ≡ all → found ≡ all
 unfolding earliest
-earliest_ends root found = refl
+earliest_ends entries i root found all none moving =
+    sym (ap (λ (es : List Entry). earliest es root found) (ap (λ n. back n entries) none ∙ back_none entries)) ∙ moving
 
-pub earliest_goes : (e : Entry) (earlier : List Entry) (root : List ℕ) (found : Option (List ℕ × ℕ)) → same_root e.root root ≡ true → earliest (e ∷ earlier) root found ≡ earliest earlier e.parent (move_or e e.moved found)
-unfolding earliest
-earliest_goes e earlier root found own = ap (λ c. cond c (earliest earlier e.parent (move_or e e.moved found)) (earliest earlier root found)) own
+found_first : (e : Entry) (later : List Entry) (finalized : Checkpoint) → finalizing (e ∷ later) finalized ≡ cond (same_checkpoint e.finalized finalized) (Some e.root) (finalizing later finalized)
+unfolding finalizing
+found_first e later finalized = elim (same_checkpoint e.finalized finalized) as (λ c. option_map (λ (x : Entry). x.root) (cond c (Some e) (find (λ (x : Entry). same_checkpoint x.finalized finalized) later)) ≡ cond c (Some e.root) (option_map (λ (x : Entry). x.root) (find (λ (x : Entry). same_checkpoint x.finalized finalized) later))) [
+  | true ↦ refl
+  | false ↦ refl
+]
 
-pub earliest_passes : (e : Entry) (earlier : List Entry) (root : List ℕ) (found : Option (List ℕ × ℕ)) → same_root e.root root ≡ false → earliest (e ∷ earlier) root found ≡ earliest earlier root found
-unfolding earliest
-earliest_passes e earlier root found other = ap (λ c. cond c (earliest earlier e.parent (move_or e e.moved found)) (earliest earlier root found)) other
+pub finalize_begins : (entries : List Entry) (finalized : Checkpoint) → finalizing (drop 0 entries) finalized ≡ finalizing entries finalized
+finalize_begins [] finalized = refl
+finalize_begins (e ∷ entries) finalized = refl
 
-pub ruleset walks = (back_all, back_none, back_one)
+module _ (entries : List Entry) (i : ℕ) (d : Entry) (finalized : Checkpoint) (all : Option (List ℕ)) (less : i < length entries) (search_from : finalizing (drop i entries) finalized ≡ all) where
+  abbrev there : Entry
+  there = get_or entries i d
 
-pub ruleset reaching = (back_all, back_none, back_one, reach_ends, reach_stops, reach_goes, reach_passes)
+  opened : cond (same_checkpoint there.finalized finalized) (Some there.root) (finalizing (drop (i + 1) entries) finalized) ≡ all
+  opened = sym (ap (λ (es : List Entry). finalizing es finalized) (drop_more entries i d less) ∙ found_first there (drop (i + 1) entries) finalized) ∙ search_from
 
-pub ruleset moving = (back_all, back_none, back_one, earliest_ends, earliest_goes, earliest_passes)
+  pub finalize_here : (is : Bool) → is ≡ same_checkpoint there.finalized finalized → is ≡ true → Some there.root ≡ all
+  finalize_here is is_is so = sym (ap (λ b. cond b (Some there.root) (finalizing (drop (i + 1) entries) finalized)) (sym is_is ∙ so)) ∙ opened
+
+  pub finalize_goes : (is : Bool) → is ≡ same_checkpoint there.finalized finalized → is ≡ false → finalizing (drop (i + 1) entries) finalized ≡ all
+  finalize_goes is is_is not_so = sym (ap (λ b. cond b (Some there.root) (finalizing (drop (i + 1) entries) finalized)) (sym is_is ∙ not_so)) ∙ opened
+
+pub finalize_ends : (entries : List Entry) (i : ℕ) (finalized : Checkpoint) → length entries ≤ i → finalizing (drop i entries) finalized ≡ None
+unfolding finalizing
+finalize_ends entries i finalized past = ap (λ (es : List Entry). option_map (λ (e : Entry). e.root) (find (λ (e : Entry). same_checkpoint e.finalized finalized) es)) (drop_all i entries past)
+
+pub ruleset searching = (finalize_begins, finalize_ends)
+
+pub ruleset walks = (back_all)

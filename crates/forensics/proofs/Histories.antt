@@ -1,10 +1,11 @@
 -- The blocks that are kept grow with a history.
-use Rattle.std.proofs.Common.{◌≡◌, ◌∙◌, ℕ, ◌+◌, ◌-◌, ◌≤◌, ◌<◌, ◌^◌, not, Bool, true, false, cond, List, [], ◌∷◌, ◌++◌, length, take, if◌then◌else◌, ◌==◌, zero, suc, subst, Some, None, refl, sym, ap, arith, length-append}
+use Rattle.std.proofs.Common.{◌≡◌, ◌∙◌, ℕ, ◌+◌, ◌-◌, ◌≤◌, ◌<◌, ◌^◌, not, Bool, true, false, cond, List, [], ◌∷◌, ◌++◌, length, take, Option, if◌then◌else◌, ◌==◌, zero, suc, subst, Some, None, refl, sym, ap, arith, length-append}
 use Rattle.std.specs.List.{position_or_len}
 use Rattle.std.specs.Option.{option_map}
 use Rattle.std.proofs.lemmas.Option.{same_Some}
 use Rattle.std.proofs.lemmas.List.{take_all, take-append-le}
 use Rattle.std.proofs.lemmas.List.Sums.{prefix_len-le-length}
+use Rattle.beacon_types.specs.declared.checkpoint.Checkpoint.{Checkpoint}
 use Rattle.bc_preset.specs.declared.configuration.ConfigValues.{ConfigValues}
 use Rattle.beacon_body.specs.declared.block.BeaconBlock.{BeaconBlock}
 use Rattle.spec_state.specs.declared.plain.PlainState.{PlainState}
@@ -12,8 +13,8 @@ use Rattle.beacon_types.specs.Equality.{same_root}
 use Rattle.spec_fork_choice.specs.Store.{KeptBlock, block_of, is_kept}
 use Rattle.spec_fork_choice.specs.Clash.{is_another, place_of}
 use Rattle.spec_forensics.specs.Histories.{AcceptedBlock}
-use Rattle.spec_forensics.specs.Clash.{kept_block, first_accepted, clash_among}
-use Rattle.forensics.specs.Books.{PlainBook, begun, with_block}
+use Rattle.spec_forensics.specs.Clash.{kept_block, first_accepted, clash_among, first_or_second, clash_with}
+use Rattle.forensics.specs.Books.{PlainBook, begun, with_block, with_finalized}
 use Rattle.forensics.specs.inside.Kept.{with_kept, kept_first, kept_second, AreKept}
 
 with_same : (genesis : PlainState) (b : AcceptedBlock) (blocks : List AcceptedBlock) → with_kept (first_accepted genesis blocks) (kept_block b) ≡ first_accepted genesis (b ∷ blocks)
@@ -46,35 +47,25 @@ clash_fits kept root block n e =
 
 -- ---- the kept blocks of a book
 
-module _ (genesis : PlainState) (b : AcceptedBlock) where
-  keeps_first : (which : ℕ) (first second : List AcceptedBlock) → kept_first which (first_accepted genesis first) (kept_block b) ≡ first_accepted genesis (if which == 0 then b ∷ first else first)
-  unfolding kept_first
-  keeps_first zero first second = with_same genesis b first
-  keeps_first (suc n) first second = refl
-
-  keeps_second : (which : ℕ) (first second : List AcceptedBlock) → kept_second which (first_accepted genesis second) (kept_block b) ≡ first_accepted genesis (if which == 0 then second else b ∷ second)
-  unfolding kept_second
-  keeps_second zero first second = refl
-  keeps_second (suc n) first second = with_same genesis b second
-
-kept_with : (book : PlainBook) (which : ℕ) (b : AcceptedBlock) (first second : List KeptBlock) → AreKept book first second → AreKept (with_block book which b) (kept_first which first (kept_block b)) (kept_second which second (kept_block b))
+kept_with : (book : PlainBook) (which : ℕ) (b : AcceptedBlock) (first second : List KeptBlock) → which < 2 → AreKept book first second → AreKept (with_block book which b) (kept_first which first (kept_block b)) (kept_second which second (kept_block b))
 unfolding with_block kept_first kept_second
-kept_with book zero b first second are = record {
+kept_with book zero b first second low are = record {
   first_are = ap (λ (ks : List KeptBlock). with_kept ks (kept_block b)) are.first_are ∙ with_same book.genesis b book.first;
   second_are = are.second_are;
 }
-kept_with book (suc n) b first second are = record {
+kept_with book (suc zero) b first second low are = record {
   first_are = are.first_are;
   second_are = ap (λ (ks : List KeptBlock). with_kept ks (kept_block b)) are.second_are ∙ with_same book.genesis b book.second;
 }
+kept_with book (suc (suc n)) b first second low are = absurd (omega arith)
 
-pub are_kept_with : (book now : PlainBook) (which : ℕ) (b : AcceptedBlock) (first second first_now second_now : List KeptBlock) → AreKept book first second → now ≡ with_block book which b
+pub are_kept_with : (book now : PlainBook) (which : ℕ) (b : AcceptedBlock) (first second first_now second_now : List KeptBlock) → which < 2 → AreKept book first second → now ≡ with_block book which b
     → first_now ≡ kept_first which first (kept_block b) → second_now ≡ kept_second which second (kept_block b) → AreKept now first_now second_now
-are_kept_with book now which b first second first_now second_now are is one other =
+are_kept_with book now which b first second first_now second_now low are is one other =
     subst (λ (k : PlainBook). AreKept k first_now second_now) (sym is)
     (subst (λ (ks : List KeptBlock). AreKept (with_block book which b) ks second_now) (sym one)
     (subst (λ (ks : List KeptBlock). AreKept (with_block book which b) (kept_first which first (kept_block b)) ks) (sym other)
-    (kept_with book which b first second are)))
+    (kept_with book which b first second low are)))
 
 -- a block that was kept is dropped again
 drop_kept : (blocks : List KeptBlock) (k : KeptBlock) (b : Bool) → take (length blocks) (cond b blocks (blocks ++ k ∷ [])) ≡ blocks
@@ -85,24 +76,57 @@ dropped : (blocks : List KeptBlock) (k : KeptBlock) → take (length blocks) (wi
 unfolding with_kept
 dropped blocks k = drop_kept blocks k (is_kept blocks k.root)
 
-drops_first : (which : ℕ) (blocks : List KeptBlock) (k : KeptBlock) → take (length blocks) (kept_first which blocks k) ≡ blocks
+drops_first : (which : ℕ) (blocks : List KeptBlock) (k : KeptBlock) → which < 2 → take (length blocks) (kept_first which blocks k) ≡ blocks
 unfolding kept_first
-drops_first zero blocks k = dropped blocks k
-drops_first (suc n) blocks k = take_all (length blocks) blocks (omega arith)
+drops_first zero blocks k low = dropped blocks k
+drops_first (suc zero) blocks k low = take_all (length blocks) blocks (omega arith)
+drops_first (suc (suc n)) blocks k low = absurd (omega arith)
 
-drops_second : (which : ℕ) (blocks : List KeptBlock) (k : KeptBlock) → take (length blocks) (kept_second which blocks k) ≡ blocks
+drops_second : (which : ℕ) (blocks : List KeptBlock) (k : KeptBlock) → which < 2 → take (length blocks) (kept_second which blocks k) ≡ blocks
 unfolding kept_second
-drops_second zero blocks k = take_all (length blocks) blocks (omega arith)
-drops_second (suc n) blocks k = dropped blocks k
+drops_second zero blocks k low = take_all (length blocks) blocks (omega arith)
+drops_second (suc zero) blocks k low = dropped blocks k
+drops_second (suc (suc n)) blocks k low = absurd (omega arith)
 
-pub are_kept_still : (book now : PlainBook) (which count other_count : ℕ) (k : KeptBlock) (first second first_then second_then first_now second_now : List KeptBlock) → AreKept book first second → now ≡ book
+pub are_kept_still : (book now : PlainBook) (which count other_count : ℕ) (k : KeptBlock) (first second first_then second_then first_now second_now : List KeptBlock) → which < 2 → AreKept book first second → now ≡ book
     → count ≡ length first → other_count ≡ length second → first_then ≡ kept_first which first k → second_then ≡ kept_second which second k → first_now ≡ take count first_then → second_now ≡ take other_count second_then → AreKept now first_now second_now
-are_kept_still book now which count other_count k first second first_then second_then first_now second_now are is many others one other cut other_cut =
-    let back : first_now ≡ first = cut ∙ ap (λ (n : ℕ). take n first_then) many ∙ ap (take (length first)) one ∙ drops_first which first k in
-    let other_back : second_now ≡ second = other_cut ∙ ap (λ (n : ℕ). take n second_then) others ∙ ap (take (length second)) other ∙ drops_second which second k in
+are_kept_still book now which count other_count k first second first_then second_then first_now second_now low are is many others one other cut other_cut =
+    let back : first_now ≡ first = cut ∙ ap (λ (n : ℕ). take n first_then) many ∙ ap (take (length first)) one ∙ drops_first which first k low in
+    let other_back : second_now ≡ second = other_cut ∙ ap (λ (n : ℕ). take n second_then) others ∙ ap (take (length second)) other ∙ drops_second which second k low in
     subst (λ (b : PlainBook). AreKept b first_now second_now) (sym is) (record { first_are = back ∙ are.first_are; second_are = other_back ∙ are.second_are })
 
 -- at the beginning
 pub are_kept_first : (config : ConfigValues) (genesis : PlainState) (book : PlainBook) (first second : List KeptBlock) → book ≡ begun config genesis → first ≡ first_accepted genesis [] → second ≡ first_accepted genesis [] → AreKept book first second
 unfolding begun
 are_kept_first config genesis book first second is one other = subst (λ (b : PlainBook). AreKept b first second) (sym is) (record { first_are = one; second_are = other })
+
+-- ---- clashes among them
+
+few_by : (genesis : PlainState) (blocks : List AcceptedBlock) (kept : List KeptBlock) → kept ≡ first_accepted genesis blocks → length blocks < 2 ^ 32 - 1 → length kept < 2 ^ 32
+few_by genesis blocks kept are few = let most = few_kept genesis blocks in let same : length kept ≡ length (first_accepted genesis blocks) = ap length are in omega arith
+
+pub few_first : (book view : PlainBook) (first second : List KeptBlock) → book ≡ view → AreKept book first second → length view.first + length view.second < 2 ^ 32 - 1 → length first < 2 ^ 32
+few_first book view first second is are few = few_by book.genesis book.first first are.first_are (let e : length book.first ≡ length view.first = ap (λ (b : PlainBook). length b.first) is in omega arith)
+
+pub few_second : (book view : PlainBook) (first second : List KeptBlock) → book ≡ view → AreKept book first second → length view.first + length view.second < 2 ^ 32 - 1 → length second < 2 ^ 32
+few_second book view first second is are few = few_by book.genesis book.second second are.second_are (let e : length book.second ≡ length view.second = ap (λ (b : PlainBook). length b.second) is in omega arith)
+
+pub clash_kept : (book view : PlainBook) (first second : List KeptBlock) (root : List ℕ) (block : BeaconBlock) (result : Option (ℕ × ℕ)) → book ≡ view → AreKept book first second
+    → result ≡ first_or_second (clash_among first root block) (clash_among second root block) → result ≡ clash_with view.genesis view.first view.second root block
+unfolding clash_with
+clash_kept book view first second root block result is are gives =
+    gives
+    ∙ ap (λ (ks : List KeptBlock). first_or_second (clash_among ks root block) (clash_among second root block)) are.first_are
+    ∙ ap (λ (ks : List KeptBlock). first_or_second (clash_among (first_accepted book.genesis book.first) root block) (clash_among ks root block)) are.second_are
+    ∙ ap (λ (b : PlainBook). clash_with b.genesis b.first b.second root block) is
+
+-- ---- a history is closed
+
+kept_closed : (book : PlainBook) (which : ℕ) (finalized : Checkpoint) (first second : List KeptBlock) → which < 2 → AreKept book first second → AreKept (with_finalized book which finalized) first second
+unfolding with_finalized
+kept_closed book zero finalized first second low are = record { first_are = are.first_are; second_are = are.second_are }
+kept_closed book (suc zero) finalized first second low are = record { first_are = are.first_are; second_are = are.second_are }
+kept_closed book (suc (suc n)) finalized first second low are = absurd (omega arith)
+
+pub are_kept_closed : (book now : PlainBook) (which : ℕ) (finalized : Checkpoint) (first second : List KeptBlock) → which < 2 → AreKept book first second → now ≡ with_finalized book which finalized → AreKept now first second
+are_kept_closed book now which finalized first second low are is = subst (λ (b : PlainBook). AreKept b first second) (sym is) (kept_closed book which finalized first second low are)

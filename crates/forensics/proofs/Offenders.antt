@@ -6,6 +6,7 @@ use Rattle.std.proofs.Math.Nat.{zero-div}
 use Rattle.std.proofs.lemmas.Bool.{cases_lt, eq-eqb, ne_eqb, eqb-true}
 use Rattle.std.proofs.lemmas.List.{map-append}
 use Rattle.std.proofs.lemmas.List.Folds.{list_any-append}
+use Rattle.std.proofs.lemmas.List.Sums.{sum_by-cons}
 use Rattle.bc_words.specs.Outcome.{Outcome, done, refused, limited, bind, checked_sum_by, checked_sum_from, StopsExactly}
 use Rattle.bc_words.specs.declared.stop.Stop.{Stop}
 use Rattle.bc_words.specs.declared.stop.Stop.TheVariants as stops
@@ -39,7 +40,7 @@ passed true fault rest h = refl
 passed false fault rest h = absurd cc
 
 begins_at_zero : (genesis : PlainState) → genesis_fault genesis ≡ None → get_current_epoch genesis ≡ 0
-unfolding genesis_fault
+unfolding genesis_fault get_current_epoch
 begins_at_zero genesis h =
     let slot : genesis.slot ≡ 0 = eqb-true genesis.slot 0 (passed (genesis.slot == 0) _ _ h) in
     ap (λ n. n / genesis.preset.slots_per_epoch) slot ∙ zero-div genesis.preset.slots_per_epoch
@@ -47,11 +48,14 @@ begins_at_zero genesis h =
 abbrev weight : Validator → ℕ
 weight v = cond (is_active_validator v 0) v.effective_balance 0
 
+nothing_more : (n : ℕ) → 0 + n ≡ n
+nothing_more n = omega arith
+
 filtered_sum : (vs : List Validator) → sum_by (λ (v : Validator). v.effective_balance) (filter (λ v. is_active_validator v 0) vs) ≡ sum (map weight vs)
 filtered_sum [] = refl
 filtered_sum (v ∷ vs) = elim (is_active_validator v 0) as (λ b. sum_by (λ (v : Validator). v.effective_balance) (cond b (v ∷ filter (λ v. is_active_validator v 0) vs) (filter (λ v. is_active_validator v 0) vs)) ≡ cond b v.effective_balance 0 + sum (map weight vs)) [
-  | true ↦ ap (λ n. v.effective_balance + n) (filtered_sum vs)
-  | false ↦ filtered_sum vs
+  | true ↦ sum_by-cons (λ (w : Validator). w.effective_balance) v (filter (λ v. is_active_validator v 0) vs) ∙ ap (λ n. v.effective_balance + n) (filtered_sum vs)
+  | false ↦ filtered_sum vs ∙ sym (nothing_more (sum (map weight vs)))
 ]
 
 summed : (genesis : PlainState) → checked_sum_by (effective_balance genesis.validators) (get_active_validator_indices genesis 0) ≡ checked_sum_by (λ (v : Validator). v.effective_balance) (filter (λ v. is_active_validator v 0) genesis.validators)
@@ -91,45 +95,45 @@ total_never_stops genesis stops.NoMemory begins stopped = stopped
 
 -- ---- the offenders' weight, one validator at a time
 
-pub weights_left : List Validator → List ℕ
+abbrev pub weights_left : List Validator → List ℕ
 weights_left vs = map weight vs
 
 pub weigh_begins : (genesis : PlainState) (set : ℕ → Bool) → 0 + weight_from set 0 (weights_left genesis.validators) ≡ weight_of (genesis_weights genesis) set
 unfolding genesis_weights
-weigh_begins genesis set = refl
+weigh_begins genesis set = nothing_more (weight_from set 0 (map weight genesis.validators))
 
 pub weigh_ends : (set : ℕ → Bool) (i : ℕ) → weight_from set i (weights_left []) ≡ 0
 unfolding weight_from
 weigh_ends set i = refl
 
-opened : (set : ℕ → Bool) (i : ℕ) (v : Validator) (left : List Validator) (active among : Bool) → is_active_validator v 0 ≡ active → set i ≡ among
-    → weight_from set i (weights_left (v ∷ left)) ≡ cond among (cond active v.effective_balance 0) 0 + weight_from set (i + 1) (weights_left left)
+opened : (set : ℕ → Bool) (i : ℕ) (v : Validator) (left : List Validator) (active offends : Bool) → is_active_validator v 0 ≡ active → set i ≡ offends
+    → weight_from set i (weights_left (v ∷ left)) ≡ cond offends (cond active v.effective_balance 0) 0 + weight_from set (i + 1) (weights_left left)
 unfolding weight_from
-opened set i v left active among is in =
-    ap (λ b. cond b (cond (is_active_validator v 0) v.effective_balance 0) 0 + weight_from set (i + 1) (weights_left left)) in
-    ∙ ap (λ b. cond among (cond b v.effective_balance 0) 0 + weight_from set (i + 1) (weights_left left)) is
+opened set i v left active offends is has =
+    ap (λ b. cond b (cond (is_active_validator v 0) v.effective_balance 0) 0 + weight_from set (i + 1) (weights_left left)) has
+    ∙ ap (λ b. cond offends (cond b v.effective_balance 0) 0 + weight_from set (i + 1) (weights_left left)) is
 
 pub weigh_more : (set : ℕ → Bool) (i balance : ℕ) (v : Validator) (left : List Validator) → is_active_validator v 0 ≡ true → set i ≡ true
     → (balance + v.effective_balance) + weight_from set (i + 1) (weights_left left) ≡ balance + weight_from set i (weights_left (v ∷ left))
-weigh_more set i balance v left is in = let e = opened set i v left true true is in in omega arith
+weigh_more set i balance v left is has = let e = opened set i v left true true is has in omega arith
 
 pub weigh_idle : (set : ℕ → Bool) (i balance : ℕ) (v : Validator) (left : List Validator) → is_active_validator v 0 ≡ false
     → balance + weight_from set (i + 1) (weights_left left) ≡ balance + weight_from set i (weights_left (v ∷ left))
 weigh_idle set i balance v left is = by (set i) refl
   where
     by : (b : Bool) → set i ≡ b → balance + weight_from set (i + 1) (weights_left left) ≡ balance + weight_from set i (weights_left (v ∷ left))
-    by true in = let e = opened set i v left false true is in in omega arith
-    by false in = let e = opened set i v left false false is in in omega arith
+    by true has = let e = opened set i v left false true is has in omega arith
+    by false has = let e = opened set i v left false false is has in omega arith
 
 pub weigh_others : (set : ℕ → Bool) (i balance : ℕ) (v : Validator) (left : List Validator) → set i ≡ false
     → balance + weight_from set (i + 1) (weights_left left) ≡ balance + weight_from set i (weights_left (v ∷ left))
-weigh_others set i balance v left in = let e = opened set i v left (is_active_validator v 0) false refl in in omega arith
+weigh_others set i balance v left has = let e = opened set i v left (is_active_validator v 0) false refl has in omega arith
 
 -- the sum fits
 pub weigh_fits : (genesis : PlainState) (set : ℕ → Bool) (i balance : ℕ) (v : Validator) (left : List Validator) → IsBeginning genesis → balance + weight_from set i (weights_left (v ∷ left)) ≡ weight_of (genesis_weights genesis) set
     → is_active_validator v 0 ≡ true → set i ≡ true → balance + v.effective_balance < 2 ^ 64
-weigh_fits genesis set i balance v left begins sums is in =
-    let e = weigh_more set i balance v left is in in
+weigh_fits genesis set i balance v left begins sums is has =
+    let e = weigh_more set i balance v left is has in
     let most = weight_within set 0 (genesis_weights genesis) in
     let fits = weights_fit genesis begins in
     omega arith
@@ -143,12 +147,14 @@ or_nothing : (b : Bool) → b || false ≡ b
 or_nothing true = refl
 or_nothing false = refl
 
+of_either : (s : Bool) (x y : Offence) (validator : ℕ) → x.validator ≡ validator → y.validator ≡ validator → (cond {A = Offence} s x y).validator ≡ validator
+of_either true x y validator one other = one
+of_either false x y validator one other = other
+
 by_validator : (validator : ℕ) (earlier later : Vote) → (offence_by validator earlier later).validator ≡ validator
 unfolding offence_by
-by_validator validator earlier later = elim (surrounds later earlier) as (λ b. (cond b (record { validator = validator; kind = kind_of earlier later; first = later; second = earlier }) (record { validator = validator; kind = kind_of earlier later; first = earlier; second = later })).validator ≡ validator) [
-  | true ↦ refl
-  | false ↦ refl
-]
+by_validator validator earlier later =
+    of_either (surrounds later earlier) (record { validator = validator; kind = kind_of earlier later; first = later; second = earlier }) (record { validator = validator; kind = kind_of earlier later; first = earlier; second = later }) validator refl refl
 
 abbrev named : List Offence → List ℕ
 named offences = map (λ (offence : Offence). offence.validator) offences

@@ -1,10 +1,12 @@
 //! A book that keeps the blocks of its histories, and compares each new one with them: for who has no store that does.
 
-ghost use Rattle.std.specs.Prelude.{◌≡◌, ◌<◌, ◌+◌, ◌-◌, ◌^◌, [], ◌∷◌, length, All, IfOk, None};
+ghost use Rattle.std.specs.Prelude.{◌≡◌, ℕ, ◌<◌, ◌≤◌, ◌+◌, ◌-◌, ◌*◌, ◌^◌, [], ◌∷◌, length, All, IfOk, None};
 ghost use Rattle.bc_words.specs.Outcome.{Becomes};
 ghost use Rattle.spec_forensics.specs.Clash.{clash_among, first_or_second};
 ghost use Rattle.spec_forensics.specs.Histories.{IsStepOn};
 ghost use Rattle.spec_forensics.specs.Offences.{IsCarried, offences_below};
+ghost use Rattle.spec_forensics.specs.declared.verdict.Verdict.TheVariants.{Conflict};
+ghost use Rattle.safety_law.specs.Finals.{IsFinalOf};
 ghost use Rattle.forensics.specs.Books.{IsBeginning, begun, history_of, with_block, with_finalized, votes_of, verdict_on, clash_in, Adds};
 ghost use Rattle.forensics.specs.inside.Kept.{kept_first, kept_second};
 
@@ -165,6 +167,7 @@ impl Book {
     /// Closes the history with a number, 0 or 1, with the checkpoint that it finalised.
     pub fn close(&mut self, which: u8, finalized: Checkpoint)
         requires which { which < 2 }
+        requires is_final { IsFinalOf self.old.genesis (history_of self.old which) finalized }
         ensures { self.new ≡ with_finalized self.old which finalized }
     {
         self.votes.close(which, finalized);
@@ -181,6 +184,7 @@ impl Book {
     /// The verdict on the histories as they are closed. It takes no memory.
     pub fn judge(&self) -> Verdict
         ensures exact { result ≡ verdict_on self.now }
+        ensures convicts { (balance total : ℕ) → result ≡ Conflict balance total → total ≤ 3 * balance }
     {
         self.votes.judge()
     }

@@ -2,10 +2,12 @@
 //!
 //! A chain is followed backwards in one pass, since each block is behind its parent. No pass takes memory.
 
-ghost use Rattle.std.specs.Prelude.{◌≡◌, None, reverse};
+ghost use Rattle.std.specs.Prelude.{◌≡◌, None, length, reverse};
 ghost use Rattle.beacon_types.specs.Equality.{same_root};
 ghost use Rattle.forensics.specs.inside.Entries.{reaches, move_or, earliest, finalizing};
 
+use beacon_body::BeaconBlock;
+use beacon_state::State;
 use beacon_types::{Checkpoint, same_checkpoint};
 use hash_tree::Root;
 
@@ -22,6 +24,21 @@ pub(crate) struct Entry {
     pub(crate) moved: Option<u64>,
 }
 
+/// The entry of a block, by the state behind it. Its root has 32 bytes.
+pub(crate) fn entry_of(root: Root, block: &BeaconBlock, state: &State, moved: Option<u64>) -> Entry
+    ensures root { length root ≡ 32 }
+    ensures exact { result ≡ record { root = root; parent = block.now.parent_root; finalized = state.now.finalized_checkpoint; moved = moved } }
+{
+    let parent = block.parent_root;
+    let finalized = state.finalized_checkpoint();
+    Entry {
+        root,
+        parent,
+        finalized,
+        moved,
+    }
+}
+
 /// Whether an entry is that of a root.
 fn has_root(entry: &Entry, root: &Root) -> bool
     ensures { result ≡ same_root entry.now.root root.now }
@@ -30,7 +47,7 @@ fn has_root(entry: &Entry, root: &Root) -> bool
 }
 
 /// Whether a root is that of a block or of one of its ancestors, genesis among them.
-#[tactic(auto, using(crate::proofs::Chained::reaching))]
+#[tactic(auto, using(crate::proofs::Chained::walks))]
 pub(crate) fn is_on_chain(
     entries: &[Entry],
     genesis_root: &Root,
@@ -64,7 +81,7 @@ fn move_or(entry: &Entry, found: Option<(Root, u64)>) -> Option<(Root, u64)>
 }
 
 /// The first block on the chain to a block, and the epoch, at which the validators moved: an earlier move overwrites a later one.
-#[tactic(auto, using(crate::proofs::Chained::moving))]
+#[tactic(auto, using(crate::proofs::Chained::walks))]
 pub(crate) fn earliest_move(entries: &[Entry], block: Root) -> Option<(Root, u64)>
     ensures { result ≡ earliest (reverse entries.now) block None }
 {
@@ -81,11 +98,12 @@ pub(crate) fn earliest_move(entries: &[Entry], block: Root) -> Option<(Root, u64
 }
 
 /// The root of the first block whose state has a finalised checkpoint.
-#[tactic(auto, unfolding(crate::specs::inside::Entries::finalizing))]
+#[tactic(auto, using(crate::proofs::Chained::searching))]
 pub(crate) fn finalizing_root(entries: &[Entry], finalized: &Checkpoint) -> Option<Root>
     ensures { result ≡ finalizing entries.now finalized.now }
 {
-    for entry in entries {
+    for place in 0..entries.len() {
+        let entry = &entries[place];
         if same_checkpoint(&entry.finalized, finalized) {
             return Some(entry.root);
         }

@@ -8,7 +8,7 @@ ghost use Rattle.forensics.specs.Books.{genesis_checkpoint};
 ghost use Rattle.forensics.specs.inside.Whole.{with_latest};
 
 use crate::added::Added;
-use crate::entries::{Entry, earliest_move, finalizing_root, is_on_chain};
+use crate::entries::{Entry, earliest_move, entry_of, finalizing_root, is_on_chain};
 use bc_words::NoMemory;
 use beacon_body::BeaconBlock;
 use beacon_state::State;
@@ -70,12 +70,7 @@ impl History {
         requires { moved ≡ first_moved self.old.genesis entered.now }
         ensures { Becomes result self.old self.new (with_latest self.old record { event = event; root = root; block = block.now; state = state.now; entered = entered.now }) }
     {
-        self.entries.push(Entry {
-            root,
-            parent: block.parent_root,
-            finalized: state.finalized_checkpoint(),
-            moved,
-        })?;
+        self.entries.push(entry_of(root, block, state, moved))?;
         self.added.add(event, root, block, state, entered);
         Ok(())
     }

@@ -6,6 +6,7 @@
 ghost use Rattle.std.specs.Prelude.{◌≡◌, ◌*◌, nat_lt, length};
 ghost use Rattle.ffg_law.specs.Weights.{weight_of};
 ghost use Rattle.spec_state.specs.Genesis.{header_root_of};
+ghost use Rattle.spec_forensics.specs.declared.verdict.Verdict.TheVariants.{Moved};
 ghost use Rattle.spec_forensics.specs.Steady.{genesis_weights, genesis_total};
 ghost use Rattle.spec_forensics.specs.Verdict.{is_agreed, verdict_of};
 ghost use Rattle.vote_spans.specs.Carried.{has_offence, Holds};
@@ -15,6 +16,7 @@ ghost use Rattle.forensics.specs.inside.Whole.{carried_in};
 use crate::history::History;
 use balance_totals::{is_active_validator, total_active};
 use beacon_state::State;
+use hash_tree::Root;
 use spec_forensics::Verdict;
 use vote_spans::CarriedVotes;
 
@@ -71,6 +73,14 @@ fn offenders_balance(genesis: &State, votes: &CarriedVotes) -> u64
     balance
 }
 
+/// The verdict that the validators of a history moved at a block and an epoch.
+fn moved(which: u8, at: (Root, u64)) -> Verdict
+    ensures { result ≡ Moved which at.0 at.1 }
+{
+    let (root, epoch) = at;
+    Verdict::Moved { which, root, epoch }
+}
+
 /// The verdict on two histories on a genesis, whose votes are held.
 #[tactic(auto, unfolding(spec_forensics::specs::Verdict::verdict_of, spec_forensics::specs::Verdict::unless_moved))]
 pub(crate) fn judge(
@@ -93,19 +103,11 @@ pub(crate) fn judge(
     if is_small(genesis, total) {
         return Verdict::Small(total);
     }
-    if let Some((root, epoch)) = first.first_move() {
-        return Verdict::Moved {
-            which: 0,
-            root,
-            epoch,
-        };
+    if let Some(at) = first.first_move() {
+        return moved(0, at);
     }
-    if let Some((root, epoch)) = second.first_move() {
-        return Verdict::Moved {
-            which: 1,
-            root,
-            epoch,
-        };
+    if let Some(at) = second.first_move() {
+        return moved(1, at);
     }
     Verdict::Conflict {
         balance: offenders_balance(genesis, votes),

@@ -6,6 +6,7 @@
 
 mod added;
 mod attesters;
+mod beginning;
 mod block_votes;
 mod book;
 mod book_stop;

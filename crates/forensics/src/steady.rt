@@ -16,7 +16,7 @@ use tree_nodes::Iter;
 /// Whether a validator is in an epoch as it is at genesis.
 #[tactic(auto, unfolding(crate::specs::inside::SideBySide::stays_in))]
 fn stays_in(epoch: u64, own: Option<&Validator>, validator: &Validator) -> bool
-    ensures { result ≡ stays_in epoch (option_map (λ v. v.now) own) validator.now }
+    ensures { result ≡ stays_in epoch (option_map (λ v. v.now) own.entry) validator.now }
 {
     let active = is_active_validator(validator, epoch);
     match own {
@@ -30,7 +30,7 @@ fn stays_in(epoch: u64, own: Option<&Validator>, validator: &Validator) -> bool
 /// Whether it is in two epochs.
 #[tactic(auto, unfolding(crate::specs::inside::SideBySide::stays))]
 fn stays(previous: u64, current: u64, own: Option<&Validator>, validator: &Validator) -> bool
-    ensures { result ≡ stays previous current (option_map (λ v. v.now) own) validator.now }
+    ensures { result ≡ stays previous current (option_map (λ v. v.now) own.entry) validator.now }
 {
     stays_in(previous, own, validator) && stays_in(current, own, validator)
 }
@@ -51,7 +51,7 @@ fn next_stays(
 /// Whether none of the validators of genesis that a state doesn't have is active there.
 #[tactic(auto, using(crate::proofs::Places::idling))]
 fn are_idle(previous: u64, current: u64, owns: Iter<'_, Validator>) -> bool
-    ensures { result ≡ stay previous current owns [] }
+    ensures { result ≡ stay previous current owns.entry [] }
 {
     for own in owns {
         if is_active_validator(own, 0) {

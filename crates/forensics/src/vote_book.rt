@@ -1,14 +1,17 @@
 //! The votes of two histories on one genesis, and what they come to. No block is kept, and of states a share of genesis alone.
 
-ghost use Rattle.std.specs.Prelude.{◌≡◌, ◌<◌, ◌∷◌, [], length, All, IfOk, None};
+ghost use Rattle.std.specs.Prelude.{◌≡◌, ℕ, ◌<◌, ◌≤◌, ◌*◌, ◌∷◌, [], length, All, IfOk, None};
 ghost use Rattle.bc_words.specs.Outcome.{Becomes};
 ghost use Rattle.spec_forensics.specs.Histories.{IsStepOn};
 ghost use Rattle.spec_forensics.specs.Offences.{IsCarried, offences_below};
 ghost use Rattle.spec_forensics.specs.Verdict.{first_moved};
+ghost use Rattle.spec_forensics.specs.declared.verdict.Verdict.TheVariants.{Conflict};
+ghost use Rattle.safety_law.specs.Finals.{IsFinalOf};
 ghost use Rattle.forensics.specs.Books.{IsBeginning, begun, history_of, with_block, with_finalized, votes_of, verdict_on, clash_in};
 ghost use Rattle.forensics.specs.inside.Whole.{with_first, with_second, closed_first, closed_second};
 
 use crate::attesters::RecentCommittees;
+use crate::beginning::begins;
 use crate::block_votes::add_votes;
 use crate::history::History;
 use crate::judge::judge;
@@ -91,6 +94,7 @@ impl VoteBook {
         requires { IsBeginning genesis.now }
         ensures { IfOk result (λ book. book ≡ begun config.now genesis.now) }
     {
+        begins(genesis);
         Ok(VoteBook {
             config: *config,
             genesis: genesis.share()?,
@@ -144,9 +148,11 @@ impl VoteBook {
         Ok(())
     }
 
-    /// Closes the history with a number, 0 or 1, with the checkpoint that it finalised.
+    /// Closes the history with a number, 0 or 1, with the checkpoint that it finalised: that of the state of one of its blocks, or that
+    /// of genesis, with which it is closed until then.
     pub fn close(&mut self, which: u8, finalized: Checkpoint)
         requires which { which < 2 }
+        requires is_final { IsFinalOf self.old.genesis (history_of self.old which) finalized }
         ensures { self.new ≡ with_finalized self.old which finalized }
     {
         close_one(&mut self.first, &mut self.second, which, finalized);
@@ -161,9 +167,11 @@ impl VoteBook {
         self.votes.offences(alloc)
     }
 
-    /// The verdict on the histories as they are closed. It takes no memory.
+    /// The verdict on the histories as they are closed, which takes no memory. Where it is a conflict, the offenders have at least a
+    /// third of the total.
     pub fn judge(&self) -> Verdict
         ensures exact { result ≡ verdict_on self.now }
+        ensures convicts { (balance total : ℕ) → result ≡ Conflict balance total → total ≤ 3 * balance }
     {
         judge(&self.genesis, &self.first, &self.second, &self.votes)
     }

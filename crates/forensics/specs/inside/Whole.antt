@@ -3,7 +3,9 @@ use Rattle.std.specs.Prelude.{◌≡◌, ℕ, List, ◌∷◌, ◌++◌, length,
 use Rattle.bc_preset.specs.declared.configuration.ConfigValues.{ConfigValues}
 use Rattle.beacon_types.specs.declared.checkpoint.Checkpoint.{Checkpoint}
 use Rattle.spec_state.specs.declared.plain.PlainState.{PlainState}
-use Rattle.spec_forensics.specs.Histories.{AcceptedBlock, IsHistory}
+use Rattle.spec_forensics.specs.Histories.{AcceptedBlock}
+use Rattle.safety_law.specs.Histories.{AreHistories}
+use Rattle.safety_law.specs.Finals.{IsFinalOf}
 use Rattle.vote_spans.specs.Carried.{Carried, Held, Holds}
 use Rattle.forensics.specs.Books.{PlainBook, IsBeginning}
 use Rattle.forensics.specs.inside.BlockVotes.{carried_by}
@@ -26,8 +28,9 @@ pub record IsBook (config : ConfigValues) (genesis : PlainState) (first second :
   pub first_genesis : first.genesis ≡ genesis
   pub second_genesis : second.genesis ≡ genesis
   pub beginning : IsBeginning genesis
-  pub first_is : IsHistory config genesis first.blocks
-  pub second_is : IsHistory config genesis second.blocks
+  pub histories : AreHistories config genesis first.blocks second.blocks
+  pub first_final : IsFinalOf genesis first.blocks first.finalized
+  pub second_final : IsFinalOf genesis second.blocks second.finalized
   pub holds : Holds votes (carried_in first.blocks second.blocks)
   pub validators : length votes.spans.spans ≡ length genesis.validators
 
