@@ -1,12 +1,12 @@
 -- Looking a kept block up by its root: what a map finds is the kept block, its place among the keys is that among the blocks.
-use Rattle.std.proofs.Common.{◌≡◌, ◌∙◌, ℕ, ◌+◌, ◌≤◌, ◌⊎◌, inl, inr, not, Bool, true, false, cond, List, [], ◌∷◌, ◌++◌, map, length, nat_lt, Option, Some, None, is_some, position, refl, sym, ap, arith}
-use Rattle.std.specs.List.{position_or_len}
+use Rattle.std.proofs.Common.{◌≡◌, ◌∙◌, ℕ, ◌+◌, ◌≤◌, ◌⊎◌, inl, inr, not, Bool, true, false, cond, List, [], ◌∷◌, ◌++◌, map, length, take, nat_lt, Option, Some, None, is_some, position, refl, sym, ap, arith}
+use Rattle.std.specs.List.{position_or_len, take-map}
 use Rattle.std.specs.Option.{option_map}
 use Rattle.std.specs.Map.{keys_of, lookup}
 use Rattle.std.specs.Cmp.Lexicographic.{nat_list_eq_equiv}
 use Rattle.std.proofs.lemmas.Bool.{ltb-false}
 use Rattle.std.proofs.lemmas.Option.{same_Some}
-use Rattle.std.proofs.lemmas.List.{map-append}
+use Rattle.std.proofs.lemmas.List.{map-append, length-map}
 use Rattle.std.proofs.lemmas.List.Sums.{prefix_len-le-length}
 use Rattle.std.proofs.lemmas.Map.Entries.{length-keys_of}
 use Rattle.indexmap.specs.IndexMap.{insert_entry}
@@ -124,3 +124,13 @@ first_kept genesis entries more root v none grown root_is block_is state_is =
     ∙ ap (λ (r : List ℕ). record { root = r; block = v.block; state = v.state.value } ∷ []) root_is
     ∙ ap (λ (x : BeaconBlock). record { root = header_root_of genesis; block = x; state = v.state.value } ∷ []) block_is
     ∙ ap (λ (x : PlainState). record { root = header_root_of genesis; block = genesis_block genesis; state = x } ∷ []) state_is
+
+-- ---- how many are kept, and the first so many
+
+pub many_kept : (entries : List (List ℕ × Kept)) (blocks : List KeptBlock) (n : ℕ) → kept_blocks entries ≡ blocks → n ≡ length entries → n ≡ length blocks
+unfolding kept_blocks
+many_kept entries blocks n is many = many ∙ sym (length-map entries kept_block) ∙ ap length is
+
+pub cut_kept : (entries more : List (List ℕ × Kept)) (blocks : List KeptBlock) (n : ℕ) → kept_blocks entries ≡ blocks → more ≡ take n entries → kept_blocks more ≡ take n blocks
+unfolding kept_blocks
+cut_kept entries more blocks n is cut = ap (map kept_block) cut ∙ sym (take-map kept_block n entries) ∙ ap (take n) is

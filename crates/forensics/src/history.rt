@@ -1,76 +1,108 @@
-//! One history of a book: the blocks that were added to it.
+//! One history of a book: what is kept of the blocks that were added to it.
 
-ghost use Rattle.std.specs.Prelude.{◌≡◌, [], ◌∷◌, ◌<◌, ◌^◌, length, IfOk};
+ghost use Rattle.std.specs.Prelude.{◌≡◌, [], ◌∷◌, IfOk};
 ghost use Rattle.bc_words.specs.Outcome.{Becomes};
-ghost use Rattle.spec_forensics.specs.Clash.{first_accepted, clash_among};
+ghost use Rattle.spec_state.specs.Genesis.{header_root_of};
+ghost use Rattle.spec_forensics.specs.Verdict.{first_moved, is_on_chain, moved_on, finalizing_chain};
+ghost use Rattle.forensics.specs.Books.{genesis_checkpoint};
 ghost use Rattle.forensics.specs.inside.Whole.{with_latest};
 
 use crate::added::Added;
-use crate::kept_blocks::KeptBlocks;
+use crate::entries::{Entry, earliest_move, entry_of, finalizing_root, is_on_chain};
 use bc_words::NoMemory;
 use beacon_body::BeaconBlock;
 use beacon_state::State;
+use beacon_types::Checkpoint;
 use hash_tree::Root;
 use std::alloc::Global;
 use std::marker::Model;
 use std::snapshot::Snapshot;
 use transition::Seen;
 
-/// The blocks that were added, once for each event, which only clauses see, and the blocks that they are, each once.
+/// The blocks that were added, once for each event, which only clauses see, an entry for each of them in their order, and the
+/// checkpoint that the history was closed with.
 #[derive(Drop)]
 pub(crate) struct History {
     genesis: Snapshot<State>,
     added: Added,
-    kept: KeptBlocks,
+    entries: Vec<Entry>,
+    finalized: Checkpoint,
 }
 
 impl Model for History {
-    ghost use Rattle.std.specs.Prelude.{◌≡◌};
-    ghost use Rattle.spec_forensics.specs.Clash.{first_accepted};
+    ghost use Rattle.forensics.specs.inside.Entries.{IsKeptOf};
     ghost use Rattle.forensics.specs.inside.Whole.{PlainHistory};
 
     ghost Value = { PlainHistory };
 
-    ghost view = { λ h. record { genesis = h.genesis.value; blocks = h.added } };
+    ghost view = { λ h. record { genesis = h.genesis.value; blocks = h.added; finalized = h.finalized } };
 
-    ghost invariant = { λ h. h.kept ≡ first_accepted h.genesis.value h.added };
+    ghost invariant = { λ h. IsKeptOf h.genesis.value h.added h.entries.items };
 }
 
 impl History {
-    /// No block but that of genesis.
-    pub(crate) fn new(alloc: Global, genesis: &State) -> Result<History, NoMemory>
-        ensures { IfOk result (λ history. history ≡ record { genesis = genesis.now; blocks = [] }) }
+    /// No block but that of genesis, whose root this is.
+    #[tactic(auto, unfolding(crate::specs::Books::genesis_checkpoint))]
+    pub(crate) fn new(alloc: Global, genesis: &State) -> History
+        ensures { result ≡ record { genesis = genesis.now; blocks = []; finalized = genesis_checkpoint genesis.now } }
     {
-        Ok(History {
+        History {
             genesis: Snapshot::of(genesis),
             added: Added::new(),
-            kept: KeptBlocks::at_genesis(alloc, genesis)?,
-        })
-    }
-
-    /// The place, in order of first acceptance, of the block that has a block's root and another content. None exactly where there
-    /// is none.
-    pub(crate) fn clash(&self, root: Root, block: &BeaconBlock) -> Option<usize>
-        ensures { result ≡ clash_among (first_accepted self.now.genesis self.now.blocks) root block.now }
-    {
-        self.kept.clash(root, block)
+            entries: Vec::new(alloc),
+            finalized: Checkpoint {
+                epoch: 0,
+                root: genesis.header_root(),
+            },
+        }
     }
 
     /// Adds a block. Where memory is refused, the history is as before.
-    #[tactic(auto, using(crate::proofs::Histories::kept_grows))]
     pub(crate) fn add(
         &mut self,
-        alloc: Global,
         event: u32,
         block: &BeaconBlock,
         root: Root,
         state: &State,
         entered: &Seen,
+        moved: Option<u64>,
     ) -> Result<(), NoMemory>
+        requires { moved ≡ first_moved self.old.genesis entered.now }
         ensures { Becomes result self.old self.new (with_latest self.old record { event = event; root = root; block = block.now; state = state.now; entered = entered.now }) }
     {
-        self.kept.keep(alloc, root, block, state)?;
+        self.entries.push(entry_of(root, block, state, moved))?;
         self.added.add(event, root, block, state, entered);
         Ok(())
+    }
+
+    /// Closes the history with a checkpoint.
+    pub(crate) fn close(&mut self, finalized: Checkpoint)
+        ensures { self.new ≡ record self.old { finalized = finalized } }
+    {
+        self.finalized = finalized;
+    }
+
+    /// The checkpoint that it was closed with.
+    pub(crate) fn finalized(&self) -> Checkpoint
+        ensures { result ≡ self.now.finalized }
+    {
+        self.finalized
+    }
+
+    /// Whether a root is that of a block or of one of its ancestors, genesis among them, whose root is given.
+    pub(crate) fn is_on_chain(&self, genesis_root: &Root, block: Root, ancestor: &Root) -> bool
+        requires { genesis_root.now ≡ header_root_of self.now.genesis }
+        ensures { result ≡ is_on_chain self.now.genesis self.now.blocks block ancestor.now }
+    {
+        is_on_chain(&self.entries, genesis_root, block, ancestor)
+    }
+
+    /// The first block on the chain to the finalising block, and the first epoch within it, at whose processing the validators aren't
+    /// those of genesis.
+    pub(crate) fn first_move(&self) -> Option<(Root, u64)>
+        ensures { result ≡ moved_on self.now.genesis (finalizing_chain self.now.blocks self.now.finalized) }
+    {
+        let last = finalizing_root(&self.entries, &self.finalized)?;
+        earliest_move(&self.entries, last)
     }
 }

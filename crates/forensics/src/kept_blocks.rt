@@ -1,6 +1,6 @@
 //! The blocks of a history in the order in which they were first accepted, each looked up by its root. Genesis is the first of them.
 
-ghost use Rattle.std.specs.Prelude.{◌≡◌, [], is_some, if◌then◌else◌, Some, None, IfOk};
+ghost use Rattle.std.specs.Prelude.{◌≡◌, [], length, take, is_some, if◌then◌else◌, Some, None, IfOk};
 ghost use Rattle.std.specs.Option.{option_map};
 ghost use Rattle.bc_words.specs.Outcome.{Becomes};
 ghost use Rattle.spec_fork_choice.specs.Store.{block_of, is_kept};
@@ -138,5 +138,20 @@ impl KeptBlocks {
         let state = Snapshot::of(state);
         let _none = self.entries.insert(root, Kept { block, state })?;
         Ok(())
+    }
+
+    /// How many there are.
+    pub(crate) fn len(&self) -> usize
+        ensures { result ≡ length self.now }
+    {
+        self.entries.len()
+    }
+
+    /// Keeps the first so many alone.
+    #[tactic(auto, unfolding(crate::specs::inside::Kept::kept_blocks))]
+    pub(crate) fn truncate(&mut self, len: usize)
+        ensures { self.new ≡ take len self.old }
+    {
+        self.entries.truncate(len);
     }
 }

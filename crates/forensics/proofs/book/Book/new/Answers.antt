@@ -1,6 +1,5 @@
-use Rattle.std.proofs.Common.{◌∙◌}
-use Rattle.forensics.proofs.Books.{opens}
+use Rattle.forensics.proofs.Histories.{are_kept_first}
 use Rattle.forensics.proofs.book.Book.new.Goals as goal
 
 pub invariant_of-result : goal.invariant_of-result
-invariant_of-result c = opens _ c.args.genesis.now _ _ _ c.requires c.in_ok-new.ensures c.in_ok-new-2.ensures c.in_ok-new-3.ensures.none (c.in_ok-new-3.ensures.count ∙ c.validators_len.ensures.len)
+invariant_of-result c = are_kept_first c.args.config.now c.args.genesis.now _ _ _ c.in_ok-new.ensures c.in_ok-at_genesis.ensures c.in_ok-at_genesis-2.ensures

@@ -1,19 +1,9 @@
-use Rattle.std.proofs.Common.{sym, ap, subst, map, arith}
-use Rattle.std.specs.List.{All}
-use Rattle.spec_forensics.specs.CarriedVotes.{WasProcessed}
-use Rattle.forensics.proofs.Books.{processed, are_added, book_grows, seen_grown}
+use Rattle.forensics.proofs.Histories.{are_kept_with, are_kept_still}
 use Rattle.forensics.proofs.book.Book.take.Goals as goal
 
-pub attesters-requires : goal.attesters-requires
-attesters-requires c =
-    subst (All (WasProcessed c.args.state.now)) (sym c.as_slice-attestations.ensures.same)
-    (processed _ _ _ _ c.requires.step c.preset-preset.ensures.preset (omega (arith, c.slot-slot.ensures)))
+pub invariant_of-self-in-Ok : goal.invariant_of-self-in-Ok
+invariant_of-self-in-Ok c = are_kept_with c.self.inside.votes _ c.args.which _ c.self.inside.first c.self.inside.second _ _ c.requires.which c.self.invariant c.in-Ok.ensures c.in_ok-keep_in.ensures.first c.in_ok-keep_in.ensures.second
 
-pub invariant_of-self-2 : goal.invariant_of-self-2
-invariant_of-self-2 c =
-    book_grows _ c.args.self.now c.self.inside.first c.self.inside.second _ _ c.self.inside.votes _ c.args.which _ (map (λ x. x.items) c.in_ok-lists.lists.items) c.self.view_is c.self.invariant c.requires.which c.requires.order c.requires.step
-    (are_added c.args.which _ c.as_slice-attestations.result.now _ _ c.self.inside.votes c.reserve.new.self _ c.as_slice-attestations.ensures.same (ap (λ ls. map (λ l. l.items) ls) c.deref-2.ensures.value) c.in_ok-lists.ensures.exact c.reserve.ensures.holds c.reserve.ensures.count c.add_votes.ensures.holds c.add_votes.ensures.count)
-    c.in_ok-add_to.ensures.first c.in_ok-add_to.ensures.second
-
-pub returns : goal.returns
-returns c = seen_grown _ c.args.self.now c.self.inside.first c.self.inside.second _ _ c.args.which _ c.self.view_is c.requires.which c.in_ok-add_to.ensures.first c.in_ok-add_to.ensures.second
+pub invariant_of-self-in-Err : goal.invariant_of-self-in-Err
+invariant_of-self-in-Err c = are_kept_still c.self.inside.votes _ c.args.which c.len-firsts.result c.len-seconds.result _ c.self.inside.first c.self.inside.second _ _ _ _ c.requires.which c.self.invariant c.in-Err.ensures c.len-firsts.ensures c.len-seconds.ensures
+    c.in_ok-keep_in.ensures.first c.in_ok-keep_in.ensures.second c.truncate.ensures c.truncate-in-Err.ensures
