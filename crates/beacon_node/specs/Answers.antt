@@ -6,7 +6,8 @@ use Rattle.spec_replay.specs.Run.{Run, End, bad_config, bad_deposits, bad_duties
 use Rattle.spec_replay.specs.Drill.{drill_run}
 use Rattle.spec_replay.specs.Genesis.{genesis_run}
 use Rattle.spec_replay.specs.Duties.{duties_run}
-use Rattle.command_words.specs.Commands.{Command, command_of, drill, duties, genesis, replay}
+use Rattle.spec_replay.specs.Forensic.{forensic_run}
+use Rattle.command_words.specs.Commands.{Command, command_of, drill, duties, forensic, genesis, replay}
 use Rattle.beacon_node.specs.declared.status.Status.{Status}
 use Rattle.beacon_node.specs.declared.status.Status.TheVariants as statuses
 
@@ -88,6 +89,7 @@ with_taken status contents opened (Some (replay files)) = with_files (contents f
 with_taken status contents opened (Some (drill words)) = whole_of status (drill_run words.number (contents words.config))
 with_taken status contents opened (Some (genesis files)) = whole_of status (genesis_run (contents files.config) (contents files.deposits))
 with_taken status contents opened (Some (duties words)) = whole_of status (duties_run words.epoch (contents words.config) (contents words.state))
+with_taken status contents opened (Some (forensic files)) = whole_of status (forensic_run (contents files.config) (contents files.genesis) (contents files.first) (contents files.second))
 
 -- the same of the command words
 unfoldable pub taken_run_of : Status → List (List ℕ) → (List ℕ → Option (List ℕ)) → List FileHanded → Run

@@ -2,6 +2,7 @@ pub mod Duties
 pub mod Files
 pub mod GenesisAnswers
 pub mod Making
+pub mod OffenceTexts
 pub mod Progress
 pub mod Reading
 pub mod Statuses

@@ -9,12 +9,14 @@ mod head;
 mod law;
 mod lines;
 mod make_genesis;
+mod offence_lines;
 mod reading;
 mod replay;
 mod status;
 mod tell_duties;
 mod top;
 
+pub use offence_lines::{offence_line, verdict_line};
 pub use law::{runs_in_memory, soundness_is_tested};
 pub use status::Status;
 pub use top::beacon_main;

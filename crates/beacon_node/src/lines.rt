@@ -28,7 +28,7 @@ pub fn push_number(line: &mut Vec<u8>, alloc: Global, number: u64) -> Result<(),
 
 /// Appends a root: `0x` and 64 hexadecimal digits.
 #[tactic(auto, unfolding(spec_replay::specs::Lines::root_text))]
-fn push_root(line: &mut Vec<u8>, alloc: Global, root: &Root) -> Result<(), AllocError>
+pub fn push_root(line: &mut Vec<u8>, alloc: Global, root: &Root) -> Result<(), AllocError>
     ensures { OnOk result (line.new.items ≡ line.old.items ++ root_text root.now) }
 {
     let digits = hex::encode(alloc, root)?;
@@ -38,7 +38,7 @@ fn push_root(line: &mut Vec<u8>, alloc: Global, root: &Root) -> Result<(), Alloc
 
 /// Appends a checkpoint: its epoch, `:`, its root.
 #[tactic(auto, unfolding(spec_replay::specs::Lines::checkpoint_text))]
-fn push_checkpoint(
+pub fn push_checkpoint(
     line: &mut Vec<u8>,
     alloc: Global,
     checkpoint: &Checkpoint,

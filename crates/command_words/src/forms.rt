@@ -43,7 +43,7 @@ impl fmt::Display for Form {
 }
 
 /// The commands.
-pub static COMMANDS: [Form; 4] = [
+pub static COMMANDS: [Form; 5] = [
     Form {
         name: "replay",
         arguments: &[
@@ -66,6 +66,15 @@ pub static COMMANDS: [Form; 4] = [
             Argument::File("CONFIG"),
             Argument::File("STATE"),
             Argument::Number("EPOCH"),
+        ],
+    },
+    Form {
+        name: "forensic",
+        arguments: &[
+            Argument::File("CONFIG"),
+            Argument::File("GENESIS"),
+            Argument::File("A"),
+            Argument::File("B"),
         ],
     },
 ];
