@@ -1,4 +1,0 @@
-pub mod Added
-pub mod BlockVotes
-pub mod Kept
-pub mod Whole
