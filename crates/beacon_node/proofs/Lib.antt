@@ -14,3 +14,7 @@ pub mod DutyTables
 pub mod Soundness
 pub mod Whole
 pub mod Duties
+pub mod Beginnings
+pub mod Following
+pub mod Forensics
+pub mod Findings

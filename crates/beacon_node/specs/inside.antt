@@ -1,6 +1,9 @@
+pub mod AtEnd
 pub mod Duties
 pub mod Files
+pub mod Following
 pub mod GenesisAnswers
+pub mod Histories
 pub mod Making
 pub mod OffenceTexts
 pub mod Progress

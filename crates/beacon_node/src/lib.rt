@@ -4,8 +4,11 @@
 mod drill;
 mod duty_lines;
 mod events;
+mod follow;
+mod forensic;
 mod genesis;
 mod head;
+mod histories;
 mod law;
 mod lines;
 mod make_genesis;
