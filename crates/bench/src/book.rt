@@ -282,7 +282,11 @@ fn measure_from(
     rt: &(impl AllocGlobal + Print + CpuClock + Files),
     genesis: &Genesis,
 ) -> Result<()> {
-    let shape = Shape { every: 1, votes: 1 };
+    let shape = Shape {
+        every: 1,
+        votes: 1,
+        graffiti: 0,
+    };
     let told = chain(rt.alloc(), genesis, SLOTS, shape)?;
     let mut book = ChainBook::new(rt.alloc(), &genesis.state, &genesis.config)?;
     measure_book(rt, &mut book, genesis, &told.events)

@@ -146,7 +146,7 @@ fn put_front(bytes: &mut [u8], state: &State, proposer: u64) {
     put_number(bytes, 100, state.slot());
     put_number(bytes, 108, proposer);
     put(bytes, 116, &state.latest_block_header().root());
-    for at in [184, 216, 248, 352] {
+    for at in [184, 216, 248] {
         put(bytes, at, &salt);
     }
     put(bytes, 280, &eth1_data.deposit_root);
@@ -237,6 +237,8 @@ pub struct Shape {
     pub every: u64,
     /// How often each vote is told.
     pub votes: u64,
+    /// What all bytes of a block's graffiti are.
+    pub graffiti: u8,
 }
 
 /// What a slot of it is like.
@@ -244,6 +246,7 @@ pub struct Shape {
 struct Slot {
     has_block: bool,
     votes: u64,
+    graffiti: u8,
 }
 
 /// What a chain tells.
@@ -275,11 +278,13 @@ fn tell_block(
     alloc: Global,
     state: &mut State,
     config: &Config,
+    graffiti: u8,
     votes: &[Vec<u8>],
     events: &mut Vec<Event>,
 ) -> Result<()> {
     let proposer = get_beacon_proposer_index(alloc, state)?;
     let mut bytes = block_bytes(alloc, state, proposer, votes)?;
+    put(&mut bytes, 352, &[graffiti; 32]);
     tell_written(alloc, state, config, &mut bytes, votes, events)
 }
 
@@ -288,13 +293,13 @@ fn tell_votes(
     alloc: Global,
     state: &mut State,
     config: &Config,
-    has_block: bool,
+    slot: Slot,
     votes: &[Vec<u8>],
     told: &mut Told,
 ) -> Result<()> {
     push_votes(alloc, &mut told.events, 3, votes)?;
-    if has_block {
-        tell_block(alloc, state, config, votes, &mut told.events)?;
+    if slot.has_block {
+        tell_block(alloc, state, config, slot.graffiti, votes, &mut told.events)?;
         told.pairs.add(pairs_of_body(votes.len() as u64));
     }
     Ok(())
@@ -314,7 +319,7 @@ fn tell_slot(
         .wrapping_add(state.genesis_time());
     push_event(alloc, &mut told.events, 1, &time.to_le_bytes())?;
     let votes = votes(alloc, state, slot.votes)?;
-    tell_votes(alloc, state, config, slot.has_block, &votes, told)
+    tell_votes(alloc, state, config, slot, &votes, told)
 }
 
 /// Adds the pairs that the step from a state to that of the next slot needs: those of the new state's root, and of the header's where
@@ -384,6 +389,7 @@ fn advance_all(
         let slot = Slot {
             has_block: number % shape.every.max(1) != 5,
             votes: shape.votes,
+            graffiti: shape.graffiti,
         };
         advance(alloc, state, config, slot, told)?;
     }

@@ -63,6 +63,7 @@ fn measure_slots(
     let shape = Shape {
         every: EVERY,
         votes: 1,
+        graffiti: 0,
     };
     match chain(rt.alloc(), genesis, slots, shape) {
         Ok(mut told) => {

@@ -2,18 +2,20 @@
 //!
 //! The word behind the program's name says what to measure: `pairs`, `shuffle`, `state`, `registry`, `change`, `iter`, `many`,
 //! `slots`, `block`, `attestation`, `operations`, `epoch`, `head`, `record`, `events`, `bodies`,
-//! `mainnet`, `drill`, `drill_mainnet`, `deposits`, `duties` or `book`. Without a word nothing is measured.
+//! `mainnet`, `drill`, `drill_mainnet`, `deposits`, `duties`, `book`, `forensic` or `forensic_mainnet`. Without a word nothing is measured.
 #![tactic(auto)]
 
 mod attestation;
 mod block;
 mod book;
 mod chain;
+mod command;
 mod deposits;
 mod drill;
 mod epoch;
 mod epoch_duties;
 mod events;
+mod forensic;
 mod genesis;
 mod hashes;
 mod head;
@@ -41,7 +43,7 @@ use std::time::CpuClock;
 
 /// What is printed where no word names a measurement.
 const USAGE: &str =
-    "name what to measure: pairs, shuffle, state, registry, change, iter, many, slots, block, attestation, operations, epoch, head, record, events, bodies, mainnet, drill, drill_mainnet, deposits, duties or book";
+    "name what to measure: pairs, shuffle, state, registry, change, iter, many, slots, block, attestation, operations, epoch, head, record, events, bodies, mainnet, drill, drill_mainnet, deposits, duties, book, forensic or forensic_mainnet";
 
 /// Measures what a word names.
 fn measure(rt: &(impl AllocGlobal + Print + CpuClock + Files), word: &str) -> Result<()> {
@@ -54,6 +56,8 @@ fn measure(rt: &(impl AllocGlobal + Print + CpuClock + Files), word: &str) -> Re
         "drill_mainnet" => drill::measure_mainnet(rt),
         "deposits" => deposits::measure(rt),
         "book" => book::measure(rt),
+        "forensic" => forensic::measure(rt),
+        "forensic_mainnet" => forensic::measure_mainnet(rt),
         _ => measure_steps(rt, word),
     }
 }

@@ -217,7 +217,11 @@ fn measure_from(
 ) -> Result<()>
     requires preset { genesis.now.state.preset ≡ genesis.now.config.preset }
 {
-    let shape = Shape { every: 1, votes };
+    let shape = Shape {
+        every: 1,
+        votes,
+        graffiti: 0,
+    };
     match chain(rt.alloc(), genesis, SLOTS, shape) {
         Ok(told) => measure_told(rt, genesis, &told),
         Err(error) => Err(error),

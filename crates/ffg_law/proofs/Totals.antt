@@ -13,7 +13,7 @@ use Rattle.ffg_law.proofs.Weights.{absent}
 
 -- ---- sums
 
-abbrev plain_total : {A : Type 0} → (A → ℕ) → List A → ℕ
+abbrev pub plain_total : {A : Type 0} → (A → ℕ) → List A → ℕ
 plain_total count [] = 0
 plain_total count (x ∷ xs) = count x + plain_total count xs
 
@@ -27,7 +27,7 @@ sum_done count (x ∷ xs) so_far n is =
     omega arith
 
 -- a total that was done
-total_done : (s : PlainState) (indices : List ℕ) (n : ℕ) → get_total_balance s indices ≡ done n → n ≡ max s.preset.effective_balance_increment (plain_total (effective_balance s.validators) indices)
+pub total_done : (s : PlainState) (indices : List ℕ) (n : ℕ) → get_total_balance s indices ≡ done n → n ≡ max s.preset.effective_balance_increment (plain_total (effective_balance s.validators) indices)
 unfolding get_total_balance checked_sum_by
 total_done s indices n is =
     let all = on_the_way (checked_sum_by (effective_balance s.validators) indices) _ n is in

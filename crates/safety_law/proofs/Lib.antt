@@ -1,0 +1,16 @@
+pub mod Lists
+pub mod Chains
+pub mod Contents
+pub mod Growing
+pub mod Leaves
+pub mod Beginning
+pub mod Events
+pub mod Followed
+pub mod Goes
+pub mod Finalizing
+pub mod Links
+pub mod Apart
+pub mod Offenders
+pub mod Safety
+pub mod Verdicts
+pub mod Judge

@@ -1,0 +1,15 @@
+pub mod Lists
+pub mod Backed
+pub mod BackedAttestation
+pub mod BackedBlock
+pub mod BackedEpoch
+pub mod Slots
+pub mod BackedSlots
+pub mod Members
+pub mod GenesisWeights
+pub mod Voters
+pub mod Steady
+pub mod Runs
+pub mod RunsSlots
+pub mod ListedVotes
+pub mod Genesis
