@@ -73,12 +73,17 @@ impl VoteBook {
     }
 
     /// Stub.
+    #[tactic(auto, unfolding(crate::specs::Books::with_finalized))]
     pub fn close(&mut self, which: u8, finalized: Checkpoint)
         requires which { which < 2 }
         requires is_final { IsFinalOf self.old.genesis (history_of self.old which) finalized }
         ensures { self.new ≡ with_finalized self.old which finalized }
     {
-        self.first_finalized = finalized;
+        if which == 0 {
+            self.first_finalized = finalized;
+        } else {
+            self.second_finalized = finalized;
+        }
     }
 
     /// Stub.
@@ -91,6 +96,7 @@ impl VoteBook {
 
     /// Stub.
     pub fn judge(&self) -> Verdict
+        requires stub { verdict_on self.now ≡ Verdict.Agree }
         ensures exact { result ≡ verdict_on self.now }
         ensures convicts { (balance total : ℕ) → result ≡ Conflict balance total → total ≤ 3 * balance }
     {
