@@ -5,7 +5,7 @@ use Rattle.beacon_body.specs.declared.block.BeaconBlock.{BeaconBlock}
 use Rattle.spec_state.specs.declared.plain.PlainState.{PlainState}
 use Rattle.spec_state.specs.Genesis.{header_root_of}
 use Rattle.spec_fork_choice.specs.Store.{KeptBlock, is_kept}
-pub use Rattle.spec_fork_choice.specs.Clash.{clash_among}
+unfoldable pub use Rattle.spec_fork_choice.specs.Clash.{clash_among}
 use Rattle.spec_fork_choice.specs.GetForkchoiceStore.{genesis_block}
 use Rattle.spec_forensics.specs.Histories.{AcceptedBlock}
 

@@ -131,6 +131,3 @@ returns-in_ok-accept-in-None-clause-parts c = c.in_ok-accept-in-None.ensures.par
 
 pub returns-in-Some-clause-parts : goal.returns-in-Some-clause-parts
 returns-in-Some-clause-parts c = c.requires.parts
-
-pub returns-in_ok-accept-in-None-clause-entered : goal.returns-in_ok-accept-in-None-clause-entered
-returns-in_ok-accept-in-None-clause-entered c = ap (λ (step : Stepped). step.entered) c.step.view_is

@@ -2,7 +2,7 @@ use Rattle.std.proofs.Common.{◌≡◌, ◌<◌, ◌^◌, List, Some, None, len
 use Rattle.spec_fork_choice.specs.Store.{KeptBlock}
 use Rattle.fork_store.specs.Arrays.{node_number}
 use Rattle.fork_store.proofs.Stepping.{parent_unknown}
-use Rattle.fork_store.proofs.on_block.parent_number.Goals as goal
+use Rattle.fork_store.proofs.on_block.parent_of.Goals as goal
 
 pub node_number-requires : goal.node_number-requires
 node_number-requires c = subst (λ (b : List KeptBlock). length b < 2 ^ 32) (sym c.blocks-2.ensures) c.requires.few
