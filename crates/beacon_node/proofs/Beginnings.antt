@@ -6,8 +6,10 @@ use Rattle.std.proofs.lemmas.Bool.{cases_lt, lt-ltb}
 use Rattle.std.proofs.lemmas.List.Sums.{sum_by-le}
 use Rattle.bc_words.specs.Outcome.{Outcome, bind, done, checked_sum_by}
 use Rattle.bc_words.proofs.Sums.{checked_sum_fits}
+use Rattle.bc_preset.specs.declared.configuration.ConfigValues.{ConfigValues}
 use Rattle.bc_preset.specs.laws.Bounds.{HasPresetBounds}
 use Rattle.bc_preset.proofs.Bounds.{preset_bounds}
+use Rattle.beacon_body.specs.declared.block.BeaconBlock.{BeaconBlock}
 use Rattle.beacon_types.specs.declared.validator.Validator.{Validator}
 use Rattle.beacon_types.specs.Containers.{validator_codec}
 use Rattle.beacon_types.specs.Equality.{same_root}
@@ -37,7 +39,7 @@ pub few_validators : (s : PlainState) → IsInRange s → HasWriting s → lengt
 unfolding state_fields OffsetsFit
 few_validators s range written =
     let long : length (flat_map validator_codec.serialize s.validators) ≡ length s.validators * 121 = sized 121 validator_codec s.validators (λ v w. validator_lawful.size v w) range.validators in
-    omega (arith, long, written.whole)
+    omega (arith, long, written.whole.3)
 
 -- ---- what a validator has
 
@@ -107,17 +109,17 @@ total_active_of s bounds good few = total_of s (get_active_validator_indices s (
 
 -- ---- the roots
 
-root_set : (root state_root : List ℕ) (a b : Bool) (block : _) → same_root root zero_root ≡ a → same_root state_root zero_root ≡ b → clash_of [] root state_root block ≡ None → (a ≡ false) × (b ≡ false)
+root_set : (root state_root : List ℕ) (a b : Bool) (block : BeaconBlock) → same_root root zero_root ≡ a → same_root state_root zero_root ≡ b → clash_of [] root state_root block ≡ None → (a ≡ false) × (b ≡ false)
 unfolding clash_of clash_with
 root_set root state_root true b block x y none = absurd (cc (rw x at none))
 root_set root state_root false true block x y none = absurd (cc (rw (x, y) at none))
 root_set root state_root false false block x y none = (refl, refl)
 
-pub begins : (config : _) (s : PlainState) → IsGenesis config s → genesis_clash s ≡ None → Begins s
+pub begins : (config : ConfigValues) (s : PlainState) → IsGenesis config s → genesis_clash s ≡ None → Begins s
 unfolding genesis_clash
 begins config s is none = genesis_begins s is.checked is.state is.range (root_set _ _ _ _ (genesis_block s) refl refl none).1
 
-pub begins_book : (config : _) (s : PlainState) → IsGenesis config s → genesis_clash s ≡ None → IsBeginning s
+pub begins_book : (config : ConfigValues) (s : PlainState) → IsGenesis config s → genesis_clash s ≡ None → IsBeginning s
 unfolding genesis_clash
 begins_book config s is none =
     let set = root_set _ _ _ _ (genesis_block s) refl refl none in

@@ -104,14 +104,6 @@ never_rose : {A : Type 0} → Rose 0 0 → A
 never_rose (inl less) = absurd (omega (arith, less))
 never_rose (inr is) = absurd (omega (arith, is))
 
--- what became of shelf and sink where the events were run without this sink, and then it was written to
-pub writes_behind : (status other : Status) {s t : ShelfTold} {p q : SinkTold} → OutsideKeeps [] (Some other) s t p p → WritesOut status p q → OutsideKeeps [] (Some status) s t p q
-writes_behind status other {s} {t} {p} {q} h w = record {
-  causes = record { read = λ is. never_rose ((w.causes 0).read is); write = (w.causes 0).write };
-  shelf = h.shelf;
-  sink = w.sink;
-}
-
 -- ---- the events of a maker
 
 done_status : (status : Status) → is_done status ≡ true → status ≡ statuses.Done
@@ -186,7 +178,9 @@ digest_outside status s t lines took h = record {
 -- a made chain was followed
 pub made_followed : (side : Side) (maker : PlainMaker) (result : Result (Unit {0}) Status) (store : Store) (history : List AcceptedBlock) (left : Followed) (s t : ShelfTold) → history ≡ []
     → FollowedToEnd side result (record { store = store; history = history }) (made_source (begun maker)) s t left → Leaves result (follow (which_of side) (others_of side) store (events_to_come 0 (to_come maker))) left
-made_followed side maker result store history left s t new h = (rw new at h).leaves [] (λ _. refl)
+made_followed side maker result store history left s t new h =
+    let k : FollowedToEnd side result (record { store = store; history = [] }) (made_source (begun maker)) s t left = rw new at h in
+    k.leaves [] (λ _. refl)
 
 module _ (genesis : PlainState) (store : Store) (left : Followed) (side : Side) (second : which_of side ≡ 1) (same : others_of side ≡ first_accepted genesis left.history) (rest : Events) {V : Type 0} (items : V → List ℕ) where
   pub second_over : (status : Status) (left_then : Followed) → Leaves (Err status) (follow (which_of side) (others_of side) store rest) left_then → SplitTold items (Err status) (behind_first genesis store (Ok left) rest)
@@ -287,6 +281,10 @@ pub drill_over : {V : Type 0} (items : V → List ℕ) (status : Status) (run : 
 drill_over items status run w h =
     let none : WritesLines (breaks_off status) run.lines w w = no_lines (breaks_off status) run.lines w (omega arith, λ on. sym (ap (λ (r : Run). length r.lines) (h.1 on).2)) in
     record { ends = λ on. ap (λ (r : Run). r.end) (h.1 on).2 ∙ (h.1 on).1; lines = none; pace = pace_none status run w none; files = h.0 }
+
+pub unwritten_is_no_fault_of_reading : (trouble : Trouble) → unwritten trouble ≢ statuses.ReadFault
+unwritten_is_no_fault_of_reading troubles.Failed = λ is. cc
+unwritten_is_no_fault_of_reading troubles.NoMemory = λ is. cc
 
 -- what became of the sink, where the shelf was only followed
 pub writes_then : {T : Type 0} (status : Status) (result : Result T Status) {s t : ShelfTold} {p q : SinkTold} → FollowsOutside [] result s t → WritesOut status p q → status ≢ statuses.ReadFault → OutsideKeeps [] (Some status) s t p q

@@ -4,6 +4,7 @@ use Rattle.std.specs.Prelude.{All, flat_map, length, nat_lt}
 use Rattle.bc_outside.specs.Told.{SinkTold}
 use Rattle.bc_outside.specs.declared.trouble.Trouble.{Trouble}
 use Rattle.bc_outside.specs.declared.trouble.Trouble.TheVariants as troubles
+use Rattle.bc_preset.specs.declared.configuration.ConfigValues.{ConfigValues}
 use Rattle.beacon_types.specs.declared.checkpoint.Checkpoint.{Checkpoint}
 use Rattle.spec_state.specs.declared.plain.PlainState.{PlainState}
 use Rattle.spec_fork_choice.specs.Store.{Store}
@@ -21,13 +22,17 @@ use Rattle.spec_replay.specs.OffenceLines.{offence_line}
 use Rattle.safety_law.specs.Finals.{IsFinalOf}
 use Rattle.safety_law.specs.Follows.{Follows}
 use Rattle.forensics.specs.Books.{PlainBook, history_of, verdict_on, votes_of, with_finalized}
+use Rattle.beacon_node.specs.declared.genesis.GenesisStop.{GenesisStop}
+use Rattle.beacon_node.specs.declared.genesis.GenesisStop.TheVariants as stops
 use Rattle.beacon_node.specs.declared.histories.Findings as code
 use Rattle.beacon_node.specs.declared.status.Status.{Status}
 use Rattle.beacon_node.specs.declared.status.Status.TheVariants as statuses
 use Rattle.beacon_node.specs.Findings.{IsThird, WritesFindings}
 use Rattle.beacon_node.specs.inside.AtEnd.{Concludes}
 use Rattle.beacon_node.specs.inside.Duties.{written}
+use Rattle.beacon_node.specs.inside.GenesisAnswers.{no_genesis}
 use Rattle.beacon_node.specs.inside.Histories.{HasFound}
+use Rattle.beacon_node.specs.inside.Statuses.{unread}
 use Rattle.beacon_node.specs.inside.Texts.{WritesText}
 use Rattle.beacon_node.proofs.Whole.{text_concludes}
 
@@ -94,7 +99,7 @@ wrote_all (Ok v) text p q is h = h.writes
 wrote_all (Err troubles.Failed) text p q is h = absurd cc
 wrote_all (Err troubles.NoMemory) text p q is h = absurd cc
 
-pub findings_written : (config : _) (genesis : PlainState) (first second : List AcceptedBlock) (a b : Store) (findings : code.Findings) (result : Result (Unit {0}) Trouble) (p q : SinkTold) → Follows config genesis first a → Follows config genesis second b
+pub findings_written : (config : ConfigValues) (genesis : PlainState) (first second : List AcceptedBlock) (a b : Store) (findings : code.Findings) (result : Result (Unit {0}) Trouble) (p q : SinkTold) → Follows config genesis first a → Follows config genesis second b
     → HasFound genesis first second a b findings → WritesText (flat_map offence_line findings.offences.items ++ verdict_line findings.verdict) result p q → written result ≡ statuses.Done → WritesFindings p.taken q.taken
 findings_written config genesis first second a b findings result p q follows_a follows_b found writes is = record {
   config = config;
@@ -111,3 +116,13 @@ findings_written config genesis first second a b findings result p q follows_a f
       let parts = conflict_is genesis first second a.finalized_checkpoint b.finalized_checkpoint balance total (sym found.verdict ∙ conflict) in
       record { balance_is = parts.0 ∙ ap (balance_of genesis) (sym found.offences); total_is = parts.1; third = found.convicts balance total conflict };
 }
+
+-- ---- ends without findings
+
+pub unread_is_not_done : {A : Type 0} (trouble : Trouble) → unread trouble ≡ statuses.Done → A
+unread_is_not_done troubles.Failed is = absurd cc
+unread_is_not_done troubles.NoMemory is = absurd cc
+
+pub no_genesis_is_not_done : {A : Type 0} (stop : GenesisStop) → no_genesis stop ≡ statuses.Done → A
+no_genesis_is_not_done (stops.Fault part) is = absurd cc
+no_genesis_is_not_done stops.NoMemory is = absurd cc

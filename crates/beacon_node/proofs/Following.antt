@@ -3,7 +3,10 @@ use Rattle.std.proofs.Common.{◌≡◌, ◌≢◌, ◌∙◌, ℕ, ◌+◌, ◌
 use Rattle.std.specs.Option.{option_map}
 use Rattle.std.proofs.lemmas.Bool.{cases_Bool}
 use Rattle.bc_outside.specs.Told.{ShelfTold}
-use Rattle.bc_outside.specs.Calls.{Rose, ShelfKeeps}
+use Rattle.bc_outside.specs.Calls.{FailsOnlyBy, ShelfKeeps}
+use Rattle.bc_outside.specs.declared.trouble.Trouble.{Trouble}
+use Rattle.bc_outside.specs.declared.trouble.Trouble.TheVariants as troubles
+use Rattle.bc_outside.proofs.Keeping.{keeps_then}
 use Rattle.bc_words.specs.Events.{EventOutcome, accepted, event_refused, event_limited, event_clashes}
 use Rattle.bc_words.specs.declared.stop.Limit.{Limit}
 use Rattle.bc_words.specs.declared.store_stop.ClashKind.{ClashKind}
@@ -15,8 +18,10 @@ use Rattle.record_file.specs.Record.{Events, with_event}
 use Rattle.record_file.specs.Frames.{CanFollow}
 use Rattle.record_file.specs.Sources.{Source, NextOf}
 use Rattle.record_file.specs.declared.event.Event.{Event}
+use Rattle.record_file.specs.declared.fault.RecordFault.{RecordFault}
 use Rattle.record_file.specs.declared.source.SourceStop.{SourceStop}
 use Rattle.record_file.specs.declared.source.SourceStop.TheVariants as stops
+use Rattle.record_file.specs.Stops.{SourceStopsBy}
 use Rattle.record_file.proofs.Supplying.{from_none, from_then}
 use Rattle.spec_state.specs.declared.plain.PlainState.{PlainState}
 use Rattle.spec_fork_choice.specs.Store.{KeptBlock, Store, block_of, is_kept}
@@ -36,9 +41,10 @@ use Rattle.beacon_node.specs.declared.follow.Side.TheVariants.{First, Second}
 use Rattle.beacon_node.specs.declared.status.Status.{Status}
 use Rattle.beacon_node.specs.declared.status.Status.TheVariants as statuses
 use Rattle.beacon_node.specs.Answers.{breaks_off, end_of}
-use Rattle.beacon_node.specs.inside.Statuses.{no_event_of}
+use Rattle.beacon_node.specs.inside.Statuses.{no_event_of, unread}
+use Rattle.beacon_node.proofs.Outside.{rose_behind}
 use Rattle.beacon_node.specs.inside.Progress.{outcome_of}
-use Rattle.beacon_node.specs.inside.Following.{BlockFollowed, ClashesBy, EndsBy, EventEnds, EventFollowed, FollowedSoFar, FollowedToEnd, IsBeside, IsFollowing, IsInside, Leaves, SameBeside, followed_by, left_by, others_of, which_of}
+use Rattle.beacon_node.specs.inside.Following.{BlockFollowed, ClashesBy, EndsBy, EventEnds, EventFollowed, FollowedSoFar, FollowedToEnd, FollowsOutside, IsBeside, IsFollowing, IsInside, Leaves, SameBeside, followed_by, left_by, others_of, which_of}
 
 -- ---- the events of a source
 
@@ -69,7 +75,7 @@ none_left : (which : ℕ) (others : List KeptBlock) (number : ℕ) (followed : F
 unfolding follow_events
 none_left which others number followed = refl
 
-none_read : (which : ℕ) (others : List KeptBlock) (number : ℕ) (followed : Followed) (event : ℕ) (reason : _) → follow_events which others number followed [] (record_file.fault event reason) ≡ Err (bad_record which event reason)
+none_read : (which : ℕ) (others : List KeptBlock) (number : ℕ) (followed : Followed) (event : ℕ) (reason : RecordFault) → follow_events which others number followed [] (record_file.fault event reason) ≡ Err (bad_record which event reason)
 unfolding follow_events
 none_read which others number followed event reason = refl
 
@@ -274,3 +280,36 @@ added_history (Second first) old new b is = ap (λ (book : PlainBook). book.seco
 pub none_of_second : (side : Side) (book : PlainBook) → IsBeside side book → which_of side ≡ 0 → book.second ≡ []
 none_of_second First book is zero = is
 none_of_second (Second first) book is zero = absurd (omega (arith, zero))
+
+-- ---- the outside
+
+-- the source stopped
+pub stop_outside : (side : Side) (stop : SourceStop) {s t : ShelfTold} → SourceStopsBy {T = Unit {0}} (Err stop) s.faults t.faults → ShelfKeeps [] s t → FollowsOutside {T = Unit {0}} [] (Err (no_event_of (which_of side) stop)) s t
+stop_outside side (stops.Fault event fault) h keeps = record { shelf = keeps; read = λ is. cc; others = (λ is. cc, λ is. cc) }
+stop_outside side (stops.Limit event bound) h keeps = record { shelf = keeps; read = λ is. cc; others = (λ is. cc, λ is. cc) }
+stop_outside side stops.ReadFault h keeps = record { shelf = keeps; read = λ is. h.1; others = (λ is. cc, λ is. cc) }
+stop_outside side stops.NoMemory h keeps = record { shelf = keeps; read = λ is. cc; others = (λ is. cc, λ is. cc) }
+
+-- the run ended at an event
+pub inside_only : (status : Status) {s t : ShelfTold} → IsInside status → ShelfKeeps [] s t → FollowsOutside {T = Unit {0}} [] (Err status) s t
+inside_only status h keeps = record { shelf = keeps; read = λ is. absurd (h.read is); others = (h.words, h.write) }
+
+-- what was followed before
+pub outside_behind : {T : Type 0} (names more : List (List ℕ)) (result : Result T Status) {s t u : ShelfTold} → ShelfKeeps names s t → FollowsOutside more result t u → FollowsOutside (names ++ more) result s u
+outside_behind names more (Ok v) h k = record { shelf = keeps_then names more h k.shelf; read = tt; others = tt }
+outside_behind names more (Err status) {s} {t} {u} h k = record { shelf = keeps_then names more h k.shelf; read = λ is. rose_behind s.faults t.faults u.faults h.faults (k.read is); others = k.others }
+
+-- the record could not be opened
+pub unopened_outside : (names : List (List ℕ)) (trouble : Trouble) {s t : ShelfTold} → FailsOnlyBy {T = Unit {0}} (Err trouble) s.faults t.faults → ShelfKeeps names s t → FollowsOutside {T = Unit {0}} names (Err (unread trouble)) s t
+unopened_outside names troubles.Failed h keeps = record { shelf = keeps; read = λ is. h.1; others = (λ is. cc, λ is. cc) }
+unopened_outside names troubles.NoMemory h keeps = record { shelf = keeps; read = λ is. cc; others = (λ is. cc, λ is. cc) }
+
+-- ---- what goes on
+
+-- the store follows what it followed, where only the book's other history counts
+pub still_following : (side : Side) (genesis : PlainState) (old_store new_store : Store) (old new : PlainBook) → IsFollowing side genesis old_store old → SameBeside side old new → Follows old.config old.genesis (history_of new (which_of side)) new_store → IsFollowing side genesis new_store new
+still_following side genesis old_store new_store old new is same follows = record {
+  genesis_is = same.genesis ∙ is.genesis_is;
+  follows = rw (same.config, same.genesis) follows;
+  beside = still_beside side old new same is.beside;
+}

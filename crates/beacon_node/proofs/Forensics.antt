@@ -194,7 +194,7 @@ module _ (genesis : PlainState) (store : Store) (left : Followed) (side : Side) 
 -- ---- the outside
 
 -- the run ended while a record was followed
-pub follows_outside : (names more : List (List ℕ)) (status : Status) {s t : ShelfTold} {p : SinkTold} → FollowsOutside {T = Unit {0}} names (Err status) s t → OutsideKeeps (names ++ more) (Some status) s t p p
+pub follows_outside : (names more : List (List ℕ)) (status : Status) {T : Type 0} {s t : ShelfTold} {p : SinkTold} → FollowsOutside {T = T} names (Err status) s t → OutsideKeeps (names ++ more) (Some status) s t p p
 follows_outside names more status h = ends_here names more (only_shelf h.shelf) (record { read = h.read; write = λ is. absurd (h.others.1 is) })
 
 -- the stores don't open

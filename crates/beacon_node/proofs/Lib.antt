@@ -18,3 +18,4 @@ pub mod Beginnings
 pub mod Following
 pub mod Forensics
 pub mod Findings
+pub mod Openings

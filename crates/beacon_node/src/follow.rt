@@ -106,6 +106,7 @@ fn follow_block(
 }
 
 /// Hands the event to the store, and a block that it accepts to the book. The status where the event ends the run.
+#[tactic(auto, using(spec_fork_choice::proofs::Grows::event_keeps_one_more, record_file::proofs::Supplying::kind_first, record_file::proofs::Supplying::kind_last))]
 fn follow_event(
     alloc: Global,
     side: Side<'_>,
@@ -132,7 +133,8 @@ fn follow_event(
         Ok(Accepted::Block(given)) => {
             follow_block(alloc, side, number, &given, &watch, store, book)
         }
-        Ok(Accepted::Other) | Err(StoreStop::Refused(_)) => Ok(()),
+        Ok(Accepted::Other) => Ok(()),
+        Err(StoreStop::Refused(_)) => Ok(()),
         Err(StoreStop::Limit(limit)) => Err(Status::Limit {
             which: side.which(),
             event: number,
