@@ -69,11 +69,7 @@ struct Origins<'a> {
 impl<'a> Origins<'a> {
     /// The record with a number: 0 is the only or the first one.
     fn record(&self, which: u8) -> Origin<'a> {
-        if which == 0 {
-            self.events
-        } else {
-            self.second
-        }
+        if which == 0 { self.events } else { self.second }
     }
 }
 
@@ -93,12 +89,7 @@ fn origins_of<'a>(command: &Option<Command<'a>>) -> Origins<'a> {
             Origin::Made("the made chain"),
             Origin::Made("the second chain of the split"),
         ),
-        Some(Command::Genesis(files)) => (
-            files.config,
-            Origin::File(files.deposits),
-            none,
-            none,
-        ),
+        Some(Command::Genesis(files)) => (files.config, Origin::File(files.deposits), none, none),
         Some(Command::Duties(words)) => (words.config, Origin::File(words.state), none, none),
         Some(Command::Forensic(files)) => (
             files.config,
@@ -360,13 +351,21 @@ impl fmt::Display for Explanation<'_, '_> {
                 which,
                 event: 0,
                 fault,
-            } => write!(f, "Record: {}: at its head: {fault}", origins.record(*which)),
+            } => write!(
+                f,
+                "Record: {}: at its head: {fault}",
+                origins.record(*which)
+            ),
             Status::Record {
                 which,
                 event,
                 fault,
             } => {
-                write!(f, "Record: {}: event {event}: {fault}", origins.record(*which))
+                write!(
+                    f,
+                    "Record: {}: event {event}: {fault}",
+                    origins.record(*which)
+                )
             }
             Status::Limit {
                 which,

@@ -99,9 +99,10 @@ total_of : (s : PlainState) (indices : List ℕ) → HasPresetBounds s.preset �
 unfolding get_total_balance
 total_of s indices bounds good few =
     let each : (n : ℕ) → effective_balance s.validators n ≤ 32_000_000_000 = λ n. rw (← bounds.max_effective_balance) (low_balances s.preset.max_effective_balance 0 s.validators n (no_fault_of_validators s good)) in
-    let most : sum_by (effective_balance s.validators) indices ≤ length indices * 32_000_000_000 = sum_by-le (effective_balance s.validators) 32_000_000_000 indices (λ i d less. each _) in
-    (max s.preset.effective_balance_increment (sum_by (effective_balance s.validators) indices),
-     ap (λ (sum : Outcome ℕ). bind sum (λ sum. done (max s.preset.effective_balance_increment sum))) (checked_sum_fits (effective_balance s.validators) indices (omega (arith, most, few))))
+    let most : sum_by (effective_balance s.validators) indices ≤ length indices * 32_000_000_000 = sum_by-le (effective_balance s.validators) 32_000_000_000 indices (λ i d less. each _) in (
+      max s.preset.effective_balance_increment (sum_by (effective_balance s.validators) indices),
+      ap (λ (sum : Outcome ℕ). bind sum (λ sum. done (max s.preset.effective_balance_increment sum))) (checked_sum_fits (effective_balance s.validators) indices (omega (arith, most, few))),
+    )
 
 total_active_of : (s : PlainState) → HasPresetBounds s.preset → genesis_fault s ≡ None → length s.validators ≤ 2 ^ 29 → (total : ℕ) × (get_total_active_balance s ≡ done total)
 unfolding get_active_validator_indices

@@ -217,7 +217,15 @@ fn split_lines<F: Shelf>(
         Err(status) => return Err(status),
     };
     let side = Side::First;
-    match follow_made(alloc, side, &genesis, first_maker, &mut first, &mut book, shelf) {
+    match follow_made(
+        alloc,
+        side,
+        &genesis,
+        first_maker,
+        &mut first,
+        &mut book,
+        shelf,
+    ) {
         Ok(()) => second_lines(alloc, &genesis, &first, second_maker, second, book, shelf),
         Err(status) => Err(status),
     }

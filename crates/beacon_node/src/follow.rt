@@ -99,7 +99,15 @@ fn follow_block(
             kept_which: 0,
         });
     }
-    match book.add(alloc, side.which(), number, block, given.root(), &state, watch) {
+    match book.add(
+        alloc,
+        side.which(),
+        number,
+        block,
+        given.root(),
+        &state,
+        watch,
+    ) {
         Ok(()) => Ok(()),
         Err(_) => Err(Status::NoMemory),
     }

@@ -40,11 +40,7 @@ fn write_offence<O: Sink>(alloc: Global, offence: &Offence, out: &mut O) -> Resu
 }
 
 /// Writes the line of each offence.
-fn write_offences<O: Sink>(
-    alloc: Global,
-    offences: &[Offence],
-    out: &mut O,
-) -> Result<(), Trouble>
+fn write_offences<O: Sink>(alloc: Global, offences: &[Offence], out: &mut O) -> Result<(), Trouble>
     ensures { WritesText (flat_map offence_line offences.now) result (O.told out.old) (O.told out.new) }
 {
     for offence in offences {
@@ -64,11 +60,7 @@ fn write_verdict<O: Sink>(alloc: Global, verdict: &Verdict, out: &mut O) -> Resu
 }
 
 /// Writes the offences, and then the verdict.
-fn write_findings<O: Sink>(
-    alloc: Global,
-    findings: &Findings,
-    out: &mut O,
-) -> Result<(), Trouble>
+fn write_findings<O: Sink>(alloc: Global, findings: &Findings, out: &mut O) -> Result<(), Trouble>
     ensures { WritesText (flat_map offence_line findings.now.offences.items ++ verdict_line findings.now.verdict) result (O.told out.old) (O.told out.new) }
 {
     write_offences(alloc, &findings.offences, out)?;
@@ -148,8 +140,25 @@ fn tell_records<F: Shelf, O: Sink>(
         second,
         mut book,
     } = histories;
-    match follow_record(alloc, Side::First, &genesis, files.first, &mut first, &mut book, shelf) {
-        Ok(()) => tell_second(alloc, &genesis, &first, files.second, second, book, shelf, out),
+    match follow_record(
+        alloc,
+        Side::First,
+        &genesis,
+        files.first,
+        &mut first,
+        &mut book,
+        shelf,
+    ) {
+        Ok(()) => tell_second(
+            alloc,
+            &genesis,
+            &first,
+            files.second,
+            second,
+            book,
+            shelf,
+            out,
+        ),
         Err(status) => status,
     }
 }

@@ -69,11 +69,7 @@ fn book_at(alloc: Global, config: &Config, genesis: &State) -> Result<VoteBook, 
 }
 
 /// Opens both stores at genesis, and the book.
-pub fn open_histories(
-    alloc: Global,
-    config: &Config,
-    genesis: State,
-) -> Result<Histories, Status>
+pub fn open_histories(alloc: Global, config: &Config, genesis: State) -> Result<Histories, Status>
     requires { IsGenesis config.now genesis }
     ensures opened { IfOk result (λ histories. AreOpened config.now genesis histories) }
     ensures over { IfErr result (λ status. OpeningEnds status (genesis_clash genesis)) }

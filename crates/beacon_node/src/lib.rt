@@ -19,7 +19,7 @@ mod status;
 mod tell_duties;
 mod top;
 
-pub use offence_lines::{offence_line, verdict_line};
 pub use law::{runs_in_memory, soundness_is_tested};
+pub use offence_lines::{offence_line, verdict_line};
 pub use status::Status;
 pub use top::beacon_main;

@@ -309,7 +309,12 @@ pub fn two_lines(alloc: Global, findings: &Findings) -> Result<Vec<u8>, NoMemory
     ensures { IfOk result (λ lines. lines.items ≡ line_of (codes "offenders") (decimal (length findings.now.offences.items)) ++ verdict_line findings.now.verdict) }
 {
     let mut lines = Vec::new(alloc);
-    push_number_line(&mut lines, alloc, "offenders", findings.offences.len() as u64)?;
+    push_number_line(
+        &mut lines,
+        alloc,
+        "offenders",
+        findings.offences.len() as u64,
+    )?;
     let verdict = verdict_line(alloc, &findings.verdict)?;
     lines.extend_from_slice(&verdict)?;
     Ok(lines)
