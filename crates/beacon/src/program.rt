@@ -58,22 +58,19 @@ fn cause_of<'a, R: Files, W: io::Write>(
     }
 }
 
-/// The file of the record, by the order of the words.
-fn record_of(alloc: Global, words: &[String]) -> u32 {
-    match read_command(alloc, words) {
-        Ok(Command::Anchor(_)) => 3,
-        _ => 2,
-    }
-}
-
-/// The number of the event that was read or whose line was written, where the record was opened: each event before it
-/// has its line.
+/// The number of the event that was read or whose line was written, where the record of `replay` or `anchor` was opened: each event
+/// before it has its line.
 fn event_at<R: Files, W: io::Write>(
+    command: &Option<Command<'_>>,
     shelf: &DiskShelf<'_, R>,
     out: &StdSink<W>,
-    record: u32,
 ) -> Option<u64> {
-    match shelf.handed_out(record as usize) {
+    let record = match command {
+        Some(Command::Replay(_)) => 2,
+        Some(Command::Anchor(_)) => 3,
+        _ => return None,
+    };
+    match shelf.handed_out(record) {
         Some(_) => Some(out.lines().saturating_add(1)),
         None => None,
     }
@@ -90,12 +87,14 @@ fn explain<'a, R: Eprint + Files, W: io::Write>(
 ) {
     if status.number() != 0 {
         let wrong = what_is_wrong(alloc, words);
+        let command = read_command(alloc, words).ok();
+        let event = event_at(&command, shelf, out);
         let explanation = Explanation {
             status,
-            command: read_command(alloc, words).ok(),
+            command,
             wrong: wrong.as_deref(),
             cause: cause_of(status, shelf, out),
-            event: event_at(shelf, out, record_of(alloc, words)),
+            event,
             genesis_len: shelf.handed_out(1),
         };
         let _ = eprintln!(rt; "{explanation}");

@@ -4,7 +4,7 @@
 ghost use Rattle.std.specs.Prelude.{◌≡◌, option_map, ◌≤◌, ◌<◌, ◌^◌, length};
 ghost use Rattle.std.specs.Bool.{Decides};
 ghost use Rattle.spec_fork_choice.specs.SameBlock.{same_block as same_blocks};
-ghost use Rattle.spec_fork_choice.specs.Clash.{clash_with, clashes, is_another as another, place_of, clash_of};
+ghost use Rattle.spec_fork_choice.specs.Clash.{clash_with, clashes, is_another as another, place_of, clash_of, clash_among};
 ghost use Rattle.fork_store.specs.Keepers.{kept_blocks};
 
 use crate::chain_stepper::ChainStepper;
@@ -81,6 +81,27 @@ fn place_of(blocks: &KeptBlocks, root: Root) -> usize
     match blocks.node_number(root) {
         Some(number) => number,
         None => blocks.len(),
+    }
+}
+
+/// The place of the kept block that has a block's root and another content. None exactly where there is none.
+#[tactic(auto, unfolding(spec_fork_choice::specs::Clash::clash_among))]
+pub fn clash_among(
+    blocks: &KeptBlocks,
+    keeper: &Keeper<ChainStepper>,
+    root: Root,
+    block: &BeaconBlock,
+) -> Option<u32>
+    requires few { length blocks.now < 2 ^ 32 }
+    requires keeper { kept_blocks keeper.now.blocks ≡ blocks.now }
+    ensures { result ≡ clash_among blocks.now root block.now }
+{
+    let kept = block_of(blocks, keeper, root);
+    let place = place_of(blocks, root);
+    if is_another(kept, block) {
+        Some(place as u32)
+    } else {
+        None
     }
 }
 

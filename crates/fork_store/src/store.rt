@@ -3,8 +3,9 @@
 //! Beside its fields it keeps the array of nodes, by which blocks are weighed, and the keeper of the states behind them, and holds
 //! ready the balances of the best justified checkpoint, so that neither a tick nor the head takes memory.
 
-ghost use Rattle.std.specs.Prelude.{◌≡◌, ◌<◌, ℕ, true, length, IfOk};
+ghost use Rattle.std.specs.Prelude.{◌≡◌, ◌<◌, ◌^◌, ℕ, true, length, IfOk};
 ghost use Rattle.std.specs.Option.{option_map};
+ghost use Rattle.spec_fork_choice.specs.Clash.{clash_among};
 ghost use Rattle.spec_fork_choice.specs.Store.{block_of, is_kept};
 ghost use Rattle.spec_fork_choice.specs.StoreTargetCheckpointState.{store_target_checkpoint_state};
 ghost use Rattle.fork_store.specs.KeptSteps.{IsStepOfParent};
@@ -14,6 +15,7 @@ ghost use Rattle.fork_store.specs.Keepers.{IsKeeperOf};
 ghost use Rattle.fork_store.specs.Roots.{roots_of};
 
 use crate::chain_stepper::ChainStepper;
+use crate::clashes::clash_among;
 use crate::kept_blocks::{block_of, node_number};
 use crate::kept_state::kept_state;
 use crate::ready_balances::ReadyBalances;
@@ -128,6 +130,16 @@ impl Store {
         ensures { option_map (λ block. block.now) result ≡ option_map (λ kept. kept.block) (block_of self.now.plain.blocks root) }
     {
         block_of(self.fields.blocks(), &self.keeper, root)
+    }
+
+    /// The place of the kept block that has this root and another content than this block. None exactly where there is none. Signatures
+    /// don't count.
+    #[tactic(auto, using(crate::proofs::Keepers::keeping))]
+    pub fn other_block(&self, root: Root, block: &BeaconBlock) -> Option<u32>
+        requires { length self.now.plain.blocks < 2 ^ 32 }
+        ensures { result ≡ clash_among self.now.plain.blocks root block.now }
+    {
+        clash_among(self.fields.blocks(), &self.keeper, root, block)
     }
 
     /// The state behind the block of a root. None exactly where the root isn't kept. The store is as before: a state that was dropped

@@ -4,8 +4,8 @@ use Rattle.std.specs.Option.{option_map}
 use Rattle.beacon_body.specs.declared.block.BeaconBlock.{BeaconBlock}
 use Rattle.spec_state.specs.declared.plain.PlainState.{PlainState}
 use Rattle.spec_state.specs.Genesis.{header_root_of}
-use Rattle.spec_fork_choice.specs.Store.{KeptBlock, block_of, is_kept}
-use Rattle.spec_fork_choice.specs.Clash.{is_another, place_of}
+use Rattle.spec_fork_choice.specs.Store.{KeptBlock, is_kept}
+unfoldable pub use Rattle.spec_fork_choice.specs.Clash.{clash_among}
 use Rattle.spec_fork_choice.specs.GetForkchoiceStore.{genesis_block}
 use Rattle.spec_forensics.specs.Histories.{AcceptedBlock}
 
@@ -19,11 +19,6 @@ first_accepted genesis [] = record { root = header_root_of genesis; block = gene
 first_accepted genesis (b ∷ earlier) =
     if is_kept (first_accepted genesis earlier) b.root then first_accepted genesis earlier
     else first_accepted genesis earlier ++ kept_block b ∷ []
-
--- the place of the kept block that has a block's root and another content, if there is one
-unfoldable pub clash_among : List KeptBlock → List ℕ → BeaconBlock → Option ℕ
-clash_among kept root block =
-    if is_another (option_map (λ k. k.block) (block_of kept root)) block then Some (place_of kept root) else None
 
 -- which history has the root with another content, and its place there. The first history is looked at first
 unfoldable pub first_or_second : Option ℕ → Option ℕ → Option (ℕ × ℕ)

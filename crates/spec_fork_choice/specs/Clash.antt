@@ -33,6 +33,11 @@ clashes root state_root kept block = is_some (clash_with kept 0 root state_root 
 unfoldable pub place_of : List KeptBlock → List ℕ → ℕ
 place_of blocks root = position_or_len (λ kept. same_root kept.root root) blocks
 
+-- the place of the kept block that has a block's root and another content, if there is one
+unfoldable pub clash_among : List KeptBlock → List ℕ → BeaconBlock → Option ℕ
+clash_among blocks root block =
+    if is_another (option_map (λ kept. kept.block) (block_of blocks root)) block then Some (place_of blocks root) else None
+
 -- how a block with these roots clashes with the kept ones, if it does
 unfoldable pub clash_of : List KeptBlock → List ℕ → List ℕ → BeaconBlock → Option ClashKind
 clash_of blocks root state_root block = clash_with (option_map (λ kept. kept.block) (block_of blocks root)) (place_of blocks root) root state_root block
