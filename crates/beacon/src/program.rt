@@ -4,7 +4,7 @@ use crate::explanation::{Cause, Explanation};
 use crate::progress::{Progress, Watch, WatchedOut, WatchedShelf, WatchedSink};
 use bc_outside::{DiskShelf, StdSink};
 use beacon_node::{Status, beacon_main};
-use command_words::{read_command, what_is_wrong};
+use command_words::{Command, read_command, what_is_wrong};
 use std::alloc::Global;
 use std::io::{Eprint, Print};
 use std::rt::{Env, Files};
@@ -58,12 +58,16 @@ fn cause_of<'a, R: Files, W: io::Write>(
     }
 }
 
-/// The number of the event that was read or whose line was written, where the record was opened: each event before it
-/// has its line.
-fn event_at<R: Files, W: io::Write>(shelf: &DiskShelf<'_, R>, out: &StdSink<W>) -> Option<u64> {
-    match shelf.handed_out(2) {
-        Some(_) => Some(out.lines().saturating_add(1)),
-        None => None,
+/// The number of the event that was read or whose line was written, where the record of `replay` was opened: each event
+/// before it has its line.
+fn event_at<R: Files, W: io::Write>(
+    command: &Option<Command<'_>>,
+    shelf: &DiskShelf<'_, R>,
+    out: &StdSink<W>,
+) -> Option<u64> {
+    match (command, shelf.handed_out(2)) {
+        (Some(Command::Replay(_)), Some(_)) => Some(out.lines().saturating_add(1)),
+        _ => None,
     }
 }
 
@@ -78,12 +82,13 @@ fn explain<'a, R: Eprint + Files, W: io::Write>(
 ) {
     if status.number() != 0 {
         let wrong = what_is_wrong(alloc, words);
+        let command = read_command(alloc, words).ok();
         let explanation = Explanation {
             status,
-            command: read_command(alloc, words).ok(),
+            command,
             wrong: wrong.as_deref(),
             cause: cause_of(status, shelf, out),
-            event: event_at(shelf, out),
+            event: event_at(&command, shelf, out),
             genesis_len: shelf.handed_out(1),
         };
         let _ = eprintln!(rt; "{explanation}");

@@ -72,7 +72,18 @@ const TEXTS: &[(Status, Option<Option<&str>>, Option<u64>, &str)] = &[
         None,
         "Words: no command is named; the commands are `replay CONFIG GENESIS RECORD` `drill NUMBER CONFIG` `genesis CONFIG DEPOSITS` `duties CONFIG STATE EPOCH`",
     ),
-    (Status::NoMemory, None, None, "NoMemory: memory ran out"),
+    (
+        Status::NoMemory,
+        None,
+        None,
+        "NoMemory: \"g\": memory ran out",
+    ),
+    (
+        Status::NoMemory,
+        None,
+        Some(3),
+        "NoMemory: \"r\": event 3: memory ran out",
+    ),
     (
         Status::ReadFault,
         Some(Some("r")),
