@@ -11,13 +11,13 @@ mod tests;
 
 use crate::program::run;
 use crate::progress::Progress;
-use crate::stack::takes_stack;
+use crate::stack::{PAGES, pages_taken};
 use beacon_node::Status;
 use std::process;
 use std::process::ExitCode;
 
 fn main(rt: HostRuntime) -> ExitCode {
-    if !takes_stack(process::id(rt.process()) as usize) {
+    if pages_taken(PAGES, process::id(rt.process()) as usize) > PAGES {
         return ExitCode::from(Status::NoMemory.number());
     }
     let progress = Progress::beside(&rt.stdout(), &rt.stderr());
