@@ -70,11 +70,11 @@ fn frames_end<F: Shelf>(
     all & match stop {
         None => is_at_end(frames, shelf),
         Some((fault, event)) => {
-            let mut stops = stops_by(frames, shelf, FrameStop::Fault(fault));
-            for _ in 0..3u8 {
-                stops &= stops_by(frames, shelf, FrameStop::Fault(fault));
-            }
-            stops & (frames.event_of(fault) == event)
+            stops_by(frames, shelf, FrameStop::Fault(fault))
+                & stops_by(frames, shelf, FrameStop::Fault(fault))
+                & stops_by(frames, shelf, FrameStop::Fault(fault))
+                & stops_by(frames, shelf, FrameStop::Fault(fault))
+                & (frames.event_of(fault) == event)
         }
     }
 }
