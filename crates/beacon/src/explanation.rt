@@ -34,7 +34,7 @@ pub struct Explanation<'a, 'b> {
     pub wrong: Option<&'a str>,
     /// Why the outside failed, where it is known.
     pub cause: Option<Cause<'b>>,
-    /// The event that was read or whose line was written, where the record was opened.
+    /// The event that was read or whose line was written, where a record was opened that gives a line an event.
     pub event: Option<u64>,
     /// How many bytes were taken of the second file, which holds a state or deposits, where it was opened.
     pub genesis_len: Option<usize>,
@@ -147,6 +147,25 @@ fn write_cause<W: fmt::Write>(
         Some(Cause { name: None, error }) => write!(f, "{what}: {error}"),
         None => write!(f, "{what}"),
     }
+}
+
+/// Where memory ran out, as far as it is known: the event of the record, or the state or deposits that were read.
+fn write_no_memory<W: fmt::Write>(
+    f: &mut fmt::Formatter<W>,
+    explanation: &Explanation<'_, '_>,
+) -> fmt::Result {
+    let Origins {
+        genesis,
+        events,
+        ..
+    } = origins_of(&explanation.command);
+    write!(f, "NoMemory: ")?;
+    match (explanation.event, explanation.genesis_len) {
+        (Some(event), _) => write!(f, "{events}: event {event}: ")?,
+        (None, Some(_)) => write!(f, "{genesis}: ")?,
+        (None, None) => {}
+    }
+    write!(f, "memory ran out")
 }
 
 /// A fault of the configuration. A chain is made only where its validators aren't ejected, whatever else the key allows.
@@ -477,7 +496,7 @@ impl fmt::Display for Explanation<'_, '_> {
                 "the lines could not be written",
                 self,
             ),
-            Status::NoMemory => write!(f, "NoMemory: memory ran out"),
+            Status::NoMemory => write_no_memory(f, self),
         }
     }
 }

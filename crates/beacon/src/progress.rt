@@ -1,8 +1,8 @@
 //! The progress of a run, on a terminal beside a file of lines.
 //!
 //! The shelf and the writer of a run are wrapped, and count what passes: the bytes of the record, and the lines, one an
-//! event. The sink is wrapped too, and asks for the slot of the head when it is time to show. No answer depends on it:
-//! contracts see each as what it wraps.
+//! event. The shelf shows each file when it is opened. The sink is wrapped too, and asks for the slot of the head when it is
+//! time to show. No answer depends on it: contracts see each as what it wraps.
 
 ghost use Rattle.std.specs.Prelude.{◌≡◌, ◌<◌, ◌^◌, [], ◌∷◌, length};
 ghost use Rattle.bc_outside.specs.Calls.{FailsOnlyBy, Opens, Reads, ShelfKeeps, SinkKeeps, Writes};
@@ -65,17 +65,29 @@ impl<'a, R: Eprint + Clock> Watch<'a, R> {
     }
 
     /// Shows the progress in place of what was shown before, with the slot of the head. Made events are read of no record.
+    /// A terminal that is narrower than the row cuts it (`?7l`), and leaves none behind.
     fn show(&self, slot: u64) {
         let events = self.events.get();
         let bytes = self.bytes.get();
         let _ = if bytes == 0 {
-            eprint!(self.rt; "\rhead at slot {slot}\x1b[K")
+            eprint!(self.rt; "\r\x1b[?7lhead at slot {slot}\x1b[K\x1b[?7h")
         } else {
             eprint!(self.rt;
-                "\r{events} events, {bytes} bytes of the record, head at slot {slot}\x1b[K"
+                "\r\x1b[?7l{events} events, {bytes} bytes of the record, head at slot {slot}\x1b[K\x1b[?7h"
             )
         };
         self.is_dirty.set(true);
+    }
+
+    /// Shows that a file is read, in place of what was shown before: of a large genesis it takes long until the first event.
+    fn show_file(&self, name: &str) {
+        match self.progress {
+            Progress::Shown => {
+                let _ = eprint!(self.rt; "\r\x1b[?7lreading {name:?}\x1b[K\x1b[?7h");
+                self.is_dirty.set(true);
+            }
+            Progress::Hidden => {}
+        }
     }
 
     /// Whether what was shown is out of date by now, and counts as shown from now on.
@@ -118,7 +130,7 @@ impl<'a, R: Eprint + Clock> Watch<'a, R> {
     }
 }
 
-/// A shelf that counts what is read of the record.
+/// A shelf that shows which file is opened, and counts what is read of the record.
 #[derive(Drop)]
 pub struct WatchedShelf<'a, 'b, F: Shelf + Drop, R: Eprint + Clock> {
     shelf: F,
@@ -150,6 +162,7 @@ impl<'a, 'b, F: Shelf + Drop, R: Eprint + Clock> Shelf for WatchedShelf<'a, 'b, 
         ensures causes { FailsOnlyBy result (F.told self.old.shelf).faults (F.told self.new.shelf).faults }
         ensures keeps { ShelfKeeps (name.now ∷ []) (F.told self.old.shelf) (F.told self.new.shelf) }
     {
+        self.watch.show_file(name);
         self.shelf.open(name)
     }
 

@@ -73,7 +73,18 @@ const TEXTS: &[(Status, Option<Option<&str>>, Option<u64>, &str)] = &[
         None,
         "Words: no command is named; the commands are `replay CONFIG GENESIS RECORD` `drill NUMBER CONFIG` `genesis CONFIG DEPOSITS` `duties CONFIG STATE EPOCH` `anchor CONFIG STATE BLOCK RECORD` `forensic CONFIG GENESIS A B`",
     ),
-    (Status::NoMemory, None, None, "NoMemory: memory ran out"),
+    (
+        Status::NoMemory,
+        None,
+        None,
+        "NoMemory: \"g\": memory ran out",
+    ),
+    (
+        Status::NoMemory,
+        None,
+        Some(3),
+        "NoMemory: \"r\": event 3: memory ran out",
+    ),
     (
         Status::ReadFault,
         Some(Some("r")),
