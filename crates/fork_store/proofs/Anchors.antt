@@ -54,6 +54,20 @@ anchor_parts config state block good =
       time = ltb-true _ _ time.0;
     }
 
+-- the slot's time fits, and so does what is added up to it
+pub anchor_time : (config : ConfigValues) (state : PlainState) (block : BeaconBlock) → anchor_fault config state block ≡ None → state.genesis_time + config.seconds_per_slot * state.slot < 2 ^ 64
+unfolding time_of_slot
+anchor_time config state block good = (anchor_parts config state block good).time
+
+-- the epoch begins at a slot of 64 bits
+pub anchor_low : (config : ConfigValues) (state : PlainState) (block : BeaconBlock) → anchor_fault config state block ≡ None → state.preset ≡ config.preset → state.slot < 2 ^ 64
+    → compute_start_slot_at_epoch config.preset (get_current_epoch state) < 2 ^ 64
+anchor_low config state block good preset low =
+    let parts = anchor_parts config state block good in
+    let start : compute_start_slot_at_epoch config.preset (get_current_epoch state) ≡ state.slot =
+    ap (λ (p : Preset). compute_start_slot_at_epoch p (get_current_epoch state)) (sym preset) ∙ parts.start in
+    omega (arith, start, low)
+
 -- the first block of a store whose roots don't clash, with its state, may be kept
 pub first_is_kept : (config : ConfigValues) (state : PlainState) (block : BeaconBlock) (root : List ℕ) → anchor_fault config state block ≡ None → first_clash block ≡ None → block.slot < 2 ^ 64 → IsRootOf root block
     → IsKept (record { root = root; block = block; state = state })
@@ -113,6 +127,6 @@ genesis_is_anchor config s good low =
     ((bytes_decides _ _).1 (genesis_latest s (genesis_header s (passed (is_genesis_header s.latest_block_header) _ _ slot.1).0)))
     (none_wrong (nat_lt (time_of_slot config s) (2 ^ 64)) _ _ (lt-ltb _ _ (omega (arith, low, time))) refl)))))
 
-pub ruleset opening = (first_is_kept, first_begins, first_is_late)
+pub ruleset opening = (anchor_time, anchor_low, first_is_kept, first_begins, first_is_late)
 
 pub ruleset at_genesis = (genesis_is_anchor)
