@@ -54,10 +54,15 @@ anchor_parts config state block good =
       time = ltb-true _ _ time.0;
     }
 
--- the slot's time fits, and so does what is added up to it
+-- the slot's time fits, and so do the seconds behind genesis
 pub anchor_time : (config : ConfigValues) (state : PlainState) (block : BeaconBlock) → anchor_fault config state block ≡ None → state.genesis_time + config.seconds_per_slot * state.slot < 2 ^ 64
 unfolding time_of_slot
 anchor_time config state block good = (anchor_parts config state block good).time
+
+pub anchor_seconds : (config : ConfigValues) (state : PlainState) (block : BeaconBlock) → anchor_fault config state block ≡ None → config.seconds_per_slot * state.slot < 2 ^ 64
+anchor_seconds config state block good = let low = anchor_time config state block good in omega (arith, low)
+
+pub ruleset timing = (anchor_time, anchor_seconds)
 
 -- the epoch begins at a slot of 64 bits
 pub anchor_low : (config : ConfigValues) (state : PlainState) (block : BeaconBlock) → anchor_fault config state block ≡ None → state.preset ≡ config.preset → state.slot < 2 ^ 64
@@ -127,6 +132,6 @@ genesis_is_anchor config s good low =
     ((bytes_decides _ _).1 (genesis_latest s (genesis_header s (passed (is_genesis_header s.latest_block_header) _ _ slot.1).0)))
     (none_wrong (nat_lt (time_of_slot config s) (2 ^ 64)) _ _ (lt-ltb _ _ (omega (arith, low, time))) refl)))))
 
-pub ruleset opening = (anchor_time, anchor_low, first_is_kept, first_begins, first_is_late)
+pub ruleset opening = (anchor_low, first_is_kept, first_begins, first_is_late)
 
 pub ruleset at_genesis = (genesis_is_anchor)

@@ -87,6 +87,7 @@ fn step_from(
 ) -> Result<Step, Stop>
     requires chained { IsChained store.now }
     requires parent { IsStateBehind store.now.blocks block.now.message.parent_root parent.now }
+    requires low { block.now.message.slot < 2 ^ 64 }
     requires checked { IsDone (check_block store.now block.now.message) }
     ensures step { Gives result (block_step store.now block.now) }
     ensures behind { IfOk result (λ step. IsBehind block.now.message step.state) }
@@ -96,7 +97,6 @@ fn step_from(
     ensures stepped { IfOk result (λ step. IsStepOn store.now.config store.now.blocks block.now step.state) }
 {
     store.is_sound();
-    let _slot = block.message.slot;
     let step = state_transition(alloc, parent, block, store.config())?;
     Ok(step)
 }
@@ -136,6 +136,7 @@ fn block_step(
     ensures stepped { IfOk result (λ step. IsStepOn store.now.config store.now.blocks block.now step.state) }
     ensures same { keeper.new ≡ keeper.old }
 {
+    let _slot = block.message.slot;
     check_block(store, array, parent, &block.message)?;
     match kept_state(store.blocks(), keeper, parent) {
         Ok(state) => step_from(alloc, store, &state, block),
