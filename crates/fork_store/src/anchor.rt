@@ -39,7 +39,6 @@ fn starts_epoch(state: &State) -> bool
 }
 
 /// Whether the state is sound.
-#[tactic(auto, using(spec_fork_choice::proofs::Soundness::testing))]
 fn tests_sound(alloc: Global, state: &State) -> Result<bool, NoMemory>
     ensures { IfOk result (λ sound. tests_sound state.now ≡ sound) }
 {

@@ -7,7 +7,7 @@ ghost use Rattle.spec_fork_choice.specs.Anchor.{anchor_fault, time_of_slot};
 ghost use Rattle.spec_fork_choice.specs.GetForkchoiceStore.{genesis_block, get_forkchoice_store};
 ghost use Rattle.spec_fork_choice.specs.OnEvent.{first_clash, open_at, open_store};
 ghost use Rattle.spec_state.specs.Genesis.{genesis_fault};
-ghost use Rattle.std.specs.Prelude.{◌≡◌, ◌≤◌, ◌∷◌, [], None, IfOk};
+ghost use Rattle.std.specs.Prelude.{◌≡◌, ◌≤◌, ◌<◌, ◌^◌, ◌∷◌, [], None, IfOk};
 ghost use Rattle.fork_store.specs.inside.Accepted.{kept_of};
 ghost use Rattle.fork_store.specs.Keepers.{kept_blocks, IsKeeperOf};
 ghost use Rattle.fork_store.specs.Stores.{IsRootOf};
@@ -92,7 +92,7 @@ fn opening_time(config: &Config, state: &State, block: &BeaconBlock) -> u64
 }
 
 /// The fields of the store whose one block is this, which is the keeper's.
-#[tactic(auto, using(crate::proofs::Anchors::opening, crate::proofs::Trees::tree_of_one, crate::proofs::Keepers::opening), unfolding(spec_fork_choice::specs::GetForkchoiceStore::get_forkchoice_store, crate::specs::Stores::IsRootOf))]
+#[tactic(auto, using(crate::proofs::Keepers::opening), unfolding(spec_fork_choice::specs::GetForkchoiceStore::get_forkchoice_store, crate::specs::Stores::IsRootOf))]
 pub fn forkchoice_fields(
     alloc: Global,
     config: &Config,
@@ -106,9 +106,9 @@ pub fn forkchoice_fields(
     requires keeper { kept_blocks keeper.now.blocks ≡ kept_of root block.now state.now ∷ [] }
     requires root { IsRootOf root block.now }
     requires none { first_clash block.now ≡ None }
+    requires low { block.now.slot < 2 ^ 64 }
     ensures { IfOk result (λ store. store ≡ get_forkchoice_store config.now state.now block.now) }
 {
-    let _slots = (block.slot, state.slot());
     let time = opening_time(config, state, block);
     let blocks = KeptBlocks::of_first(alloc, keeper, root)?;
     let checkpoint = Checkpoint {
@@ -127,7 +127,8 @@ pub fn forkchoice_fields(
     ))
 }
 
-/// The array whose one node is that of the first block, with the balances of the justified checkpoint. The keeper is as before.
+/// The array whose one node is that of the first block, with the store's checkpoints and the balances of the justified one. The keeper is
+/// as before.
 fn first_array(
     alloc: Global,
     store: &StoreFields,
@@ -148,6 +149,7 @@ fn first_array(
     let balances = balances_of(alloc, store, keeper, store.justified())?;
     let mut array = BlockArray::new(alloc, slots_per_epoch, percent, slot, root, facts)?;
     balances.give(&mut array);
+    array.set_checkpoints(0, store.justified(), store.finalized());
     Ok(array)
 }
 
@@ -171,6 +173,7 @@ pub fn first_parts(
     requires keeper { kept_blocks keeper.old.blocks ≡ kept_of root block.now state.now ∷ [] }
     requires root { IsRootOf root block.now }
     requires none { first_clash block.now ≡ None }
+    requires low { block.now.slot < 2 ^ 64 }
     ensures plain { IfOk result (λ parts. parts.0 ≡ get_forkchoice_store config.now state.now block.now) }
     ensures parts { IfOk result (λ parts. AreParts parts.0 parts.1 keeper.new None) }
 {
@@ -193,6 +196,7 @@ fn forkchoice_store(
     requires preset { state.now.preset ≡ config.now.preset }
     requires root { IsRootOf root block.now }
     requires none { first_clash block.now ≡ None }
+    requires low { block.now.slot < 2 ^ 64 }
     ensures { IfOk result (λ store. store.plain ≡ get_forkchoice_store config.now state.now block.now) }
 {
     let mut keeper = first_keeper(alloc, config, state, block, root)?;
@@ -217,6 +221,7 @@ fn open_at(
     requires preset { state.now.preset ≡ config.now.preset }
     ensures { StoreGivesBy (λ store. store.plain) result (open_at config.now state.now block.now) }
 {
+    let _slot = block.slot;
     let root = block.root();
     match first_clash(block, root) {
         Some(kind) => Err(StoreStop::Clash(kind)),
