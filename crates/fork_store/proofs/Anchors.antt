@@ -1,5 +1,5 @@
 -- An anchor by its parts: what holds of a state and a block with which nothing is wrong, and that a genesis with its block is one.
-use Rattle.std.proofs.Common.{◌≡◌, ◌≤◌, ◌<◌, ◌+◌, ◌*◌, ◌/◌, ◌^◌, ℕ, Bool, true, false, cond, not, nat_lt, List, [], Option, None, Some, refl, sym, ap, arith, ◌∙◌}
+use Rattle.std.proofs.Common.{◌≡◌, ◌≤◌, ◌<◌, ◌+◌, ◌*◌, ◌/◌, ◌^◌, ℕ, Bool, true, false, cond, not, nat_lt, List, [], ◌∷◌, Option, None, Some, refl, sym, ap, arith, ◌∙◌}
 use Rattle.std.specs.Prelude.{◌==◌}
 use Rattle.std.specs.Cmp.Lexicographic.{bytes_decides}
 use Rattle.std.proofs.lemmas.Bool.{eqb-true, eq-eqb, ltb-true, lt-ltb}
@@ -18,8 +18,8 @@ use Rattle.spec_state.specs.States.{state_codec}
 use Rattle.spec_state.proofs.Genesis.{genesis_sound}
 use Rattle.spec_transition.specs.StateTransition.{IsLatest}
 use Rattle.spec_fork_choice.specs.Anchor.{anchor_fault, time_of_slot}
-use Rattle.spec_fork_choice.specs.GetForkchoiceStore.{genesis_block}
-use Rattle.spec_fork_choice.specs.OnEvent.{first_clash}
+use Rattle.spec_fork_choice.specs.GetForkchoiceStore.{genesis_block, genesis_store, get_forkchoice_store}
+use Rattle.spec_fork_choice.specs.OnEvent.{first_clash, genesis_clash, open_at, open_store, open_unless}
 use Rattle.spec_fork_choice.specs.Soundness.{is_sound}
 use Rattle.spec_fork_choice.specs.Store.{KeptBlock, first_slot}
 use Rattle.spec_fork_choice.proofs.Soundness.{soundness_is_tested}
@@ -53,6 +53,25 @@ anchor_parts config state block good =
       header = (bytes_decides _ _).0 header.0;
       time = ltb-true _ _ time.0;
     }
+
+-- the slot's time fits, and so do the seconds behind genesis
+pub anchor_time : (config : ConfigValues) (state : PlainState) (block : BeaconBlock) → anchor_fault config state block ≡ None → state.genesis_time + config.seconds_per_slot * state.slot < 2 ^ 64
+unfolding time_of_slot
+anchor_time config state block good = (anchor_parts config state block good).time
+
+pub anchor_seconds : (config : ConfigValues) (state : PlainState) (block : BeaconBlock) → anchor_fault config state block ≡ None → config.seconds_per_slot * state.slot < 2 ^ 64
+anchor_seconds config state block good = let low = anchor_time config state block good in omega (arith, low)
+
+pub ruleset timing = (anchor_time, anchor_seconds)
+
+-- the epoch begins at a slot of 64 bits
+pub anchor_low : (config : ConfigValues) (state : PlainState) (block : BeaconBlock) → anchor_fault config state block ≡ None → state.preset ≡ config.preset → block.slot < 2 ^ 64
+    → compute_start_slot_at_epoch config.preset (get_current_epoch state) < 2 ^ 64
+anchor_low config state block good preset low =
+    let parts = anchor_parts config state block good in
+    let start : compute_start_slot_at_epoch config.preset (get_current_epoch state) ≡ state.slot =
+    ap (λ (p : Preset). compute_start_slot_at_epoch p (get_current_epoch state)) (sym preset) ∙ parts.start in
+    omega (arith, start, parts.slot, low)
 
 -- the first block of a store whose roots don't clash, with its state, may be kept
 pub first_is_kept : (config : ConfigValues) (state : PlainState) (block : BeaconBlock) (root : List ℕ) → anchor_fault config state block ≡ None → first_clash block ≡ None → block.slot < 2 ^ 64 → IsRootOf root block
@@ -103,16 +122,20 @@ pub genesis_is_anchor : (config : ConfigValues) (s : PlainState) → genesis_fau
 unfolding anchor_fault genesis_fault genesis_block get_current_epoch time_of_slot IsLatest
 genesis_is_anchor config s good low =
     let slot = passed (s.slot == 0) _ _ good in
+    let state_root : List ℕ = (state_codec s.preset).hash_tree_root s in
     let at : s.slot ≡ 0 = eqb-true _ _ slot.0 in
     let time : config.seconds_per_slot * s.slot ≡ 0 = ap (λ n. config.seconds_per_slot * n) at ∙ omega arith in
     none_wrong (compute_start_slot_at_epoch s.preset (get_current_epoch s) == s.slot) _ _ (eq-eqb _ _ (zero_start s.preset.slots_per_epoch s.slot at))
     (none_wrong (s.slot == 0) _ _ slot.0
     (none_wrong (is_sound s) _ _ ((soundness_is_tested s).1 (genesis_sound s good))
-    (none_wrong (same_root ((state_codec s.preset).hash_tree_root s) ((state_codec s.preset).hash_tree_root s)) _ _ ((bytes_decides _ _).1 refl)
+    (none_wrong (same_root state_root state_root) _ _ ((bytes_decides state_root state_root).1 refl)
     (none_wrong (same_root (header_root_of s) (block_codec.hash_tree_root (genesis_block s))) _ _
-    ((bytes_decides _ _).1 (genesis_latest s (genesis_header s (passed (is_genesis_header s.latest_block_header) _ _ slot.1).0)))
+    ((bytes_decides (header_root_of s) (block_codec.hash_tree_root (genesis_block s))).1 (genesis_latest s (genesis_header s (passed (is_genesis_header s.latest_block_header) _ _ slot.1).0)))
     (none_wrong (nat_lt (time_of_slot config s) (2 ^ 64)) _ _ (lt-ltb _ _ (omega (arith, low, time))) refl)))))
 
-pub ruleset opening = (first_is_kept, first_begins, first_is_late)
-
 pub ruleset at_genesis = (genesis_is_anchor)
+
+-- and the store opens at it as at genesis
+pub opens_alike : (config : ConfigValues) (genesis : PlainState) (block : BeaconBlock) → block ≡ genesis_block genesis → open_at config genesis block ≡ open_store config genesis
+unfolding open_at open_store genesis_clash genesis_store
+opens_alike config genesis block is = ap (λ (b : BeaconBlock). open_unless (first_clash b) (get_forkchoice_store config genesis b)) is

@@ -5,7 +5,7 @@ use Rattle.bc_preset.specs.declared.configuration.ConfigValues.{ConfigValues}
 use Rattle.beacon_types.specs.Equality.{same_root}
 use Rattle.beacon_body.specs.Containers.{block_codec}
 use Rattle.beacon_body.specs.declared.block.BeaconBlock.{BeaconBlock}
-use Rattle.block_array.specs.Calls.{new_array, with_balances}
+use Rattle.block_array.specs.Calls.{new_array, with_balances, with_checkpoints}
 use Rattle.spec_state.specs.declared.plain.PlainState.{PlainState}
 use Rattle.spec_state.specs.Genesis.{zero_root}
 use Rattle.spec_fork_choice.specs.Store.{KeptBlock, block_of, is_kept}
@@ -37,9 +37,9 @@ one_unkept kept h = ap (λ b. is_some (cond b (Some kept) None)) h
 pub first_array : (config : ConfigValues) (state : PlainState) (block : BeaconBlock) (balances : List ℕ) (count total : ℕ) → first_clash block ≡ None
     → record { list = balances; count = count; total = total } ≡ balances_of
     (store_target_checkpoint_state (get_forkchoice_store config state block) (get_forkchoice_store config state block).justified_checkpoint)
-    → IsArrayOf (get_forkchoice_store config state block) (with_balances
+    → IsArrayOf (get_forkchoice_store config state block) (with_checkpoints (with_balances
     (new_array config.preset.slots_per_epoch config.proposer_score_boost block.slot (block_codec.hash_tree_root block) (facts_of state))
-    balances count total)
+    balances count total) 0 (get_forkchoice_store config state block).justified_checkpoint (get_forkchoice_store config state block).finalized_checkpoint)
 unfolding get_forkchoice_store first_clash nodes_of nodes_behind node_of node_number is_kept block_of messages_at IsBoostedNode balances_at
 first_array config state block balances count total none ready =
     let root : List ℕ = block_codec.hash_tree_root block in

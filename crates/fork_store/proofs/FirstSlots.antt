@@ -1,13 +1,14 @@
 -- No kept block and no checkpoint is before the first kept block, which stays the first one.
-use Rattle.std.proofs.Common.{◌≡◌, ◌≤◌, ◌<◌, ◌+◌, ◌*◌, ◌/◌, ◌%◌, ℕ, List, [], ◌∷◌, ◌++◌, length, length-append, Option, Some, sym, subst, ap, arith, inl, inr, refl}
+use Rattle.std.proofs.Common.{◌≡◌, ◌≤◌, ◌<◌, ◌+◌, ◌*◌, ◌/◌, ◌%◌, ℕ, zero, suc, List, [], ◌∷◌, ◌++◌, length, length-append, Option, Some, None, true, is_some, sym, subst, ap, arith, inl, inr, refl}
 use Rattle.std.specs.List.{AllByRecursion}
 use Rattle.std.specs.Option.{option_map_or}
-use Rattle.std.proofs.Math.Nat.{lt-div-mul-add, mul-le-mul_right, suc-mul}
+use Rattle.std.proofs.Math.Nat.{div-mul-le_self, div-zero, lt-div-mul-add, mul-le-mul_right, suc-mul}
+use Rattle.std.proofs.lemmas.Nat.{le-div}
 use Rattle.state_parts.proofs.Within.{all_push}
 use Rattle.bc_preset.specs.declared.presets.Preset.{Preset}
 use Rattle.beacon_types.specs.declared.checkpoint.Checkpoint.{Checkpoint}
 use Rattle.spec_state.specs.Misc.{compute_epoch_at_slot, compute_start_slot_at_epoch}
-use Rattle.spec_fork_choice.specs.Store.{KeptBlock, Store, block_of, first_slot, slot_of}
+use Rattle.spec_fork_choice.specs.Store.{KeptBlock, Store, block_of, first_slot, is_kept, slot_of}
 use Rattle.spec_fork_choice.specs.Slots.{start_slot_of}
 use Rattle.fork_store.specs.Stores.{IsStore, IsLate, first_epoch}
 use Rattle.fork_store.specs.Trees.{IsTreeBehind, IsTree}
@@ -84,3 +85,23 @@ late_start store checkpoint good late =
     let start : first * n ≡ first_slot store.blocks = good.begins in
     let more : first * n ≤ checkpoint.epoch * n = starts_late n first checkpoint.epoch late in
     omega (arith, start, more)
+
+epochs_rise : (n a b : ℕ) → a ≤ b → a / n ≤ b / n
+epochs_rise zero a b less = omega (arith, div-zero a, div-zero b)
+epochs_rise (suc n) a b less = le-div (a / suc n) b (suc n) (omega arith) (omega (arith, less, div-mul-le_self a (suc n)))
+
+-- So the target of a vote isn't before that block, where it is of the epoch of the vote's slot, and the block that the vote is for isn't
+-- later than that slot
+pub late_target : (store : Store) (target : Checkpoint) (root : List ℕ) (slot : ℕ) → IsStore store → is_kept store.blocks root ≡ true → slot_of store.blocks root ≤ slot
+    → compute_epoch_at_slot store.config.preset slot ≡ target.epoch → first_slot store.blocks ≤ start_slot_of store target
+unfolding first_epoch is_kept
+late_target store target root slot good kept later epoch =
+    let n : ℕ = store.config.preset.slots_per_epoch in
+    let (k, there) = found_kept (block_of store.blocks root) kept in
+    let first : first_slot store.blocks ≤ slot = let late = slot_late store.blocks root k good.tree there in omega (arith, late, later) in
+    let less : first_slot store.blocks / n ≤ slot / n = epochs_rise n _ _ first in
+    late_start store target good (omega (arith, less, epoch))
+  where
+    found_kept : (o : Option KeptBlock) → is_some o ≡ true → (kept : KeptBlock) × (o ≡ Some kept)
+    found_kept (Some k) is = (k, refl)
+    found_kept None is = absurd cc

@@ -1,6 +1,6 @@
 -- Numbers of slots fit.
 use Rattle.std.proofs.Common.{◌≡◌, ℕ, ◌*◌, ◌/◌, ◌<◌, ◌≤◌, ◌^◌, arith, subst}
-use Rattle.std.proofs.Math.Nat.{div-mul-le_self, mul-div-le, mul-le-mul_left, mul_comm}
+use Rattle.std.proofs.Math.Nat.{mul-div-le, mul-le-mul_left, mul_comm}
 use Rattle.bc_preset.specs.declared.presets.Preset.{Preset}
 use Rattle.spec_state.specs.declared.plain.PlainState.{PlainState}
 use Rattle.spec_state.specs.Accessors.{get_current_epoch, get_previous_epoch}
@@ -21,9 +21,6 @@ justified_is_low s preset sound is low = subst (λ (p : Preset). s.current_justi
     let e : ℕ = s.current_justified_checkpoint.epoch in
     let q : ℕ = s.slot / n in
     omega (arith, low, sound.current_justified, previous_first s, mul-div-le s.slot n, mul-le-mul_left {m = e} {n = q} n (omega (arith, sound.current_justified, previous_first s)), mul_comm n e))
-
--- the first slot of a slot's epoch isn't behind it
-pub ruleset starting = (div-mul-le_self)
 
 -- the seconds of a slot fit in 128 bits, and so does the time behind any number of them
 pub seconds_fit : (seconds slot : ℕ) → seconds < 2 ^ 32 → slot < 2 ^ 64 → seconds * slot < 2 ^ 96

@@ -9,7 +9,6 @@ ghost use Rattle.spec_fork_choice.specs.Anchor.{anchor_fault, time_of_slot};
 ghost use Rattle.spec_fork_choice.specs.Soundness.{is_sound as tests_sound};
 ghost use Rattle.fork_store.specs.Anchors.{AnswersAnchor};
 
-use balance_totals::current_epoch;
 use bc_preset::Config;
 use bc_words::NoMemory;
 use beacon_body::BeaconBlock;
@@ -29,22 +28,24 @@ pub enum AnchorStop {
 }
 
 /// Whether the state's slot is its epoch's first.
-#[tactic(auto, using(crate::proofs::Numbers::starting))]
+#[tactic(auto, unfolding(spec_state::specs::Accessors::get_current_epoch))]
 fn starts_epoch(state: &State) -> bool
     ensures { result ≡ (compute_start_slot_at_epoch state.now.preset (get_current_epoch state.now) == state.now.slot) }
 {
     let preset = state.preset();
     preset.bounds();
     let slot = state.slot();
-    current_epoch(state) * preset.slots_per_epoch == slot
+    slot / preset.slots_per_epoch * preset.slots_per_epoch == slot
 }
 
 /// Whether the state is sound.
-#[tactic(auto, using(spec_fork_choice::proofs::Soundness::testing))]
 fn tests_sound(alloc: Global, state: &State) -> Result<bool, NoMemory>
     ensures { IfOk result (λ sound. tests_sound state.now ≡ sound) }
 {
-    is_sound(alloc, state)
+    match is_sound(alloc, state) {
+        Ok(sound) => Ok(sound),
+        Err(refused) => Err(refused),
+    }
 }
 
 /// Whether the time of the state's slot fits in 64 bits.

@@ -3,11 +3,11 @@
 //! A state and its block come from files, or a genesis state alone, whose block is made; both, the keeper, the fields and the array
 //! of them make the store.
 
-ghost use Rattle.spec_fork_choice.specs.Anchor.{anchor_fault};
+ghost use Rattle.spec_fork_choice.specs.Anchor.{anchor_fault, time_of_slot};
 ghost use Rattle.spec_fork_choice.specs.GetForkchoiceStore.{genesis_block, get_forkchoice_store};
 ghost use Rattle.spec_fork_choice.specs.OnEvent.{first_clash, open_at, open_store};
 ghost use Rattle.spec_state.specs.Genesis.{genesis_fault};
-ghost use Rattle.std.specs.Prelude.{◌≡◌, ◌∷◌, [], None, IfOk};
+ghost use Rattle.std.specs.Prelude.{◌≡◌, ◌≤◌, ◌<◌, ◌^◌, ◌∷◌, [], None, IfOk};
 ghost use Rattle.fork_store.specs.inside.Accepted.{kept_of};
 ghost use Rattle.fork_store.specs.Keepers.{kept_blocks, IsKeeperOf};
 ghost use Rattle.fork_store.specs.Stores.{IsRootOf};
@@ -70,16 +70,29 @@ pub fn first_keeper(
     ensures blocks { IfOk result (λ keeper. kept_blocks keeper.blocks ≡ kept_of root block.now state.now ∷ []) }
 {
     let state = state.share()?;
+    let message = block.copy(alloc)?;
     let signed = SignedBeaconBlock {
-        message: block.copy(alloc)?,
+        message,
         signature: [0; 96],
     };
     let keeper = Keeper::new(alloc, ChainStepper::new(config), signed, state)?;
     Ok(keeper)
 }
 
+/// When the slot of an anchor begins, in seconds.
+#[tactic(auto, using(crate::proofs::Anchors::timing), unfolding(spec_fork_choice::specs::Anchor::time_of_slot))]
+fn opening_time(config: &Config, state: &State, block: &BeaconBlock) -> u64
+    requires { anchor_fault config.now state.now block.now ≡ None }
+    ensures exact { result ≡ time_of_slot config.now state.now }
+    ensures later { state.now.genesis_time ≤ result }
+{
+    let _block = block;
+    let seconds = config.seconds_per_slot() * state.slot();
+    state.genesis_time() + seconds
+}
+
 /// The fields of the store whose one block is this, which is the keeper's.
-#[tactic(auto, using(crate::proofs::Anchors::opening, crate::proofs::Trees::tree_of_one, crate::proofs::Keepers::opening), unfolding(spec_fork_choice::specs::GetForkchoiceStore::get_forkchoice_store, spec_fork_choice::specs::Anchor::time_of_slot, crate::specs::Stores::IsRootOf))]
+#[tactic(auto, using(crate::proofs::Keepers::opening), unfolding(spec_fork_choice::specs::GetForkchoiceStore::get_forkchoice_store, crate::specs::Stores::IsRootOf))]
 pub fn forkchoice_fields(
     alloc: Global,
     config: &Config,
@@ -93,21 +106,29 @@ pub fn forkchoice_fields(
     requires keeper { kept_blocks keeper.now.blocks ≡ kept_of root block.now state.now ∷ [] }
     requires root { IsRootOf root block.now }
     requires none { first_clash block.now ≡ None }
+    requires low { block.now.slot < 2 ^ 64 }
     ensures { IfOk result (λ store. store ≡ get_forkchoice_store config.now state.now block.now) }
 {
-    let _slot = block.slot;
-    let genesis_time = state.genesis_time();
-    let time = genesis_time + config.seconds_per_slot() * state.slot();
+    let time = opening_time(config, state, block);
     let blocks = KeptBlocks::of_first(alloc, keeper, root)?;
     let checkpoint = Checkpoint {
         epoch: current_epoch(state),
         root,
     };
     let states = CheckpointStates::new(alloc);
-    Ok(StoreFields::as_opened(*config, time, genesis_time, checkpoint, blocks, states))
+    let genesis_time = state.genesis_time();
+    Ok(StoreFields::as_opened(
+        *config,
+        time,
+        genesis_time,
+        checkpoint,
+        blocks,
+        states,
+    ))
 }
 
-/// The array whose one node is that of the first block, with the balances of the justified checkpoint. The keeper is as before.
+/// The array whose one node is that of the first block, with the store's checkpoints and the balances of the justified one. The keeper is
+/// as before.
 fn first_array(
     alloc: Global,
     store: &StoreFields,
@@ -128,6 +149,7 @@ fn first_array(
     let balances = balances_of(alloc, store, keeper, store.justified())?;
     let mut array = BlockArray::new(alloc, slots_per_epoch, percent, slot, root, facts)?;
     balances.give(&mut array);
+    array.set_checkpoints(0, store.justified(), store.finalized());
     Ok(array)
 }
 
@@ -151,6 +173,7 @@ pub fn first_parts(
     requires keeper { kept_blocks keeper.old.blocks ≡ kept_of root block.now state.now ∷ [] }
     requires root { IsRootOf root block.now }
     requires none { first_clash block.now ≡ None }
+    requires low { block.now.slot < 2 ^ 64 }
     ensures plain { IfOk result (λ parts. parts.0 ≡ get_forkchoice_store config.now state.now block.now) }
     ensures parts { IfOk result (λ parts. AreParts parts.0 parts.1 keeper.new None) }
 {
@@ -173,6 +196,7 @@ fn forkchoice_store(
     requires preset { state.now.preset ≡ config.now.preset }
     requires root { IsRootOf root block.now }
     requires none { first_clash block.now ≡ None }
+    requires low { block.now.slot < 2 ^ 64 }
     ensures { IfOk result (λ store. store.plain ≡ get_forkchoice_store config.now state.now block.now) }
 {
     let mut keeper = first_keeper(alloc, config, state, block, root)?;
@@ -197,6 +221,7 @@ fn open_at(
     requires preset { state.now.preset ≡ config.now.preset }
     ensures { StoreGivesBy (λ store. store.plain) result (open_at config.now state.now block.now) }
 {
+    let _slot = block.slot;
     let root = block.root();
     match first_clash(block, root) {
         Some(kind) => Err(StoreStop::Clash(kind)),

@@ -89,6 +89,7 @@ fn step_from<V: Visitor>(
 ) -> Result<Step, Stop>
     requires chained { IsChained store.now }
     requires parent { IsStateBehind store.now.blocks block.now.message.parent_root parent.now }
+    requires low { block.now.message.slot < 2 ^ 64 }
     requires checked { IsDone (check_block store.now block.now.message) }
     ensures step { Gives result (block_step store.now block.now) }
     ensures behind { IfOk result (λ step. IsBehind block.now.message step.state) }
@@ -99,7 +100,6 @@ fn step_from<V: Visitor>(
     ensures shown { IfOk result (λ step. visitor.new.visitor ≡ shown_all V.shown visitor.old.visitor step.entered) }
 {
     store.is_sound();
-    let _slot = block.message.slot;
     let step = visit_step(alloc, parent, block, store.config(), visitor)?;
     Ok(step)
 }
@@ -142,6 +142,7 @@ fn block_step<V: Visitor>(
     ensures shown { IfOk result (λ step. visitor.new.visitor ≡ shown_all V.shown visitor.old.visitor step.entered) }
     ensures same { keeper.new ≡ keeper.old }
 {
+    let _slot = block.message.slot;
     check_block(store, array, parent, &block.message)?;
     match kept_state(store.blocks(), keeper, parent) {
         Ok(state) => step_from(alloc, store, &state, block, visitor),

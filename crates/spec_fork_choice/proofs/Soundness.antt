@@ -92,5 +92,3 @@ tested s false h = elim (cases_Bool (is_sound s)) [
   | inl sound ↦ absurd (let no : false ≡ true = h.1 ((soundness_is_tested s).0 sound) in cc)
   | inr unsound ↦ unsound
 ]
-
-pub ruleset testing = (tested)

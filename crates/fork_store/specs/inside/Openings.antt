@@ -4,7 +4,7 @@ use Rattle.bc_preset.specs.declared.configuration.ConfigValues.{ConfigValues}
 use Rattle.beacon_types.specs.declared.checkpoint.Checkpoint.{Checkpoint}
 use Rattle.spec_state.specs.Genesis.{zero_root}
 use Rattle.block_array.specs.PlainArray.{PlainArray}
-use Rattle.block_array.specs.Calls.{new_array, with_balances}
+use Rattle.block_array.specs.Calls.{new_array, with_balances, with_checkpoints}
 use Rattle.block_array.specs.declared.facts.Facts.{Facts}
 use Rattle.fork_store.specs.Arrays.{Balances}
 use Rattle.fork_store.specs.inside.Wholes.{balances_for}
@@ -24,8 +24,10 @@ as_opened config time genesis_time checkpoint blocks messages = record {
   latest_messages = messages;
 }
 
--- the array of a store whose one block has this slot and root and facts of its state
+-- the array of a store whose one block has this slot and root and facts of its state: it has the store's checkpoints
 abbrev pub array_as_opened : Store → ℕ → List ℕ → Facts → PlainArray
 array_as_opened store slot root facts =
     let balances : Balances = balances_for store store.justified_checkpoint in
-    with_balances (new_array store.config.preset.slots_per_epoch store.config.proposer_score_boost slot root facts) balances.list balances.count balances.total
+    with_checkpoints
+    (with_balances (new_array store.config.preset.slots_per_epoch store.config.proposer_score_boost slot root facts) balances.list balances.count balances.total)
+    0 store.justified_checkpoint store.finalized_checkpoint

@@ -34,7 +34,7 @@ returns-clause-parent g c = step_parent c.args.store.now c.args.block.now c.args
 
 pub returns-clause-linked : goal.returns-clause-linked
 returns-clause-linked g c =
-    step_linked c.args.store.now c.args.block.now c.args.parent.now c.in_ok-step.step c.requires.parent (rw (← c.config.ensures) c.in_ok-step.ensures.step) c.requires.chained c.is_sound.ensures.preset c.slot_low
+    step_linked c.args.store.now c.args.block.now c.args.parent.now c.in_ok-step.step c.requires.parent (rw (← c.config.ensures) c.in_ok-step.ensures.step) c.requires.chained c.is_sound.ensures.preset c.requires.low
 
 pub returns-clause-stepped : goal.returns-clause-stepped
 returns-clause-stepped g c =
