@@ -12,12 +12,14 @@ use Rattle.bc_words.specs.declared.stop.Stop.{Stop}
 use Rattle.bc_words.specs.declared.stop.Stop.TheVariants as stops
 use Rattle.bc_words.specs.declared.refusal.Refusal.TheVariants.{Overflow}
 use Rattle.bc_words.proofs.Sums.{checked_sum_fits, checked_sum_overflows}
+use Rattle.beacon_types.specs.declared.checkpoint.Checkpoint.{Checkpoint}
 use Rattle.beacon_types.specs.declared.validator.Validator.{Validator}
 use Rattle.spec_state.specs.declared.plain.PlainState.{PlainState}
 use Rattle.spec_state.specs.Genesis.{genesis_fault}
 use Rattle.spec_state.specs.Misc.{effective_balance}
 use Rattle.spec_state.specs.Predicates.{is_active_validator}
 use Rattle.spec_state.specs.Accessors.{get_current_epoch, get_active_validator_indices, get_total_balance}
+use Rattle.balance_totals.proofs.LeftOf.{others_left}
 use Rattle.balance_totals.proofs.ActiveLeft.{sum_left, sum_begins}
 use Rattle.ffg_law.specs.Weights.{weight_from, weight_of, among}
 use Rattle.ffg_law.proofs.Weights.{weight_within}
@@ -26,10 +28,12 @@ use Rattle.spec_forensics.specs.declared.offence.Offence.{Offence}
 use Rattle.spec_forensics.specs.Histories.{AcceptedBlock}
 use Rattle.spec_forensics.specs.Offences.{slashable_pair, surrounds, kind_of, offence_by, offence_of, listed, offences_below}
 use Rattle.spec_forensics.specs.Steady.{genesis_weights, genesis_total}
-use Rattle.spec_forensics.specs.Verdict.{balance_of, offences_of}
+use Rattle.spec_forensics.specs.Verdict.{is_agreed, moved_on, finalizing_chain, balance_of, offences_of, unless_moved, verdict_of}
+use Rattle.spec_forensics.specs.declared.verdict.Verdict.TheVariants.{Agree, Small, Conflict}
 use Rattle.vote_spans.specs.Carried.{Held, Holds, all_votes_by, has_offence}
 use Rattle.vote_spans.proofs.CarriedOffences.{offends_is}
 use Rattle.forensics.specs.Books.{IsBeginning}
+use Rattle.forensics.specs.inside.Offenders.{counts}
 use Rattle.forensics.specs.inside.Whole.{carried_in}
 use Rattle.forensics.proofs.Votes.{votes_held}
 
@@ -51,12 +55,13 @@ weight v = cond (is_active_validator v 0) v.effective_balance 0
 nothing_more : (n : ℕ) → 0 + n ≡ n
 nothing_more n = omega arith
 
+one_weighed : (b : Bool) (v : Validator) (rest : List Validator) (n : ℕ) → sum_by (λ (w : Validator). w.effective_balance) rest ≡ n → sum_by (λ (w : Validator). w.effective_balance) (cond b (v ∷ rest) rest) ≡ cond b v.effective_balance 0 + n
+one_weighed true v rest n is = sum_by-cons (λ (w : Validator). w.effective_balance) v rest ∙ ap (λ m. v.effective_balance + m) is
+one_weighed false v rest n is = is ∙ sym (nothing_more n)
+
 filtered_sum : (vs : List Validator) → sum_by (λ (v : Validator). v.effective_balance) (filter (λ v. is_active_validator v 0) vs) ≡ sum (map weight vs)
 filtered_sum [] = refl
-filtered_sum (v ∷ vs) = elim (is_active_validator v 0) as (λ b. sum_by (λ (v : Validator). v.effective_balance) (cond b (v ∷ filter (λ v. is_active_validator v 0) vs) (filter (λ v. is_active_validator v 0) vs)) ≡ cond b v.effective_balance 0 + sum (map weight vs)) [
-  | true ↦ sum_by-cons (λ (w : Validator). w.effective_balance) v (filter (λ v. is_active_validator v 0) vs) ∙ ap (λ n. v.effective_balance + n) (filtered_sum vs)
-  | false ↦ filtered_sum vs ∙ sym (nothing_more (sum (map weight vs)))
-]
+filtered_sum (v ∷ vs) = one_weighed (is_active_validator v 0) v (filter (λ v. is_active_validator v 0) vs) (sum (map weight vs)) (filtered_sum vs) ∙ sym (sum_by-cons (λ (x : ℕ). x) (weight v) (map weight vs))
 
 summed : (genesis : PlainState) → checked_sum_by (effective_balance genesis.validators) (get_active_validator_indices genesis 0) ≡ checked_sum_by (λ (v : Validator). v.effective_balance) (filter (λ v. is_active_validator v 0) genesis.validators)
 unfolding checked_sum_by sum_left
@@ -113,30 +118,61 @@ opened set i v left active offends is has =
     ap (λ b. cond b (cond (is_active_validator v 0) v.effective_balance 0) 0 + weight_from set (i + 1) (weights_left left)) has
     ∙ ap (λ b. cond offends (cond b v.effective_balance 0) 0 + weight_from set (i + 1) (weights_left left)) is
 
-pub weigh_more : (set : ℕ → Bool) (i balance : ℕ) (v : Validator) (left : List Validator) → is_active_validator v 0 ≡ true → set i ≡ true
-    → (balance + v.effective_balance) + weight_from set (i + 1) (weights_left left) ≡ balance + weight_from set i (weights_left (v ∷ left))
-weigh_more set i balance v left is has = let e = opened set i v left true true is has in omega arith
+both_hold : (a b : Bool) → a && b ≡ true → (a ≡ true) × (b ≡ true)
+both_hold true b h = (refl, h)
+both_hold false b h = absurd cc
 
-pub weigh_idle : (set : ℕ → Bool) (i balance : ℕ) (v : Validator) (left : List Validator) → is_active_validator v 0 ≡ false
-    → balance + weight_from set (i + 1) (weights_left left) ≡ balance + weight_from set i (weights_left (v ∷ left))
-weigh_idle set i balance v left is = by (set i) refl
-  where
-    by : (b : Bool) → set i ≡ b → balance + weight_from set (i + 1) (weights_left left) ≡ balance + weight_from set i (weights_left (v ∷ left))
-    by true has = let e = opened set i v left false true is has in omega arith
-    by false has = let e = opened set i v left false false is has in omega arith
+module _ (votes : Held) (i balance : ℕ) (v : Validator) (left : List Validator) where
+  pub weigh_more : counts votes i v ≡ true → (balance + v.effective_balance) + weight_from (has_offence votes) (i + 1) (weights_left left) ≡ balance + weight_from (has_offence votes) i (weights_left (v ∷ left))
+  unfolding counts
+  weigh_more is =
+      let both = both_hold (is_active_validator v 0) (has_offence votes i) is in
+      let e = opened (has_offence votes) i v left true true both.0 both.1 in
+      omega arith
 
-pub weigh_others : (set : ℕ → Bool) (i balance : ℕ) (v : Validator) (left : List Validator) → set i ≡ false
-    → balance + weight_from set (i + 1) (weights_left left) ≡ balance + weight_from set i (weights_left (v ∷ left))
-weigh_others set i balance v left has = let e = opened set i v left (is_active_validator v 0) false refl has in omega arith
+  pub weigh_others : counts votes i v ≡ false → balance + weight_from (has_offence votes) (i + 1) (weights_left left) ≡ balance + weight_from (has_offence votes) i (weights_left (v ∷ left))
+  unfolding counts
+  weigh_others is = by (is_active_validator v 0) (has_offence votes i) refl refl
+    where
+      by : (active offends : Bool) → is_active_validator v 0 ≡ active → has_offence votes i ≡ offends → balance + weight_from (has_offence votes) (i + 1) (weights_left left) ≡ balance + weight_from (has_offence votes) i (weights_left (v ∷ left))
+      by true true one other = absurd (let e : true ≡ false = sym (ap (λ b. b && has_offence votes i) one ∙ ap (λ b. true && b) other) ∙ is in cc)
+      by true false one other = let e = opened (has_offence votes) i v left true false one other in omega arith
+      by false true one other = let e = opened (has_offence votes) i v left false true one other in omega arith
+      by false false one other = let e = opened (has_offence votes) i v left false false one other in omega arith
 
--- the sum fits
-pub weigh_fits : (genesis : PlainState) (set : ℕ → Bool) (i balance : ℕ) (v : Validator) (left : List Validator) → IsBeginning genesis → balance + weight_from set i (weights_left (v ∷ left)) ≡ weight_of (genesis_weights genesis) set
-    → is_active_validator v 0 ≡ true → set i ≡ true → balance + v.effective_balance < 2 ^ 64
-weigh_fits genesis set i balance v left begins sums is has =
-    let e = weigh_more set i balance v left is has in
-    let most = weight_within set 0 (genesis_weights genesis) in
-    let fits = weights_fit genesis begins in
-    omega arith
+  -- the sum fits
+  pub weigh_fits : (genesis : PlainState) → IsBeginning genesis → balance + weight_from (has_offence votes) i (weights_left (v ∷ left)) ≡ weight_of (genesis_weights genesis) (has_offence votes) → counts votes i v ≡ true → balance + v.effective_balance < 2 ^ 64
+  weigh_fits genesis begins sums is =
+      let e = weigh_more is in
+      let most = weight_within (has_offence votes) 0 (genesis_weights genesis) in
+      let fits = weights_fit genesis begins in
+      omega arith
+
+-- ---- the same at a step of a loop
+
+module _ (genesis : PlainState) (votes : Held) (balance count now_count index : ℕ) (iter now : List Validator) (v : Validator) (steps : (iter ≡ v ∷ now) × (index ≡ count) × (now_count ≡ count + 1) × (index + 1 < 2 ^ 64))
+    (sums : balance + weight_from (has_offence votes) count (weights_left iter) ≡ weight_of (genesis_weights genesis) (has_offence votes)) where
+  sums_there : balance + weight_from (has_offence votes) count (weights_left (v ∷ now)) ≡ weight_of (genesis_weights genesis) (has_offence votes)
+  sums_there = ap (λ (vs : List Validator). balance + weight_from (has_offence votes) count (weights_left vs)) (sym steps.0) ∙ sums
+
+  counts_there : (b : Bool) (result : Bool) → result ≡ counts votes index v → result ≡ b → counts votes count v ≡ b
+  counts_there b result is same = ap (λ (i : ℕ). counts votes i v) (sym steps.1) ∙ sym is ∙ same
+
+  pub step_at : iter ≡ drop count genesis.validators → now ≡ drop now_count genesis.validators
+  step_at at = others_left genesis.validators count v now (sym steps.0 ∙ at) ∙ ap (λ (n : ℕ). drop n genesis.validators) (sym steps.2)
+
+  pub step_fits : IsBeginning genesis → (result : Bool) → result ≡ counts votes index v → result ≡ true → balance + v.effective_balance < 2 ^ 64
+  step_fits begins result is same = weigh_fits votes count balance v now genesis begins sums_there (counts_there true result is same)
+
+  pub step_more : (result : Bool) → result ≡ counts votes index v → result ≡ true → (balance + v.effective_balance) + weight_from (has_offence votes) now_count (weights_left now) ≡ weight_of (genesis_weights genesis) (has_offence votes)
+  step_more result is same =
+      ap (λ (n : ℕ). (balance + v.effective_balance) + weight_from (has_offence votes) n (weights_left now)) steps.2
+      ∙ weigh_more votes count balance v now (counts_there true result is same) ∙ sums_there
+
+  pub step_others : (result : Bool) → result ≡ counts votes index v → result ≡ false → balance + weight_from (has_offence votes) now_count (weights_left now) ≡ weight_of (genesis_weights genesis) (has_offence votes)
+  step_others result is same =
+      ap (λ (n : ℕ). balance + weight_from (has_offence votes) n (weights_left now)) steps.2
+      ∙ weigh_others votes count balance v now (counts_there false result is same) ∙ sums_there
 
 -- ---- offenders are those whose spans have an offence
 
@@ -234,3 +270,25 @@ balance_is genesis first second votes count holds =
       ∙ ap (λ n. is_some (offence_of (all_votes_by n (carried_in first second)) i)) count
       ∙ ap (λ (vs : List Vote). is_some (offence_of vs i)) (votes_held genesis first second)
       ∙ sym (offender_is _ (length genesis.validators) i less))
+
+-- what the loop over the registry needs
+pub ruleset weighing = (weigh_begins, weigh_more, weigh_others, weigh_ends, weigh_fits)
+
+-- ---- a conflict
+
+pub conflict_is : (genesis : PlainState) (first second : List AcceptedBlock) (a b : Checkpoint) (votes : Held) (balance total : ℕ) → is_agreed genesis first second a b ≡ false → total ≡ genesis_total genesis → nat_lt total (2 * genesis.preset.effective_balance_increment) ≡ false
+    → None ≡ moved_on genesis (finalizing_chain first a) → None ≡ moved_on genesis (finalizing_chain second b) → length votes.spans.spans ≡ length genesis.validators → Holds votes (carried_in first second)
+    → balance ≡ weight_of (genesis_weights genesis) (has_offence votes) → Conflict balance total ≡ verdict_of genesis first second a b
+unfolding verdict_of unless_moved
+conflict_is genesis first second a b votes balance total apart total_is large first_stays second_stays count holds weighs =
+    let found : ℕ = balance_of genesis (offences_of genesis first second) in
+    let all : ℕ = genesis_total genesis in
+    let m : Option (List ℕ × ℕ) = moved_on genesis (finalizing_chain first a) in
+    let n : Option (List ℕ × ℕ) = moved_on genesis (finalizing_chain second b) in
+    let small : Bool = nat_lt all (2 * genesis.preset.effective_balance_increment) in
+    ap (λ k. Conflict k total) (weighs ∙ balance_is genesis first second votes count holds)
+    ∙ ap (Conflict found) total_is
+    ∙ ap (λ (o : Option (List ℕ × ℕ)). unless_moved 1 o (Conflict found all)) second_stays
+    ∙ ap (λ (o : Option (List ℕ × ℕ)). unless_moved 0 o (unless_moved 1 n (Conflict found all))) first_stays
+    ∙ sym (ap (λ s. cond s (Small all) (unless_moved 0 m (unless_moved 1 n (Conflict found all)))) (ap (λ k. nat_lt k (2 * genesis.preset.effective_balance_increment)) (sym total_is) ∙ large))
+    ∙ sym (ap (λ s. cond s Agree (cond small (Small all) (unless_moved 0 m (unless_moved 1 n (Conflict found all))))) apart)

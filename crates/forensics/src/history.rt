@@ -102,7 +102,9 @@ impl History {
     pub(crate) fn first_move(&self) -> Option<(Root, u64)>
         ensures { result ≡ moved_on self.now.genesis (finalizing_chain self.now.blocks self.now.finalized) }
     {
-        let last = finalizing_root(&self.entries, &self.finalized)?;
-        earliest_move(&self.entries, last)
+        match finalizing_root(&self.entries, &self.finalized) {
+            Some(last) => earliest_move(&self.entries, last),
+            None => None,
+        }
     }
 }

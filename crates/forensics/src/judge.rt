@@ -3,7 +3,7 @@
 //! All of it is read off the entries of the histories, the spans of votes and the genesis registry, in one pass over each. It takes
 //! no memory.
 
-ghost use Rattle.std.specs.Prelude.{◌≡◌, ◌*◌, nat_lt, length};
+ghost use Rattle.std.specs.Prelude.{◌≡◌, ◌<◌, ◌*◌, nat_lt, length};
 ghost use Rattle.ffg_law.specs.Weights.{weight_of};
 ghost use Rattle.spec_state.specs.Genesis.{header_root_of};
 ghost use Rattle.spec_forensics.specs.declared.verdict.Verdict.TheVariants.{Moved};
@@ -11,11 +11,13 @@ ghost use Rattle.spec_forensics.specs.Steady.{genesis_weights, genesis_total};
 ghost use Rattle.spec_forensics.specs.Verdict.{is_agreed, verdict_of};
 ghost use Rattle.vote_spans.specs.Carried.{has_offence, Holds};
 ghost use Rattle.forensics.specs.Books.{IsBeginning};
+ghost use Rattle.forensics.specs.inside.Offenders.{counts};
 ghost use Rattle.forensics.specs.inside.Whole.{carried_in};
 
 use crate::history::History;
 use balance_totals::{is_active_validator, total_active};
 use beacon_state::State;
+use beacon_types::Validator;
 use hash_tree::Root;
 use spec_forensics::Verdict;
 use vote_spans::CarriedVotes;
@@ -57,7 +59,17 @@ fn is_small(genesis: &State, total: u64) -> bool
     total < 2 * preset.effective_balance_increment
 }
 
+/// Whether the validator with an index is an offender that is active at genesis.
+#[tactic(auto, unfolding(crate::specs::inside::Offenders::counts))]
+fn counts(votes: &CarriedVotes, index: usize, validator: &Validator) -> bool
+    requires { index < length votes.now.spans.spans }
+    ensures { result ≡ counts votes.now index validator.now }
+{
+    is_active_validator(validator, 0) && votes.offends(index)
+}
+
 /// What the offenders have at genesis, where they are active there, in Gwei.
+#[tactic(auto, using(crate::proofs::Offenders::weighing, balance_totals::proofs::LeftOf::others_left))]
 fn offenders_balance(genesis: &State, votes: &CarriedVotes) -> u64
     requires beginning { IsBeginning genesis.now }
     requires validators { length votes.now.spans.spans ≡ length genesis.now.validators }
@@ -66,7 +78,7 @@ fn offenders_balance(genesis: &State, votes: &CarriedVotes) -> u64
     let mut balance = 0;
     let validators = genesis.validator_list().iter();
     for (index, validator) in validators.enumerate() {
-        if is_active_validator(validator, 0) && votes.offends(index) {
+        if counts(votes, index, validator) {
             balance += validator.effective_balance;
         }
     }
