@@ -1,4 +1,3 @@
-use Rattle.std.proofs.Common.{ℕ}
 use Rattle.beacon.proofs.stack.+pages_taken.Given as goal
 
 abbrev pub decreases-pages_taken : goal.decreases-pages_taken
