@@ -1,0 +1,4 @@
+pub mod GetIndexedAttestation
+pub mod AttestationOf
+pub mod Operations
+pub mod Accepts
