@@ -1,13 +1,74 @@
 //! The laws of operations. They do nothing when they run.
 
-ghost use Rattle.std.specs.Prelude.{◌≡◌, List, true, All};
+ghost use Rattle.std.specs.Prelude.{◌≡◌, ◌<◌, ◌≤◌, ℕ, List, ◌++◌, length, true, All, Contains, Some, is_some};
+ghost use Rattle.bc_words.specs.Outcome.{done, refused};
+ghost use Rattle.bc_words.specs.declared.refusal.Refusal.TheVariants.{AsNone};
+ghost use Rattle.bc_preset.specs.declared.configuration.ConfigValues.{ConfigValues};
 ghost use Rattle.beacon_types.specs.Slashable.{is_slashable_attestation_data};
+ghost use Rattle.beacon_body.specs.Containers.{attester_slashing_codec};
+ghost use Rattle.beacon_body.specs.declared.attester_slashing.AttesterSlashing.{AttesterSlashing};
 ghost use Rattle.spec_state.specs.declared.plain.PlainState.{PlainState};
+ghost use Rattle.spec_state.specs.Limits.{IsState};
+ghost use Rattle.spec_state.specs.Soundness.{IsSound};
+ghost use Rattle.spec_blocks.specs.IsValidIndexedAttestation.{is_valid_indexed_attestation};
+ghost use Rattle.spec_blocks.specs.ProcessAttesterSlashing.{process_attester_slashing};
+ghost use Rattle.spec_forensics.specs.declared.vote.Vote.{Vote};
 ghost use Rattle.spec_forensics.specs.Histories.{AcceptedBlock};
-ghost use Rattle.spec_slasher.specs.Operations.{operations};
-ghost use Rattle.spec_slasher.specs.Accepts.{IsHeld};
+ghost use Rattle.spec_forensics.specs.CarriedVotes.{all_votes};
+ghost use Rattle.spec_slasher.specs.AttestationOf.{attestation_of};
+ghost use Rattle.spec_slasher.specs.Operations.{operations, offenders, IsNamed};
+ghost use Rattle.spec_slasher.specs.Accepts.{IsDoneOrOverflow, IsHeld, HasSlashable, HasNoSlashable};
+ghost use Rattle.spec_slasher.specs.Written.{IsReadable};
+
+/// A vote names an attestation exactly where a block carries it.
+#[tactic(auto, using(crate::proofs::Named::carried_is_named))]
+pub fn carried_votes_name_attestations()
+    ensures carried { (genesis : PlainState) (first second : List AcceptedBlock) (vote : Vote) → is_some (attestation_of genesis first second vote) ≡ true → Contains (all_votes genesis first second) vote }
+    ensures named { (genesis : PlainState) (first second : List AcceptedBlock) (vote : Vote) → Contains (all_votes genesis first second) vote → is_some (attestation_of genesis first second vote) ≡ true }
+{}
 
 /// The data of each operation are slashable in the given order.
+#[tactic(auto, using(crate::proofs::Operations::all_slashable))]
 pub fn operations_are_slashable()
     ensures { (genesis : PlainState) (first second : List AcceptedBlock) → All (λ o. is_slashable_attestation_data o.attestation_1.content o.attestation_2.content ≡ true) (operations genesis first second) }
+{}
+
+/// The validators of the genesis registry that stand in both attestations of some operation are exactly the offenders.
+#[tactic(auto, using(crate::proofs::Operations::names_offenders))]
+pub fn operations_name_offenders()
+    ensures only { (genesis : PlainState) (first second : List AcceptedBlock) (index : ℕ) → index < length genesis.validators → IsNamed (operations genesis first second) index → Contains (offenders genesis first second) index }
+    ensures all { (genesis : PlainState) (first second : List AcceptedBlock) (index : ℕ) → Contains (offenders genesis first second) index → index < length genesis.validators × IsNamed (operations genesis first second) index }
+{}
+
+/// A registry that is as long as those of the states behind all accepted blocks holds every index of each operation.
+#[tactic(auto, using(crate::proofs::Held::all_held))]
+pub fn operations_are_held()
+    ensures { (genesis : PlainState) (first second : List AcceptedBlock) (s : PlainState) → All (λ b. length b.state.validators ≤ length s.validators) (first ++ second) → All (IsHeld s) (operations genesis first second) }
+{}
+
+/// In a state whose registry holds every index of an operation, both of its attestations are valid.
+#[tactic(auto, using(crate::proofs::Processed::valid))]
+pub fn operations_are_valid()
+    ensures first { (genesis : PlainState) (first second : List AcceptedBlock) (operation : AttesterSlashing) (s : PlainState) → Contains (operations genesis first second) operation → IsHeld s operation
+        → is_valid_indexed_attestation s operation.attestation_1 ≡ done tt }
+    ensures second { (genesis : PlainState) (first second : List AcceptedBlock) (operation : AttesterSlashing) (s : PlainState) → Contains (operations genesis first second) operation → IsHeld s operation
+        → is_valid_indexed_attestation s operation.attestation_2 ≡ done tt }
+{}
+
+/// In a sound state whose registry holds every index of an operation, and where a common validator is slashable, a block's step with
+/// it is done, or refused because a number doesn't fit; where no common validator is slashable, it is refused for that.
+#[tactic(auto, using(crate::proofs::Processed::processed))]
+pub fn operations_are_processed()
+    ensures some { (genesis : PlainState) (first second : List AcceptedBlock) (operation : AttesterSlashing) (s : PlainState) (proposer : ℕ) (config : ConfigValues) → Contains (operations genesis first second) operation
+        → IsState s → IsSound s → proposer < length s.validators → IsHeld s operation → HasSlashable s operation → IsDoneOrOverflow (process_attester_slashing s operation proposer config) }
+    ensures none { (genesis : PlainState) (first second : List AcceptedBlock) (operation : AttesterSlashing) (s : PlainState) (proposer : ℕ) (config : ConfigValues) → Contains (operations genesis first second) operation
+        → IsHeld s operation → HasNoSlashable s operation → process_attester_slashing s operation proposer config ≡ refused AsNone }
+{}
+
+/// Where the accepted blocks are readable, each operation has a writing that is read as it, of at most 33,232 bytes.
+#[tactic(auto, using(crate::proofs::Written::written))]
+pub fn operations_are_written()
+    ensures read { (genesis : PlainState) (first second : List AcceptedBlock) → All IsReadable (first ++ second)
+        → All (λ o. attester_slashing_codec.deserialize (attester_slashing_codec.serialize o) ≡ Some o) (operations genesis first second) }
+    ensures size { (genesis : PlainState) (first second : List AcceptedBlock) → All IsReadable (first ++ second) → All (λ o. length (attester_slashing_codec.serialize o) ≤ 33_232) (operations genesis first second) }
 {}

@@ -1,6 +1,10 @@
-//! Definitions of the attester slashings that two histories give, and their laws.
+//! Definitions of the attester slashings that two histories on one genesis give, and their laws. No program is in it.
 #![tactic(auto)]
 
 mod laws;
 
-pub use laws::operations_are_slashable;
+pub use laws::{
+    carried_votes_name_attestations, operations_are_held, operations_are_processed,
+    operations_are_slashable, operations_are_valid, operations_are_written,
+    operations_name_offenders,
+};
