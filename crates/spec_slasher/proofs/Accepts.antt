@@ -232,7 +232,7 @@ pub record IsRight (operation : AttesterSlashing) : Type 0 where
   pub first_ascends : is_strictly_ascending operation.attestation_1.attesting_indices ≡ true
   pub second_ascends : is_strictly_ascending operation.attestation_2.attesting_indices ≡ true
   pub index : ℕ
-  pub common : IsCommon index operation
+  pub common : IsCommon operation index
 
 pub operation_right : (genesis : PlainState) (first second : List AcceptedBlock) (operation : AttesterSlashing) → IsOneOf operation (operations genesis first second) → IsRight operation
 unfolding indexed get_indexed_attestation attesters_of

@@ -170,5 +170,3 @@ offender_named genesis first second i h =
       listed = contained (operations genesis first second) m.operation (none_before m.operation _ (in_once _ [] m.operation raw));
       common = subst (λ (o : AttesterSlashing). IsCommon o i) (sym w.is) (record { first = contained _ i (into_order i (attesters_of w.one) w.in_one); second = contained _ i (into_order i (attesters_of w.other) w.in_other) });
     })
-
-pub ruleset names_offenders = (common_offends, offender_named)

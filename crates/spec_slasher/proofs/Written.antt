@@ -102,7 +102,7 @@ indexed_size c readable =
     let w = readable.within in
     three_size 228 (flat_map uint64.serialize (indexed c).attesting_indices) (attestation_data_codec.serialize c.attestation.content) c.attestation.signature (length (indexed c).attesting_indices)
     (numbers_size (indexed c).attesting_indices (all_below c readable))
-    (attestation_data_lawful.size c.attestation.content w.0.0.1) w.0.1
+    (attestation_data_lawful.size c.attestation.content w.0.0.1) w.0.1.0
 
 pair_within : (one other : CarriedAttestation) → IsWritable one → IsWritable other → attester_slashing_codec.Within (record { attestation_1 = indexed one; attestation_2 = indexed other })
 unfolding OffsetsFit
@@ -161,5 +161,3 @@ pub all_small : (genesis : PlainState) (first second : List AcceptedBlock) → A
     → All (λ (o : AttesterSlashing). length (attester_slashing_codec.serialize o) ≤ 33_232) (operations genesis first second)
 all_small genesis first second readable = all_are (λ (o : AttesterSlashing). length (attester_slashing_codec.serialize o) ≤ 33_232) (operations genesis first second)
     (λ operation h. operation_size genesis first second operation h readable)
-
-pub ruleset written = (all_read, all_small)

@@ -34,14 +34,12 @@ pub fn operations_are_slashable()
 {}
 
 /// The validators of the genesis registry that stand in both attestations of some operation are exactly the offenders.
-#[tactic(auto, using(crate::proofs::Operations::names_offenders))]
 pub fn operations_name_offenders()
     ensures only { (genesis : PlainState) (first second : List AcceptedBlock) (index : ℕ) → index < length genesis.validators → IsNamed (operations genesis first second) index → Contains (offenders genesis first second) index }
     ensures all { (genesis : PlainState) (first second : List AcceptedBlock) (index : ℕ) → Contains (offenders genesis first second) index → index < length genesis.validators × IsNamed (operations genesis first second) index }
 {}
 
 /// A registry that is as long as those of the states behind all accepted blocks holds every index of each operation.
-#[tactic(auto, using(crate::proofs::Held::all_held))]
 pub fn operations_are_held()
     ensures { (genesis : PlainState) (first second : List AcceptedBlock) (s : PlainState) → All (λ b. length b.state.validators ≤ length s.validators) (first ++ second) → All (IsHeld s) (operations genesis first second) }
 {}
@@ -66,7 +64,6 @@ pub fn operations_are_processed()
 {}
 
 /// Where the accepted blocks are readable, each operation has a writing that is read as it, of at most 33,232 bytes.
-#[tactic(auto, using(crate::proofs::Written::written))]
 pub fn operations_are_written()
     ensures read { (genesis : PlainState) (first second : List AcceptedBlock) → All IsReadable (first ++ second)
         → All (λ o. attester_slashing_codec.deserialize (attester_slashing_codec.serialize o) ≡ Some o) (operations genesis first second) }
