@@ -25,8 +25,6 @@ pub operation_valid_second : (genesis : PlainState) (first second : List Accepte
     → is_valid_indexed_attestation s operation.attestation_2 ≡ done tt
 operation_valid_second genesis first second operation s h held = second_valid s operation (operation_right genesis first second operation (one_of _ operation h)) held
 
-pub ruleset valid = (operation_valid_first, operation_valid_second)
-
 pub operation_processed : (genesis : PlainState) (first second : List AcceptedBlock) (operation : AttesterSlashing) (s : PlainState) (proposer : ℕ) (config : ConfigValues)
     → Contains (operations genesis first second) operation → IsState s → IsSound s → proposer < length s.validators → IsHeld s operation → HasSlashable s operation → IsDoneOrOverflow (process_attester_slashing s operation proposer config)
 operation_processed genesis first second operation s proposer config h state sound proposes held slashable =
@@ -35,5 +33,3 @@ operation_processed genesis first second operation s proposer config h state sou
 pub operation_for_nobody : (genesis : PlainState) (first second : List AcceptedBlock) (operation : AttesterSlashing) (s : PlainState) (proposer : ℕ) (config : ConfigValues)
     → Contains (operations genesis first second) operation → IsHeld s operation → HasNoSlashable s operation → process_attester_slashing s operation proposer config ≡ refused AsNone
 operation_for_nobody genesis first second operation s proposer config h held none = right_none proposer config s operation (operation_right genesis first second operation (one_of _ operation h)) held none
-
-pub ruleset processed = (operation_processed, operation_for_nobody)

@@ -45,7 +45,6 @@ pub fn operations_are_held()
 {}
 
 /// In a state whose registry holds every index of an operation, both of its attestations are valid.
-#[tactic(auto, using(crate::proofs::Processed::valid))]
 pub fn operations_are_valid()
     ensures first { (genesis : PlainState) (first second : List AcceptedBlock) (operation : AttesterSlashing) (s : PlainState) → Contains (operations genesis first second) operation → IsHeld s operation
         → is_valid_indexed_attestation s operation.attestation_1 ≡ done tt }
@@ -55,7 +54,6 @@ pub fn operations_are_valid()
 
 /// In a sound state whose registry holds every index of an operation, and where a common validator is slashable, a block's step with
 /// it is done, or refused because a number doesn't fit; where no common validator is slashable, it is refused for that.
-#[tactic(auto, using(crate::proofs::Processed::processed))]
 pub fn operations_are_processed()
     ensures some { (genesis : PlainState) (first second : List AcceptedBlock) (operation : AttesterSlashing) (s : PlainState) (proposer : ℕ) (config : ConfigValues) → Contains (operations genesis first second) operation
         → IsState s → IsSound s → proposer < length s.validators → IsHeld s operation → HasSlashable s operation → IsDoneOrOverflow (process_attester_slashing s operation proposer config) }
