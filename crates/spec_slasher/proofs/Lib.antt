@@ -8,3 +8,4 @@ pub mod Processed
 pub mod Stands
 pub mod Held
 pub mod Written
+pub mod One

@@ -32,7 +32,7 @@ pub record ComesFrom (genesis : PlainState) (v : Vote) (c : CarriedAttestation) 
   pub is : vote_at c v.validator ≡ v
 
 -- it is one of its votes
-from_votes : (genesis : PlainState) (v : Vote) (c : CarriedAttestation) → IsOneOf v (votes_of genesis c) → ComesFrom genesis v c
+pub from_votes : (genesis : PlainState) (v : Vote) (c : CarriedAttestation) → IsOneOf v (votes_of genesis c) → ComesFrom genesis v c
 unfolding votes_of votes_of_attestation attesters_of vote_at
 from_votes genesis v c h =
     let m = of_map _ v _ h in
@@ -142,7 +142,7 @@ named : (genesis : PlainState) (v : Vote) (c : CarriedAttestation) → IsOneOf v
 unfolding names
 named genesis v c h = to_any (λ other. same_vote other v) v (votes_of genesis c) h ((vote_decides v v).1 refl)
 
-cast_of : (genesis : PlainState) (v : Vote) (c : CarriedAttestation) → names genesis v c ≡ true → IsOneOf v (votes_of genesis c)
+pub cast_of : (genesis : PlainState) (v : Vote) (c : CarriedAttestation) → names genesis v c ≡ true → IsOneOf v (votes_of genesis c)
 unfolding names
 cast_of genesis v c is =
     let it = of_any (λ other. same_vote other v) (votes_of genesis c) is in
@@ -177,5 +177,3 @@ carried_where_named genesis first second v is =
 
 pub named_where_carried : (genesis : PlainState) (first second : List AcceptedBlock) (v : Vote) → Contains (all_votes genesis first second) v → is_some (attestation_of genesis first second v) ≡ true
 named_where_carried genesis first second v h = ap is_some (has_attestation genesis first second v (one_of (all_votes genesis first second) v h)).is
-
-pub ruleset carried_is_named = (carried_where_named, named_where_carried)

@@ -1,6 +1,7 @@
 -- The operations' data are slashable in their order, and the common validators of the genesis registry are the offenders.
-use Rattle.std.proofs.Common.{◌≡◌, ◌∙◌, ℕ, ◌<◌, ◌⊎◌, inl, inr, Bool, true, false, cond, List, [], ◌∷◌, ◌++◌, map, length, Some, refl, sym, ap, ap₂, subst}
-use Rattle.std.specs.List.{All, Contains, filter_map, list_any}
+use Rattle.std.proofs.Common.{◌≡◌, ◌∙◌, ℕ, zero, suc, ◌<◌, ◌⊎◌, inl, inr, Bool, true, false, cond, List, [], ◌∷◌, ◌++◌, map, length, Some, refl, sym, ap, ap₂, subst, arith}
+use Rattle.std.specs.List.{All, AllPairs, Contains, filter_map, list_any}
+use Rattle.std.proofs.lemmas.Bool.{false≢true}
 use Rattle.std.proofs.lemmas.Option.{same_Some}
 use Rattle.beacon_types.specs.Slashable.{is_slashable_attestation_data}
 use Rattle.beacon_types.specs.declared.attestation_data.AttestationData.{AttestationData}
@@ -17,8 +18,8 @@ use Rattle.spec_forensics.specs.Offences.{offence_of, offences_below}
 use Rattle.spec_forensics.specs.Verdict.{offences_of}
 use Rattle.spec_slasher.specs.GetIndexedAttestation.{get_indexed_attestation}
 use Rattle.spec_slasher.specs.AttestationOf.{CarriedAttestation, all_attestations, indexed}
-use Rattle.spec_slasher.specs.Operations.{pair_of, operation_of, is_listed, each_once, operations, offenders, IsCommon, IsNamed}
-use Rattle.spec_slasher.proofs.Lists.{one_of, contained, all_are, in_map, of_append, of_map, of_filter_map, in_filter_map, of_any, value_of, into_order, of_order}
+use Rattle.spec_slasher.specs.Operations.{pair_of, operation_of, is_listed, each_once, operations, HasOperation, offenders, IsCommon, IsNamed}
+use Rattle.spec_slasher.proofs.Lists.{one_of, contained, all_are, in_first, in_second, in_map, of_append, of_map, of_filter_map, in_filter_map, of_any, to_any, value_of, into_order, of_order}
 use Rattle.spec_slasher.proofs.Named.{attesters_of, vote_at, ComesFrom, has_vote, has_attestation}
 use Rattle.spec_slasher.proofs.Offences.{IsOffence, offence_is, VoteFor, offends, of_offences, in_offences}
 
@@ -106,6 +107,47 @@ none_before : (y : AttesterSlashing) (ys : List AttesterSlashing) → IsOneOf y 
 none_before y ys (inl none) = absurd none
 none_before y ys (inr h) = h
 
+-- ---- none stands there twice
+
+pairs_more : (x : AttesterSlashing) (xs : List AttesterSlashing) → All (λ y. x ≡ y → ⊥) xs → AllPairs (λ a b. a ≡ b → ⊥) xs → AllPairs (λ a b. a ≡ b → ⊥) (x ∷ xs)
+pairs_more x xs first rest i zero d less low = absurd (omega (arith, less))
+pairs_more x xs first rest zero (suc j) d less low = first j d (omega (arith, low))
+pairs_more x xs first rest (suc i) (suc j) d less low = rest i j d (omega (arith, less)) (omega (arith, low))
+
+new_one : (before : List AttesterSlashing) (x y : AttesterSlashing) → is_listed before x ≡ false → IsOneOf y before → x ≡ y → ⊥
+unfolding is_listed
+new_one before x y new h same =
+    false≢true (sym new ∙ to_any (λ other. same_attester_slashing other x) y before h ((attester_slashing_decides y x).1 (sym same)))
+
+-- what is left is none of those before
+record IsRest (before rest : List AttesterSlashing) : Type 0 where
+  new : (x y : AttesterSlashing) → IsOneOf x rest → IsOneOf y before → x ≡ y → ⊥
+  once : AllPairs (λ a b. a ≡ b → ⊥) rest
+
+rest_either : (p : Bool) (x : AttesterSlashing) (before one other : List AttesterSlashing) → ((p ≡ true) → IsRest before one) → ((p ≡ false) → IsRest before (x ∷ other)) → IsRest before (cond p one (x ∷ other))
+rest_either true x before one other seen new = seen refl
+rest_either false x before one other seen new = new refl
+
+rest_more : (x : AttesterSlashing) (before other : List AttesterSlashing) → is_listed before x ≡ false → IsRest (before ++ x ∷ []) other → IsRest before (x ∷ other)
+rest_more x before other new rest = record {
+  new = λ y z h k. elim h [
+    | inl e ↦ λ same. new_one before x z new k (e ∙ same)
+    | inr more ↦ rest.new y z more (in_first z before (x ∷ []) k)
+  ];
+  once = pairs_more x other (all_are (λ y. x ≡ y → ⊥) other (λ y h same. rest.new y x h (in_second x before (x ∷ []) (inl refl)) (sym same))) rest.once;
+}
+
+rest_is : (xs before : List AttesterSlashing) → IsRest before (each_once before xs)
+unfolding each_once
+rest_is [] before = record { new = λ x y h. absurd h; once = λ i j d less low. absurd (omega (arith, low)) }
+rest_is (x ∷ xs) before =
+    rest_either (is_listed before x) x before (each_once before xs) (each_once (before ++ x ∷ []) xs)
+    (λ seen. rest_is xs before) (λ new. rest_more x before (each_once (before ++ x ∷ []) xs) new (rest_is xs (before ++ x ∷ [])))
+
+pub all_differ : (genesis : PlainState) (first second : List AcceptedBlock) → AllPairs (λ (a b : AttesterSlashing). a ≡ b → ⊥) (operations genesis first second)
+unfolding operations
+all_differ genesis first second = (rest_is (filter_map (operation_of genesis first second) (offences_of genesis first second)) []).once
+
 -- ---- the operations
 
 -- each operation is that of an offender
@@ -122,6 +164,19 @@ operation_is genesis first second operation h =
     let offence = of_offences votes (length genesis.validators) source.at source.listed in
     let m = made genesis first second offence.at source.at (offence_is votes offence.at source.at offence.is) in
     record { index = offence.at; what = subst (IsOperation genesis first second offence.at) (same_Some _ _ (sym m.is ∙ source.is)) m.what }
+
+-- each offence has one
+pub has_operation : (genesis : PlainState) (first second : List AcceptedBlock) (offence : Offence) → IsOneOf offence (offences_of genesis first second) → HasOperation genesis first second offence
+unfolding operations offences_of
+has_operation genesis first second offence h =
+    let votes : List Vote = all_votes genesis first second in
+    let below = of_offences votes (length genesis.validators) offence h in
+    let m = made genesis first second below.at offence (offence_is votes below.at offence below.is) in
+    let raw = in_filter_map (operation_of genesis first second) offence m.operation (offences_of genesis first second) h m.is in
+    record { operation = m.operation; is = m.is; listed = contained (operations genesis first second) m.operation (none_before m.operation _ (in_once _ [] m.operation raw)) }
+
+pub all_have : (genesis : PlainState) (first second : List AcceptedBlock) → All (HasOperation genesis first second) (offences_of genesis first second)
+all_have genesis first second = all_are (HasOperation genesis first second) (offences_of genesis first second) (has_operation genesis first second)
 
 -- the data are slashable in the given order
 pub operation_slashable : (genesis : PlainState) (first second : List AcceptedBlock) (operation : AttesterSlashing) → IsOneOf operation (operations genesis first second)

@@ -1,6 +1,6 @@
 -- The attestations that the blocks of two histories carry, and the one that a vote names. A list of accepted blocks has the latest
 -- first.
-use Rattle.std.specs.Prelude.{ℕ, Bool, ◌&&◌, ◌==◌, List, [], ◌∷◌, ◌++◌, map, Option}
+use Rattle.std.specs.Prelude.{◌<◌, ℕ, All, Bool, ◌&&◌, ◌==◌, List, [], ◌∷◌, ◌++◌, map, Option}
 use Rattle.std.specs.List.{find, list_any, enumerate_from}
 use Rattle.std.specs.Option.{option_map}
 use Rattle.beacon_types.specs.Equality.{same_root, same_data}
@@ -30,6 +30,11 @@ carried_attestations which (b ∷ earlier) = carried_attestations which earlier 
 
 unfoldable pub all_attestations : List AcceptedBlock → List AcceptedBlock → List CarriedAttestation
 all_attestations first second = carried_attestations 0 first ++ carried_attestations 1 second
+
+-- the blocks of a history were accepted by one event each, in order
+abbrev pub AreInOrder : List AcceptedBlock → Type 0
+AreInOrder [] = Unit {0}
+AreInOrder (b ∷ earlier) = All (λ e. e.event < b.event) earlier × AreInOrder earlier
 
 -- the votes of a carried attestation
 unfoldable pub votes_of : PlainState → CarriedAttestation → List Vote

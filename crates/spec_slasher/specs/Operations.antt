@@ -1,6 +1,6 @@
 -- The attester slashings that two histories give: for each offence, in order of validator, the pair of the attestations that its
 -- votes name, in the offence's order. An operation that equals an earlier one is left out.
-use Rattle.std.specs.Prelude.{ℕ, Bool, Contains, List, [], ◌∷◌, ◌++◌, map, Option, Some, None, if◌then◌else◌}
+use Rattle.std.specs.Prelude.{◌≡◌, ℕ, Bool, Contains, List, [], ◌∷◌, ◌++◌, map, Option, Some, None, if◌then◌else◌}
 use Rattle.std.specs.List.{filter_map, list_any}
 use Rattle.beacon_types.specs.declared.indexed_attestation.IndexedAttestation.{IndexedAttestation}
 use Rattle.beacon_body.specs.declared.attester_slashing.AttesterSlashing.{AttesterSlashing}
@@ -34,6 +34,12 @@ each_once before (operation ∷ later) =
 -- the operations of all offences, each once
 unfoldable pub operations : PlainState → List AcceptedBlock → List AcceptedBlock → List AttesterSlashing
 operations genesis first second = each_once [] (filter_map (operation_of genesis first second) (offences_of genesis first second))
+
+-- an offence has an operation, which is one of those of all offences
+pub record HasOperation (genesis : PlainState) (first second : List AcceptedBlock) (offence : Offence) : Type 0 where
+  pub operation : AttesterSlashing
+  pub is : operation_of genesis first second offence ≡ Some operation
+  pub listed : Contains (operations genesis first second) operation
 
 -- the validators that have an offence
 unfoldable pub offenders : PlainState → List AcceptedBlock → List AcceptedBlock → List ℕ

@@ -1,6 +1,6 @@
 //! The laws of operations. They do nothing when they run.
 
-ghost use Rattle.std.specs.Prelude.{◌≡◌, ◌<◌, ◌≤◌, ℕ, List, ◌++◌, length, true, All, Contains, Some, is_some};
+ghost use Rattle.std.specs.Prelude.{◌≡◌, ◌<◌, ◌≤◌, ℕ, List, ◌++◌, length, true, All, AllPairs, Contains, Some, is_some};
 ghost use Rattle.bc_words.specs.Outcome.{done, refused};
 ghost use Rattle.bc_words.specs.declared.refusal.Refusal.TheVariants.{AsNone};
 ghost use Rattle.bc_preset.specs.declared.configuration.ConfigValues.{ConfigValues};
@@ -15,16 +15,29 @@ ghost use Rattle.spec_blocks.specs.ProcessAttesterSlashing.{process_attester_sla
 ghost use Rattle.spec_forensics.specs.declared.vote.Vote.{Vote};
 ghost use Rattle.spec_forensics.specs.Histories.{AcceptedBlock};
 ghost use Rattle.spec_forensics.specs.CarriedVotes.{all_votes};
-ghost use Rattle.spec_slasher.specs.AttestationOf.{attestation_of};
-ghost use Rattle.spec_slasher.specs.Operations.{operations, offenders, IsNamed};
+ghost use Rattle.spec_forensics.specs.Verdict.{offences_of};
+ghost use Rattle.spec_slasher.specs.AttestationOf.{CarriedAttestation, all_attestations, AreInOrder, names, indexed, attestation_of};
+ghost use Rattle.spec_slasher.specs.Operations.{operations, HasOperation, offenders, IsNamed};
 ghost use Rattle.spec_slasher.specs.Accepts.{IsDoneOrOverflow, IsHeld, HasSlashable, HasNoSlashable};
 ghost use Rattle.spec_slasher.specs.Written.{IsReadable};
 
-/// A vote names an attestation exactly where a block carries it.
-#[tactic(auto, using(crate::proofs::Named::carried_is_named))]
+/// A vote names an attestation exactly where a block carries it; and where each block has an event of its own, it names the one of each
+/// place that carries it.
 pub fn carried_votes_name_attestations()
     ensures carried { (genesis : PlainState) (first second : List AcceptedBlock) (vote : Vote) → is_some (attestation_of genesis first second vote) ≡ true → Contains (all_votes genesis first second) vote }
     ensures named { (genesis : PlainState) (first second : List AcceptedBlock) (vote : Vote) → Contains (all_votes genesis first second) vote → is_some (attestation_of genesis first second vote) ≡ true }
+    ensures only { (genesis : PlainState) (first second : List AcceptedBlock) (vote : Vote) (carried : CarriedAttestation) → AreInOrder first → AreInOrder second → Contains (all_attestations first second) carried
+        → names genesis vote carried ≡ true → attestation_of genesis first second vote ≡ Some (indexed carried) }
+{}
+
+/// Each offence has its operation.
+pub fn offences_have_operations()
+    ensures { (genesis : PlainState) (first second : List AcceptedBlock) → All (HasOperation genesis first second) (offences_of genesis first second) }
+{}
+
+/// No two operations are equal.
+pub fn operations_differ()
+    ensures { (genesis : PlainState) (first second : List AcceptedBlock) → AllPairs (λ a b. a ≡ b → ⊥) (operations genesis first second) }
 {}
 
 /// The data of each operation are slashable in the given order.
