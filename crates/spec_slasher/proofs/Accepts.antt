@@ -33,7 +33,7 @@ use Rattle.spec_forensics.specs.Histories.{AcceptedBlock}
 use Rattle.spec_slasher.specs.GetIndexedAttestation.{get_indexed_attestation}
 use Rattle.spec_slasher.specs.AttestationOf.{indexed}
 use Rattle.spec_slasher.specs.Operations.{operations, IsCommon}
-use Rattle.spec_slasher.specs.Accepts.{IsDoneOrOverflow, IsHeld, IsSlashable, HasSlashable}
+use Rattle.spec_slasher.specs.Accepts.{IsDoneOrOverflow, IsHeld, HasSlashable}
 use Rattle.spec_slasher.proofs.Lists.{one_of, contained, each_is, in_filter, of_filter, to_any, in_order_ascends, into_order, and_true}
 use Rattle.spec_slasher.proofs.Named.{attesters_of}
 use Rattle.spec_slasher.proofs.Operations.{operation_is}

@@ -1,8 +1,8 @@
 -- The offences of a list of votes: the votes of each are slashable in its order, and who cast two slashable votes has one.
-use Rattle.std.proofs.Common.{◌≡◌, ◌∙◌, ℕ, zero, suc, ◌<◌, ◌⊎◌, inl, inr, Bool, true, false, cond, ◌||◌, ◌&&◌, ◌==◌, not, nat_lt, List, [], ◌∷◌, ◌++◌, map, Option, Some, None, is_some, refl, sym, ap, ap₂, subst, arith}
+use Rattle.std.proofs.Common.{◌≡◌, ◌∙◌, ℕ, zero, suc, ◌<◌, ◌⊎◌, inl, inr, Bool, true, false, cond, ◌||◌, ◌&&◌, ◌==◌, not, nat_lt, List, [], ◌∷◌, ◌++◌, Option, Some, None, is_some, refl, sym, ap, ap₂, subst, arith}
 use Rattle.std.specs.List.{find, filter}
 use Rattle.std.specs.Option.{option_map}
-use Rattle.std.proofs.lemmas.Bool.{cases_lt, ltb-true, eqb-true, eq-eqb, and_parts, or_cases, or_left, or_right, false≢true, not-false}
+use Rattle.std.proofs.lemmas.Bool.{cases_lt, ltb-true, eqb-true, eq-eqb, and_parts, or_cases, or_left, or_right, false≢true}
 use Rattle.std.proofs.lemmas.Option.{same_Some}
 use Rattle.beacon_types.specs.Slashable.{is_slashable_attestation_data}
 use Rattle.beacon_types.specs.Equality.{same_data}
@@ -13,7 +13,7 @@ use Rattle.spec_forensics.specs.declared.vote.Vote.{Vote}
 use Rattle.spec_forensics.specs.declared.offence.Offence.{Offence}
 use Rattle.spec_forensics.specs.FirstPair.{pair_or, first_pair}
 use Rattle.spec_forensics.specs.Offences.{are_slashable, slashable_pair, kind_of, surrounds, offence_by, offence_of, listed, offences_below}
-use Rattle.spec_slasher.proofs.Lists.{in_first, in_second, in_filter, of_append, of_filter, of_find, value_of, and_true}
+use Rattle.spec_slasher.proofs.Lists.{in_first, in_second, in_filter, of_append, of_filter, of_find, and_true}
 
 -- ---- slashable data
 

@@ -1,6 +1,6 @@
 -- The operations' data are slashable in their order, and the common validators of the genesis registry are the offenders.
-use Rattle.std.proofs.Common.{◌≡◌, ◌∙◌, ℕ, zero, suc, ◌<◌, ◌⊎◌, inl, inr, Bool, true, false, cond, List, [], ◌∷◌, ◌++◌, map, length, Some, refl, sym, ap, ap₂, subst, arith}
-use Rattle.std.specs.List.{All, AllPairs, Contains, filter_map, list_any}
+use Rattle.std.proofs.Common.{◌≡◌, ◌∙◌, ℕ, zero, suc, ◌<◌, ◌⊎◌, inl, inr, Bool, true, false, cond, List, [], ◌∷◌, ◌++◌, length, Some, refl, sym, ap, ap₂, subst, arith}
+use Rattle.std.specs.List.{All, AllPairs, Contains, filter_map}
 use Rattle.std.proofs.lemmas.Bool.{false≢true}
 use Rattle.std.proofs.lemmas.Option.{same_Some}
 use Rattle.beacon_types.specs.Slashable.{is_slashable_attestation_data}
@@ -14,7 +14,7 @@ use Rattle.spec_forensics.specs.declared.vote.Vote.{Vote}
 use Rattle.spec_forensics.specs.declared.offence.Offence.{Offence}
 use Rattle.spec_forensics.specs.Histories.{AcceptedBlock}
 use Rattle.spec_forensics.specs.CarriedVotes.{all_votes}
-use Rattle.spec_forensics.specs.Offences.{offence_of, offences_below}
+use Rattle.spec_forensics.specs.Offences.{offence_of}
 use Rattle.spec_forensics.specs.Verdict.{offences_of}
 use Rattle.spec_slasher.specs.GetIndexedAttestation.{get_indexed_attestation}
 use Rattle.spec_slasher.specs.AttestationOf.{CarriedAttestation, all_attestations, indexed}
@@ -219,9 +219,11 @@ offender_named genesis first second i h =
     let same : below.at ≡ i = sym offence.by ∙ source.is in
     let m = made genesis first second below.at source.at offence in
     let w = subst (λ (k : ℕ). IsOperation genesis first second k m.operation) same m.what in
-    let raw = in_filter_map (operation_of genesis first second) source.at m.operation (offences_of genesis first second) source.listed m.is in
-    (w.low, record {
-      operation = m.operation;
-      listed = contained (operations genesis first second) m.operation (none_before m.operation _ (in_once _ [] m.operation raw));
-      common = subst (λ (o : AttesterSlashing). IsCommon o i) (sym w.is) (record { first = contained _ i (into_order i (attesters_of w.one) w.in_one); second = contained _ i (into_order i (attesters_of w.other) w.in_other) });
-    })
+    let raw = in_filter_map (operation_of genesis first second) source.at m.operation (offences_of genesis first second) source.listed m.is in (
+      w.low,
+      record {
+        operation = m.operation;
+        listed = contained (operations genesis first second) m.operation (none_before m.operation _ (in_once _ [] m.operation raw));
+        common = subst (λ (o : AttesterSlashing). IsCommon o i) (sym w.is) (record { first = contained _ i (into_order i (attesters_of w.one) w.in_one); second = contained _ i (into_order i (attesters_of w.other) w.in_other) });
+      },
+    )

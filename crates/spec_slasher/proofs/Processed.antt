@@ -1,6 +1,6 @@
 -- What a block's step answers to an operation.
 use Rattle.std.proofs.Common.{◌≡◌, ℕ, ◌<◌, List, length}
-use Rattle.std.specs.List.{All, Contains}
+use Rattle.std.specs.List.{Contains}
 use Rattle.bc_words.specs.Outcome.{done, refused}
 use Rattle.bc_words.specs.declared.refusal.Refusal.TheVariants.{AsNone}
 use Rattle.bc_preset.specs.declared.configuration.ConfigValues.{ConfigValues}

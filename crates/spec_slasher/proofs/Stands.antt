@@ -1,5 +1,5 @@
 -- Where a carried attestation stands.
-use Rattle.std.proofs.Common.{◌≡◌, ℕ, ◌+◌, inl, inr, List, [], ◌∷◌, ◌++◌, refl, subst}
+use Rattle.std.proofs.Common.{ℕ, ◌+◌, inl, inr, List, [], ◌∷◌, ◌++◌, refl, subst}
 use Rattle.std.specs.List.{enumerate_from}
 use Rattle.beacon_body.specs.declared.attestation.Attestation.{Attestation}
 use Rattle.ffg_law.specs.Links.{IsOneOf}
