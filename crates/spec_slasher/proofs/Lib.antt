@@ -9,3 +9,4 @@ pub mod Stands
 pub mod Held
 pub mod Written
 pub mod One
+pub mod Sorted

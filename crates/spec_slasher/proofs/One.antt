@@ -10,34 +10,8 @@ use Rattle.spec_forensics.specs.CarriedVotes.{all_votes}
 use Rattle.spec_slasher.specs.GetIndexedAttestation.{get_indexed_attestation}
 use Rattle.spec_slasher.specs.AttestationOf.{CarriedAttestation, attestations_of_block, carried_attestations, all_attestations, AreInOrder, names, indexed, attestation_of}
 use Rattle.spec_slasher.proofs.Lists.{one_of, each_is, of_append, of_map}
+use Rattle.spec_slasher.proofs.Stands.{IsPlaced, placed_either}
 use Rattle.spec_slasher.proofs.Named.{vote_at, ComesFrom, has_vote, from_votes, cast_of, has_attestation}
-
--- the place of a carried attestation
-record IsPlaced (which : ℕ) (blocks : List AcceptedBlock) (c : CarriedAttestation) : Type 0 where
-  which_is : c.which ≡ which
-  accepted : IsOneOf c.accepted blocks
-  at : IsOneOf (c.position, c.attestation) (enumerate_from 0 c.accepted.block.body.attestations)
-
-placed_in_block : (which : ℕ) (b : AcceptedBlock) (earlier : List AcceptedBlock) (c : CarriedAttestation) → IsOneOf c (attestations_of_block which b) → IsPlaced which (b ∷ earlier) c
-unfolding attestations_of_block
-placed_in_block which b earlier c h =
-    let x = of_map _ c (enumerate_from 0 b.block.body.attestations) h in
-    subst (IsPlaced which (b ∷ earlier)) x.is (record { which_is = refl; accepted = inl refl; at = x.listed })
-
-placed : (which : ℕ) (blocks : List AcceptedBlock) (c : CarriedAttestation) → IsOneOf c (carried_attestations which blocks) → IsPlaced which blocks c
-unfolding carried_attestations
-placed which [] c h = absurd h
-placed which (b ∷ earlier) c h = elim (of_append c (carried_attestations which earlier) (attestations_of_block which b) h) [
-  | inl before ↦ let r = placed which earlier c before in record { which_is = r.which_is; accepted = inr r.accepted; at = r.at }
-  | inr here ↦ placed_in_block which b earlier c here
-]
-
-placed_either : (first second : List AcceptedBlock) (c : CarriedAttestation) → IsOneOf c (all_attestations first second) → IsPlaced 0 first c ⊎ IsPlaced 1 second c
-unfolding all_attestations
-placed_either first second c h = elim (of_append c (carried_attestations 0 first) (carried_attestations 1 second) h) [
-  | inl one ↦ inl (placed 0 first c one)
-  | inr other ↦ inr (placed 1 second c other)
-]
 
 from_low : (n p : ℕ) (a : Attestation) (xs : List Attestation) → IsOneOf (p, a) (enumerate_from n xs) → n ≤ p
 from_low n p a [] h = absurd h

@@ -10,16 +10,26 @@ ghost use Rattle.beacon_body.specs.declared.attester_slashing.AttesterSlashing.{
 ghost use Rattle.spec_state.specs.declared.plain.PlainState.{PlainState};
 ghost use Rattle.spec_state.specs.Limits.{IsState};
 ghost use Rattle.spec_state.specs.Soundness.{IsSound};
-ghost use Rattle.spec_blocks.specs.IsValidIndexedAttestation.{is_valid_indexed_attestation};
+ghost use Rattle.spec_blocks.specs.IsValidIndexedAttestation.{is_strictly_ascending, is_valid_indexed_attestation};
 ghost use Rattle.spec_blocks.specs.ProcessAttesterSlashing.{process_attester_slashing};
 ghost use Rattle.spec_forensics.specs.declared.vote.Vote.{Vote};
 ghost use Rattle.spec_forensics.specs.Histories.{AcceptedBlock};
 ghost use Rattle.spec_forensics.specs.CarriedVotes.{all_votes};
 ghost use Rattle.spec_forensics.specs.Verdict.{offences_of};
+ghost use Rattle.spec_slasher.specs.GetIndexedAttestation.{in_order};
 ghost use Rattle.spec_slasher.specs.AttestationOf.{CarriedAttestation, all_attestations, AreInOrder, names, indexed, attestation_of};
 ghost use Rattle.spec_slasher.specs.Operations.{operations, HasOperation, offenders, IsNamed};
 ghost use Rattle.spec_slasher.specs.Accepts.{IsDoneOrOverflow, IsHeld, HasSlashable, HasNoSlashable};
 ghost use Rattle.spec_slasher.specs.Written.{IsReadable};
+
+/// The sorted list of a list's indices ascends strictly, has the same indices, and is the only such list.
+pub fn indices_are_sorted()
+    ensures ascends { (indices : List ℕ) → is_strictly_ascending (in_order indices) ≡ true }
+    ensures keeps { (indices : List ℕ) (index : ℕ) → Contains indices index → Contains (in_order indices) index }
+    ensures adds_none { (indices : List ℕ) (index : ℕ) → Contains (in_order indices) index → Contains indices index }
+    ensures only { (indices sorted : List ℕ) → is_strictly_ascending sorted ≡ true → ((index : ℕ) → Contains indices index → Contains sorted index) → ((index : ℕ) → Contains sorted index → Contains indices index)
+        → sorted ≡ in_order indices }
+{}
 
 /// A vote names an attestation exactly where a block carries it; and where each block has an event of its own, it names the one of each
 /// place that carries it.
