@@ -10,3 +10,4 @@ pub mod Held
 pub mod Written
 pub mod One
 pub mod Sorted
+pub mod Events

@@ -1,5 +1,5 @@
 -- A vote names one attestation, where each block of a history has an event of its own.
-use Rattle.std.proofs.Common.{◌≡◌, ◌∙◌, ℕ, ◌+◌, ◌<◌, ◌≤◌, ◌⊎◌, inl, inr, true, List, [], ◌∷◌, Some, refl, sym, ap, ap₂, subst, arith}
+use Rattle.std.proofs.Common.{◌≡◌, ◌∙◌, ℕ, ◌+◌, ◌<◌, ◌≤◌, inl, inr, true, List, [], ◌∷◌, Some, sym, ap, ap₂, subst, arith}
 use Rattle.std.specs.List.{Contains, enumerate_from}
 use Rattle.beacon_body.specs.declared.attestation.Attestation.{Attestation}
 use Rattle.ffg_law.specs.Links.{IsOneOf}
@@ -8,8 +8,8 @@ use Rattle.spec_forensics.specs.declared.vote.Vote.{Vote}
 use Rattle.spec_forensics.specs.Histories.{AcceptedBlock}
 use Rattle.spec_forensics.specs.CarriedVotes.{all_votes}
 use Rattle.spec_slasher.specs.GetIndexedAttestation.{get_indexed_attestation}
-use Rattle.spec_slasher.specs.AttestationOf.{CarriedAttestation, attestations_of_block, carried_attestations, all_attestations, AreInOrder, names, indexed, attestation_of}
-use Rattle.spec_slasher.proofs.Lists.{one_of, each_is, of_append, of_map}
+use Rattle.spec_slasher.specs.AttestationOf.{CarriedAttestation, all_attestations, AreInOrder, names, indexed, attestation_of}
+use Rattle.spec_slasher.proofs.Lists.{one_of, each_is}
 use Rattle.spec_slasher.proofs.Stands.{IsPlaced, placed_either}
 use Rattle.spec_slasher.proofs.Named.{vote_at, ComesFrom, has_vote, from_votes, cast_of, has_attestation}
 

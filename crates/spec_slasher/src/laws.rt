@@ -1,6 +1,6 @@
 //! The laws of operations. They do nothing when they run.
 
-ghost use Rattle.std.specs.Prelude.{◌≡◌, ◌<◌, ◌≤◌, ℕ, List, ◌++◌, length, true, All, AllPairs, Contains, Some, is_some};
+ghost use Rattle.std.specs.Prelude.{◌≡◌, ◌<◌, ◌≤◌, ℕ, ◌+◌, List, ◌++◌, length, true, All, AllPairs, Contains, Some, is_some};
 ghost use Rattle.bc_words.specs.Outcome.{done, refused};
 ghost use Rattle.bc_words.specs.declared.refusal.Refusal.TheVariants.{AsNone};
 ghost use Rattle.bc_preset.specs.declared.configuration.ConfigValues.{ConfigValues};
@@ -13,7 +13,9 @@ ghost use Rattle.spec_state.specs.Soundness.{IsSound};
 ghost use Rattle.spec_blocks.specs.IsValidIndexedAttestation.{is_strictly_ascending, is_valid_indexed_attestation};
 ghost use Rattle.spec_blocks.specs.ProcessAttesterSlashing.{process_attester_slashing};
 ghost use Rattle.spec_forensics.specs.declared.vote.Vote.{Vote};
-ghost use Rattle.spec_forensics.specs.Histories.{AcceptedBlock};
+ghost use Rattle.spec_fork_choice.specs.Store.{Store};
+ghost use Rattle.spec_fork_choice.specs.OnEvent.{Accepted};
+ghost use Rattle.spec_forensics.specs.Histories.{AcceptedBlock, with_event};
 ghost use Rattle.spec_forensics.specs.CarriedVotes.{all_votes};
 ghost use Rattle.spec_forensics.specs.Verdict.{offences_of};
 ghost use Rattle.spec_slasher.specs.GetIndexedAttestation.{in_order};
@@ -38,6 +40,13 @@ pub fn carried_votes_name_attestations()
     ensures named { (genesis : PlainState) (first second : List AcceptedBlock) (vote : Vote) → Contains (all_votes genesis first second) vote → is_some (attestation_of genesis first second vote) ≡ true }
     ensures only { (genesis : PlainState) (first second : List AcceptedBlock) (vote : Vote) (carried : CarriedAttestation) → AreInOrder first → AreInOrder second → Contains (all_attestations first second) carried
         → names genesis vote carried ≡ true → attestation_of genesis first second vote ≡ Some (indexed carried) }
+{}
+
+/// The blocks of a history have an event each, in order, where each event of its run has a number above those before.
+pub fn events_stay_in_order()
+    ensures order { (event : ℕ) (history : List AcceptedBlock) (store : Store) (accepted : Accepted) → AreInOrder history → All (λ b. b.event < event) history → AreInOrder (with_event event history store accepted) }
+    ensures below { (event : ℕ) (history : List AcceptedBlock) (store : Store) (accepted : Accepted) → AreInOrder history → All (λ b. b.event < event) history
+        → All (λ b. b.event < event + 1) (with_event event history store accepted) }
 {}
 
 /// Each offence has its operation.
