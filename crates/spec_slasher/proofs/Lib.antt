@@ -11,3 +11,4 @@ pub mod Written
 pub mod One
 pub mod Sorted
 pub mod Events
+pub mod Evidence

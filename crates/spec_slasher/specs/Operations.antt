@@ -3,12 +3,14 @@
 use Rattle.std.specs.Prelude.{◌≡◌, ℕ, Bool, Contains, List, [], ◌∷◌, ◌++◌, map, Option, Some, None, if◌then◌else◌}
 use Rattle.std.specs.List.{filter_map, list_any}
 use Rattle.beacon_types.specs.declared.indexed_attestation.IndexedAttestation.{IndexedAttestation}
+use Rattle.beacon_body.specs.declared.attestation.Attestation.{Attestation}
 use Rattle.beacon_body.specs.declared.attester_slashing.AttesterSlashing.{AttesterSlashing}
 use Rattle.spec_state.specs.declared.plain.PlainState.{PlainState}
 use Rattle.spec_fork_choice.specs.SameBlock.{same_attester_slashing}
 use Rattle.spec_forensics.specs.declared.offence.Offence.{Offence}
 use Rattle.spec_forensics.specs.Histories.{AcceptedBlock}
 use Rattle.spec_forensics.specs.Verdict.{offences_of}
+use Rattle.spec_slasher.specs.GetIndexedAttestation.{get_indexed_attestation}
 use Rattle.spec_slasher.specs.AttestationOf.{attestation_of}
 
 -- the operation of two attestations, where both are there
@@ -34,6 +36,19 @@ each_once before (operation ∷ later) =
 -- the operations of all offences, each once
 unfoldable pub operations : PlainState → List AcceptedBlock → List AcceptedBlock → List AttesterSlashing
 operations genesis first second = each_once [] (filter_map (operation_of genesis first second) (offences_of genesis first second))
+
+-- an attestation is one that an accepted block carries, with all its attesters in the state behind the block
+pub record IsCarriedIn (blocks : List AcceptedBlock) (indexed : IndexedAttestation) : Type 0 where
+  pub accepted : AcceptedBlock
+  pub is_accepted : Contains blocks accepted
+  pub attestation : Attestation
+  pub is_carried : Contains accepted.block.body.attestations attestation
+  pub is : indexed ≡ get_indexed_attestation accepted.state attestation
+
+-- both attestations of an operation are
+pub record AreCarriedIn (blocks : List AcceptedBlock) (operation : AttesterSlashing) : Type 0 where
+  pub first : IsCarriedIn blocks operation.attestation_1
+  pub second : IsCarriedIn blocks operation.attestation_2
 
 -- an offence has an operation, which is one of those of all offences
 pub record HasOperation (genesis : PlainState) (first second : List AcceptedBlock) (offence : Offence) : Type 0 where

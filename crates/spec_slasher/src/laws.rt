@@ -20,7 +20,7 @@ ghost use Rattle.spec_forensics.specs.CarriedVotes.{all_votes};
 ghost use Rattle.spec_forensics.specs.Verdict.{offences_of};
 ghost use Rattle.spec_slasher.specs.GetIndexedAttestation.{in_order};
 ghost use Rattle.spec_slasher.specs.AttestationOf.{CarriedAttestation, all_attestations, AreInOrder, names, indexed, attestation_of};
-ghost use Rattle.spec_slasher.specs.Operations.{operations, HasOperation, offenders, IsNamed};
+ghost use Rattle.spec_slasher.specs.Operations.{operations, AreCarriedIn, HasOperation, offenders, IsNamed};
 ghost use Rattle.spec_slasher.specs.Accepts.{IsDoneOrOverflow, IsHeld, HasSlashable, HasNoSlashable};
 ghost use Rattle.spec_slasher.specs.Written.{IsReadable};
 
@@ -57,6 +57,11 @@ pub fn offences_have_operations()
 /// No two operations are equal.
 pub fn operations_differ()
     ensures { (genesis : PlainState) (first second : List AcceptedBlock) → AllPairs (λ a b. a ≡ b → ⊥) (operations genesis first second) }
+{}
+
+/// Both attestations of each operation are carried by accepted blocks, and have all their attesters.
+pub fn operations_are_carried()
+    ensures { (genesis : PlainState) (first second : List AcceptedBlock) → All (AreCarriedIn (first ++ second)) (operations genesis first second) }
 {}
 
 /// The data of each operation are slashable in the given order.
