@@ -418,10 +418,7 @@ fn write_clash<W: fmt::Write>(
     match kind {
         ClashKind::ZeroBlock => write!(f, "the block's root is zero"),
         ClashKind::ZeroState => write!(f, "the block's state root is zero"),
-        ClashKind::Kept(0) => write!(
-            f,
-            "the block has the root of {first}, and is another one"
-        ),
+        ClashKind::Kept(0) => write!(f, "the block has the root of {first}, and is another one"),
         ClashKind::Kept(number) => write_kept(f, number, kept),
     }
 }

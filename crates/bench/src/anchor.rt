@@ -38,12 +38,7 @@ fn genesis_store(alloc: Global, config: &Config, state: State) -> Result<Store>
 }
 
 /// The store at an anchor.
-fn anchor_store(
-    alloc: Global,
-    config: &Config,
-    state: State,
-    block: BeaconBlock,
-) -> Result<Store>
+fn anchor_store(alloc: Global, config: &Config, state: State, block: BeaconBlock) -> Result<Store>
     requires preset { state.preset ≡ config.now.preset }
 {
     match anchor_check(alloc, config, &state, &block) {
@@ -74,7 +69,11 @@ fn open(alloc: Global, config: &Config, state: &[u8], block: Option<&[u8]>) -> R
 }
 
 /// What a store that stands took.
-fn opened(rt: &(impl AllocGlobal + CpuClock + Files), begin: Time, store: &Store) -> Result<Opened> {
+fn opened(
+    rt: &(impl AllocGlobal + CpuClock + Files),
+    begin: Time,
+    store: &Store,
+) -> Result<Opened> {
     let time = time_since(rt, begin);
     let _justified = store.justified();
     Ok(Opened {
@@ -126,9 +125,20 @@ pub fn measure(rt: &(impl AllocGlobal + Print + CpuClock + Files)) -> Result<()>
     let genesis = time_opening(rt, &config, &state, None)?;
     let anchor = time_opening(rt, &config, &state, Some(&block))?;
     let numbers = [
-        ("bytes of memory with a store at a genesis of 262144 validators", genesis.resident),
-        ("bytes of memory with one at the same anchor", anchor.resident),
+        (
+            "bytes of memory with a store at a genesis of 262144 validators",
+            genesis.resident,
+        ),
+        (
+            "bytes of memory with one at the same anchor",
+            anchor.resident,
+        ),
     ];
     tell_numbers(rt, &numbers)?;
-    tell_ratio(rt, "opening at an anchor, against opening at genesis", anchor.time, genesis.time)
+    tell_ratio(
+        rt,
+        "opening at an anchor, against opening at genesis",
+        anchor.time,
+        genesis.time,
+    )
 }

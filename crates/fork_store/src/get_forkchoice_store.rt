@@ -117,14 +117,7 @@ pub fn forkchoice_fields(
     };
     let states = CheckpointStates::new(alloc);
     let genesis_time = state.genesis_time();
-    Ok(StoreFields::as_opened(
-        *config,
-        time,
-        genesis_time,
-        checkpoint,
-        blocks,
-        states,
-    ))
+    Ok(StoreFields::as_opened(*config, time, genesis_time, checkpoint, blocks, states))
 }
 
 /// The array whose one node is that of the first block, with the store's checkpoints and the balances of the justified one. The keeper is

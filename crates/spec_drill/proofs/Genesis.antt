@@ -1,5 +1,5 @@
 -- The maker's genesis: it passes the genesis check, is calm, and a store opens on it.
-use Rattle.std.proofs.Common.{◌≡◌, ◌∙◌, ℕ, zero, suc, ◌+◌, ◌*◌, ◌/◌, ◌≤◌, Bool, true, false, ◌==◌, not, List, [], ◌∷◌, map, replicate, Option, Some, None, if◌then◌else◌, refl, sym, ap, inl, inr, arith}
+use Rattle.std.proofs.Common.{◌≡◌, ◌∙◌, ℕ, zero, suc, ◌+◌, ◌*◌, ◌/◌, ◌≤◌, Bool, true, false, ◌==◌, not, List, [], ◌∷◌, map, replicate, Option, Some, None, if◌then◌else◌, refl, sym, ap, subst, inl, inr, arith}
 use Rattle.spec_drill.specs.Plan.{Plan, IsPlan, last_slot, epochs_of}
 use Rattle.spec_drill.specs.MakeGenesis.{made_validator, made_genesis, genesis_of_plan}
 use Rattle.spec_drill.specs.Make.{EndsWell, made, time_of}
@@ -32,7 +32,7 @@ use Rattle.spec_fork_choice.specs.Store.{KeptBlock, block_of}
 use Rattle.spec_fork_choice.specs.GetForkchoiceStore.{genesis_block, genesis_store}
 use Rattle.spec_fork_choice.specs.Clash.{clash_with, clash_of}
 use Rattle.spec_fork_choice.proofs.Genesis.{genesis_store_is}
-use Rattle.spec_fork_choice.specs.OnEvent.{genesis_clash}
+use Rattle.spec_fork_choice.specs.OnEvent.{first_clash, genesis_clash}
 use Rattle.spec_drill.proofs.AsWritten.{taken_as_written}
 use Rattle.spec_drill.proofs.Committees.{length_replicate}
 use Rattle.spec_drill.proofs.Block.{root_is_same}
