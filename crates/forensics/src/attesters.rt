@@ -112,7 +112,20 @@ impl RecentCommittees {
         }
     }
 
-    /// The attesters of each attestation of a block, by the state behind it. The committees of an epoch are made at most once.
+    /// Takes the current committees for the previous ones, where an epoch is over.
+    fn turn(&mut self, previous: u64, current: u64) {
+        let Some(made) = self.current.take() else {
+            return;
+        };
+        if previous < current && made.is_for(previous) {
+            self.previous = Some(made);
+        } else {
+            self.current = Some(made);
+        }
+    }
+
+    /// The attesters of each attestation of a block, by the state behind it. The committees of an epoch are mostly made
+    /// once.
     pub(crate) fn attesters(
         &mut self,
         alloc: Global,
@@ -124,6 +137,7 @@ impl RecentCommittees {
         ensures once { IfOk result (λ lists. StandOnce (map (λ l. l.items) lists.items)) }
     {
         let _preset = state.preset();
+        self.turn(previous_epoch(state), current_epoch(state));
         let previous = committees_of(alloc, state, previous_epoch(state), self.previous.take())?;
         let current = committees_of(alloc, state, current_epoch(state), self.current.take())?;
         let lists = list_attesters(alloc, state, &previous, &current, attestations)?;

@@ -16,9 +16,10 @@ use hash_tree::Root;
 use std::alloc::Global;
 use std::marker::Model;
 
-/// The committees of an epoch, and what they were made of. Clauses see the committees.
+/// The committees of an epoch, and what they were made of. Clauses see the committees; the epoch only says where to look first.
 #[derive(Drop)]
 pub(crate) struct Made {
+    epoch: u64,
     preset: Preset,
     seed: Root,
     active: Vec<u64>,
@@ -53,6 +54,11 @@ impl Made {
         &self.committees
     }
 
+    /// Whether they were made for an epoch. Nothing rests on it: what they are made of is compared too.
+    pub(crate) fn is_for(&self, epoch: u64) -> bool {
+        self.epoch == epoch
+    }
+
     /// Whether they are made of these.
     #[tactic(auto, using(crate::proofs::Presets::same_preset))]
     fn is_of(&self, preset: &Preset, seed: &Root, active: &[u64]) -> bool
@@ -85,6 +91,7 @@ pub(crate) fn committees_of(
     }
     let committees = committees_of_epoch(alloc, state, epoch)?;
     Ok(Made {
+        epoch,
         preset: *preset,
         seed,
         active,
