@@ -156,15 +156,19 @@ module _ (store : Store) (maker : PlainMaker) (status : Status) (digest : List �
       let hashed : sha256 replayed.lines ≡ digest = ap sha256 (sym (all_lines is)) ∙ sym h.digest_is in
       (e.ends refl, ap₂ six_lines (sym counted) (sym hashed))
 
--- what the run of the events did to the shelf
-pub own_outside : {T : Type 0} (result : Result T Status) (status : Status) (s t : ShelfTold) → ((took : SinkTold) → OutsideKeeps [] (Some status) s t took took) → status ≢ statuses.Words → IfErr result (λ other. (other ≡ status) ⊎ (other ≡ statuses.NoMemory)) → FollowsOutside [] result s t
+not_done : (status : Status) → is_done status ≡ false → status ≢ statuses.Done
+not_done status other = λ is. absurd (let no : true ≡ false = sym (ap is_done is) ∙ other in cc)
+
+-- what the run of the events did to the shelf, where it ended so or memory ran out behind it
+pub own_outside : {T : Type 0} (result : Result T Status) (status : Status) (s t : ShelfTold) → ((took : SinkTold) → OutsideKeeps [] (Some status) s t took took) → status ≢ statuses.Words
+    → IfErr result (λ other. ((other ≡ status) × (is_done status ≡ false)) ⊎ (other ≡ statuses.NoMemory)) → FollowsOutside [] result s t
 own_outside (Ok made) status s t h command is = record { shelf = (h (record { taken = []; faults = 0; reliable = true })).shelf; read = tt; others = tt }
 own_outside (Err other) status s t h command (inl same) =
     let o = h (record { taken = []; faults = 0; reliable = true }) in
-    record { shelf = o.shelf; read = rw same o.causes.read; others = rw same (command, λ is. never_rose (o.causes.write is)) }
+    record { shelf = o.shelf; read = rw same.0 o.causes.read; others = rw same.0 (command, λ is. never_rose (o.causes.write is), not_done status same.1) }
 own_outside (Err other) status s t h command (inr memory) =
     let o = h (record { taken = []; faults = 0; reliable = true }) in
-    record { shelf = o.shelf; read = rw memory (λ is. cc); others = rw memory (λ is. cc, λ is. cc) }
+    record { shelf = o.shelf; read = rw memory (λ is. cc); others = rw memory (λ is. cc, λ is. cc, λ is. cc) }
 
 -- what a digest does to a sink is nothing to another one
 pub digest_outside : (status : Status) (s t : ShelfTold) (lines : List ℕ) (took : SinkTold) → OutsideKeeps [] (Some status) s t (hash_told []) (hash_told lines) → OutsideKeeps [] (Some status) s t took took
@@ -301,6 +305,10 @@ still_new plan maker is = is ∙ ap new_maker (sym (ap (λ (m : PlainMaker). m.p
 plan_is : (plan : Plan) (maker : PlainMaker) → maker ≡ new_maker plan → maker.plan ≡ plan
 unfolding new_maker
 plan_is plan maker is = ap (λ (m : PlainMaker). m.plan) is
+
+-- the split of a maker is of its plan
+pub split_of : (plan : Plan) (which : ℕ) (own maker : PlainMaker) → own ≡ new_maker plan → maker ≡ new_maker (record own.plan { which = Some which }) → maker ≡ new_maker (record plan { which = Some which })
+split_of plan which own maker new is = is ∙ ap (λ (p : Plan). new_maker (record p { which = Some which })) (plan_is plan own new)
 
 -- the makers of a plan are those of their own one
 pub makers_still : (plan : Plan) (makers : Makers) → AreMakers plan makers → AreMakers makers.own.plan makers

@@ -14,6 +14,7 @@ use Rattle.spec_forensics.specs.Offences.{IsCarried, offences_below}
 use Rattle.spec_forensics.specs.Steady.{genesis_total}
 use Rattle.spec_forensics.specs.Verdict.{balance_of, finalizing_chain, is_agreed, moved_on, offences_of, unless_moved, verdict_of}
 use Rattle.spec_forensics.specs.declared.offence.Offence.{Offence}
+use Rattle.spec_forensics.specs.declared.vote.Vote.{Vote}
 use Rattle.spec_forensics.specs.declared.verdict.Verdict.{Verdict}
 use Rattle.spec_forensics.specs.declared.verdict.Verdict.TheVariants.{Agree, Small, Moved, Conflict}
 use Rattle.spec_replay.specs.Run.{Run, after_lines, done, over}
@@ -59,6 +60,17 @@ module _ (old mid new : PlainBook) (a b : Checkpoint) (first : mid ≡ with_fina
 pub second_final : (old mid : PlainBook) (a b : Checkpoint) → mid ≡ with_finalized old 0 a → IsFinalOf old.genesis (history_of old 1) b → IsFinalOf mid.genesis (history_of mid 1) b
 unfolding with_finalized history_of
 second_final old mid a b is final = rw is final
+
+-- what it answers is what it finds
+pub found_of : (old mid new : PlainBook) (a b : Checkpoint) (first second : Store) (findings : code.Findings) → a ≡ first.finalized_checkpoint → b ≡ second.finalized_checkpoint → mid ≡ with_finalized old 0 a → new ≡ with_finalized mid 1 b
+    → findings.offences.items ≡ offences_below (votes_of new) (length new.genesis.validators) → All (IsCarried (votes_of new)) findings.offences.items → findings.verdict ≡ verdict_on new
+    → ((balance total : ℕ) → findings.verdict ≡ Conflict balance total → total ≤ 3 * balance) → HasFound old.genesis (history_of old 0) (history_of old 1) first second findings
+found_of old mid new a b first second findings is_a is_b close_a close_b offences carried verdict convicts = record {
+  offences = offences ∙ closed_offences old mid new a b close_a close_b;
+  verdict = verdict ∙ closed_verdict old mid new a b close_a close_b ∙ ap₂ (verdict_of old.genesis (history_of old 0) (history_of old 1)) is_a is_b;
+  carried = subst (λ (votes : List Vote). All (IsCarried votes) findings.offences.items) (closed_votes old mid new a b close_a close_b) carried;
+  convicts = convicts;
+}
 
 -- ---- a conflict
 

@@ -195,8 +195,8 @@ module _ (which : ℕ) (others : List KeptBlock) (number : ℕ) (old : Followed)
 
 -- a clash is no fault of the outside
 pub clash_is_inside : (status : Status) (which number : ℕ) (found : Option ℕ) → ClashesBy status which number found → IsInside status
-clash_is_inside (statuses.Clash which_is event kind kept_which) which number found h = record { words = λ is. cc; read = λ is. cc; write = λ is. cc }
-clash_is_inside statuses.NoMemory which number found h = record { words = λ is. cc; read = λ is. cc; write = λ is. cc }
+clash_is_inside (statuses.Clash which_is event kind kept_which) which number found h = record { done = λ is. cc; words = λ is. cc; read = λ is. cc; write = λ is. cc }
+clash_is_inside statuses.NoMemory which number found h = record { done = λ is. cc; words = λ is. cc; read = λ is. cc; write = λ is. cc }
 clash_is_inside statuses.Done which number found h = absurd h
 clash_is_inside statuses.Words which number found h = absurd h
 clash_is_inside (statuses.Config fault) which number found h = absurd h
@@ -232,6 +232,10 @@ none_another kept root b false is none = refl
 no_clash : (kept : List KeptBlock) (root : List ℕ) (b : BeaconBlock) → is_another (option_map (λ (k : KeptBlock). k.block) (block_of kept root)) b ≡ false → clash_among kept root b ≡ None
 unfolding clash_among
 no_clash kept root b is = rw is refl
+
+pub none_among : (root : List ℕ) (b : BeaconBlock) → None ≡ clash_among [] root b
+unfolding clash_among block_of is_another
+none_among root b = refl
 
 kept_on : (genesis : PlainState) (b : AcceptedBlock) (earlier : List AcceptedBlock) (root : List ℕ) (k : KeptBlock) (test : Bool) → is_kept (first_accepted genesis earlier) b.root ≡ test → block_of (first_accepted genesis earlier) root ≡ Some k
     → block_of (first_accepted genesis (b ∷ earlier)) root ≡ Some k
@@ -287,14 +291,14 @@ none_of_second (Second first) book is zero = absurd (omega (arith, zero))
 
 -- the source stopped
 pub stop_outside : (side : Side) (stop : SourceStop) {s t : ShelfTold} → SourceStopsBy {T = Unit {0}} (Err stop) s.faults t.faults → ShelfKeeps [] s t → FollowsOutside {T = Unit {0}} [] (Err (no_event_of (which_of side) stop)) s t
-stop_outside side (stops.Fault event fault) h keeps = record { shelf = keeps; read = λ is. cc; others = (λ is. cc, λ is. cc) }
-stop_outside side (stops.Limit event bound) h keeps = record { shelf = keeps; read = λ is. cc; others = (λ is. cc, λ is. cc) }
-stop_outside side stops.ReadFault h keeps = record { shelf = keeps; read = λ is. h.1; others = (λ is. cc, λ is. cc) }
-stop_outside side stops.NoMemory h keeps = record { shelf = keeps; read = λ is. cc; others = (λ is. cc, λ is. cc) }
+stop_outside side (stops.Fault event fault) h keeps = record { shelf = keeps; read = λ is. cc; others = (λ is. cc, λ is. cc, λ is. cc) }
+stop_outside side (stops.Limit event bound) h keeps = record { shelf = keeps; read = λ is. cc; others = (λ is. cc, λ is. cc, λ is. cc) }
+stop_outside side stops.ReadFault h keeps = record { shelf = keeps; read = λ is. h.1; others = (λ is. cc, λ is. cc, λ is. cc) }
+stop_outside side stops.NoMemory h keeps = record { shelf = keeps; read = λ is. cc; others = (λ is. cc, λ is. cc, λ is. cc) }
 
 -- the run ended at an event
 pub inside_only : (status : Status) {s t : ShelfTold} → IsInside status → ShelfKeeps [] s t → FollowsOutside {T = Unit {0}} [] (Err status) s t
-inside_only status h keeps = record { shelf = keeps; read = λ is. absurd (h.read is); others = (h.words, h.write) }
+inside_only status h keeps = record { shelf = keeps; read = λ is. absurd (h.read is); others = (h.words, h.write, h.done) }
 
 -- what was followed before
 pub outside_behind : {T : Type 0} (names more : List (List ℕ)) (result : Result T Status) {s t u : ShelfTold} → ShelfKeeps names s t → FollowsOutside more result t u → FollowsOutside (names ++ more) result s u
@@ -303,8 +307,8 @@ outside_behind names more (Err status) {s} {t} {u} h k = record { shelf = keeps_
 
 -- the record could not be opened
 pub unopened_outside : (names : List (List ℕ)) (trouble : Trouble) {s t : ShelfTold} → FailsOnlyBy {T = Unit {0}} (Err trouble) s.faults t.faults → ShelfKeeps names s t → FollowsOutside {T = Unit {0}} names (Err (unread trouble)) s t
-unopened_outside names troubles.Failed h keeps = record { shelf = keeps; read = λ is. h.1; others = (λ is. cc, λ is. cc) }
-unopened_outside names troubles.NoMemory h keeps = record { shelf = keeps; read = λ is. cc; others = (λ is. cc, λ is. cc) }
+unopened_outside names troubles.Failed h keeps = record { shelf = keeps; read = λ is. h.1; others = (λ is. cc, λ is. cc, λ is. cc) }
+unopened_outside names troubles.NoMemory h keeps = record { shelf = keeps; read = λ is. cc; others = (λ is. cc, λ is. cc, λ is. cc) }
 
 -- ---- what goes on
 

@@ -25,7 +25,7 @@ use Rattle.beacon_node.proofs.Readers.{clash_of_opening, opened_without}
 
 -- memory ran out
 pub no_memory_opens : (clash : Option ClashKind) → OpeningEnds statuses.NoMemory clash
-no_memory_opens clash = record { clashes = λ on. absurd cc; inside = record { words = λ is. cc; read = λ is. cc; write = λ is. cc } }
+no_memory_opens clash = record { clashes = λ on. absurd cc; inside = record { done = λ is. cc; words = λ is. cc; read = λ is. cc; write = λ is. cc } }
 
 module _ (config : ConfigValues) (genesis : PlainState) where
   pub opened_store : (store : Store) → open_store config genesis ≡ accepted store → IsOpened config genesis store
@@ -38,7 +38,7 @@ module _ (config : ConfigValues) (genesis : PlainState) where
   unfolding open_store
   opening_ends (stores.Clash kind) is = record {
     clashes = λ on. (kind, clash_of_opening (genesis_clash genesis) (genesis_store config genesis) kind is, refl);
-    inside = record { words = λ is. cc; read = λ is. cc; write = λ is. cc };
+    inside = record { done = λ is. cc; words = λ is. cc; read = λ is. cc; write = λ is. cc };
   }
   opening_ends (stores.Refused why) is = no_memory_opens (genesis_clash genesis)
   opening_ends (stores.Limit bound) is = no_memory_opens (genesis_clash genesis)

@@ -135,10 +135,10 @@ fn follow_made<F: Shelf>(
     requires few { length store.old.plain.blocks ≤ 1 }
     requires begun { history_of book.old (which_of side) ≡ [] }
     requires following { IsFollowing side genesis.now store.old.plain book.old }
-    ensures followed { Leaves result (follow (which_of side) (others_of side) store.old.plain (events_to_come 0 (to_come maker))) (followed_by side store.new.plain book.new) }
-    ensures following { IfOk result (λ _. IsFollowing side genesis.now store.new.plain book.new) }
+    ensures followed { Leaves result (follow (which_of side.entry) (others_of side.entry) store.old.plain (events_to_come 0 (to_come maker))) (followed_by side.entry store.new.plain book.new) }
+    ensures following { IfOk result (λ _. IsFollowing side.entry genesis.now store.new.plain book.new) }
     ensures few { IfOk result (λ _. length store.new.plain.blocks ≤ most_events + 1) }
-    ensures same { SameBeside side book.old book.new }
+    ensures same { SameBeside side.entry book.old book.new }
     ensures still { F.told shelf.new ≡ F.told shelf.old }
     ensures outside { FollowsOutside [] result (F.told shelf.old) (F.told shelf.new) }
 {

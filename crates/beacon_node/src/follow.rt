@@ -79,9 +79,9 @@ fn follow_block(
     requires watched { watch.now ≡ record { genesis = book.old.genesis; entered = given.now.entered } }
     requires added { IsAdded book.old.config book.old.genesis (history_of book.old (which_of side)) store.old.plain number given.now }
     ensures store { store.new.plain ≡ store.old.plain }
-    ensures followed { IfOk result (λ _. BlockFollowed side number store.old.plain given.now book.old book.new) }
-    ensures same { SameBeside side book.old book.new }
-    ensures over { IfErr result (λ status. ClashesBy status (which_of side) number (clash_of_accepted (others_of side) store.old.plain (block given.now))) }
+    ensures followed { IfOk result (λ _. BlockFollowed side.entry number store.old.plain given.now book.old book.new) }
+    ensures same { SameBeside side.entry book.old book.new }
+    ensures over { IfErr result (λ status. ClashesBy status (which_of side.entry) number (clash_of_accepted (others_of side.entry) store.old.plain (block given.now))) }
 {
     let state = match store.state(given.root()) {
         Ok(Some(state)) => state,
@@ -128,11 +128,11 @@ fn follow_event(
     requires kind { is_kind event.now.kind ≡ true }
     requires following { IsFollowing side genesis.now store.old.plain book.old }
     ensures few { IfOk result (λ _. length store.new.plain.blocks ≤ length store.old.plain.blocks + 1) }
-    ensures following { IfOk result (λ _. IsFollowing side genesis.now store.new.plain book.new) }
-    ensures followed { IfOk result (λ _. EventFollowed (which_of side) (others_of side) number (followed_by side store.old.plain book.old) (outcome_of store.old.plain event.now)
-        (followed_by side store.new.plain book.new)) }
-    ensures same { SameBeside side book.old book.new }
-    ensures over { IfErr result (λ status. EventEnds status (which_of side) (others_of side) number (followed_by side store.old.plain book.old) (outcome_of store.old.plain event.now)) }
+    ensures following { IfOk result (λ _. IsFollowing side.entry genesis.now store.new.plain book.new) }
+    ensures followed { IfOk result (λ _. EventFollowed (which_of side.entry) (others_of side.entry) number (followed_by side.entry store.old.plain book.old) (outcome_of store.old.plain event.now)
+        (followed_by side.entry store.new.plain book.new)) }
+    ensures same { SameBeside side.entry book.old book.new }
+    ensures over { IfErr result (λ status. EventEnds status (which_of side.entry) (others_of side.entry) number (followed_by side.entry store.old.plain book.old) (outcome_of store.old.plain event.now)) }
     ensures inside { IfErr result (λ status. IsInside status) }
 {
     are_bytes(event.payload.as_slice());
@@ -160,7 +160,7 @@ fn follow_event(
 
 /// The status of an event of a record that could not be read or made.
 fn no_event_of(side: Side<'_>, stop: SourceStop) -> Status
-    ensures { result ≡ no_event_of (which_of side) stop }
+    ensures { result ≡ no_event_of (which_of side.entry) stop }
 {
     match stop {
         SourceStop::Fault { event, fault } => Status::Record {
@@ -191,15 +191,15 @@ fn follow_next<S: EventSource, F: Shelf>(
     requires opened { IsOpenedFile (S.seen source.old).file (F.told shelf.old) }
     requires few { length store.old.plain.blocks ≤ (S.seen source.old).events + 1 }
     requires following { IsFollowing side genesis.now store.old.plain book.old }
-    ensures goes_on { IfNone result (FollowedSoFar side (followed_by side store.old.plain book.old) (S.seen source.old) (F.told shelf.old)
-        (followed_by side store.new.plain book.new) (S.seen source.new) (F.told shelf.new)
+    ensures goes_on { IfNone result (FollowedSoFar side.entry (followed_by side.entry store.old.plain book.old) (S.seen source.old) (F.told shelf.old)
+        (followed_by side.entry store.new.plain book.new) (S.seen source.new) (F.told shelf.new)
         × OneMore (S.seen source.old) (S.seen source.new) × (length store.new.plain.blocks ≤ (S.seen source.new).events + 1)) }
-    ensures over { IfSome result (λ ended. FollowedToEnd side ended (followed_by side store.old.plain book.old) (S.seen source.old) (F.told shelf.old) (F.told shelf.new)
-        (followed_by side store.new.plain book.new)) }
+    ensures over { IfSome result (λ ended. FollowedToEnd side.entry ended (followed_by side.entry store.old.plain book.old) (S.seen source.old) (F.told shelf.old) (F.told shelf.new)
+        (followed_by side.entry store.new.plain book.new)) }
     ensures events { (S.seen source.new).events ≤ (S.seen source.old).events + 1 }
-    ensures following { IfNone result (IsFollowing side genesis.now store.new.plain book.new) }
-    ensures followed { IfSome result (λ ended. IfOk ended (λ _. IsFollowing side genesis.now store.new.plain book.new × (store.new.plain ≡ store.old.plain))) }
-    ensures same { SameBeside side book.old book.new }
+    ensures following { IfNone result (IsFollowing side.entry genesis.now store.new.plain book.new) }
+    ensures followed { IfSome result (λ ended. IfOk ended (λ _. IsFollowing side.entry genesis.now store.new.plain book.new × (store.new.plain ≡ store.old.plain))) }
+    ensures same { SameBeside side.entry book.old book.new }
     ensures shelf { ShelfKeeps [] (F.told shelf.old) (F.told shelf.new) }
     ensures outside { IfSome result (λ ended. FollowsOutside [] ended (F.told shelf.old) (F.told shelf.new)) }
 {
@@ -228,11 +228,11 @@ pub fn follow_events<S: EventSource, F: Shelf>(
     requires few { length store.old.plain.blocks ≤ (S.seen source.old).events + 1 }
     requires most { (S.seen source.old).events ≤ most_events }
     requires following { IsFollowing side genesis.now store.old.plain book.old }
-    ensures over { FollowedToEnd side result (followed_by side store.old.plain book.old) (S.seen source.old) (F.told shelf.old) (F.told shelf.new)
-        (followed_by side store.new.plain book.new) }
-    ensures following { IfOk result (λ _. IsFollowing side genesis.now store.new.plain book.new) }
+    ensures over { FollowedToEnd side.entry result (followed_by side.entry store.old.plain book.old) (S.seen source.old) (F.told shelf.old) (F.told shelf.new)
+        (followed_by side.entry store.new.plain book.new) }
+    ensures following { IfOk result (λ _. IsFollowing side.entry genesis.now store.new.plain book.new) }
     ensures few { IfOk result (λ _. length store.new.plain.blocks ≤ most_events + 1) }
-    ensures same { SameBeside side book.old book.new }
+    ensures same { SameBeside side.entry book.old book.new }
     ensures outside { FollowsOutside [] result (F.told shelf.old) (F.told shelf.new) }
 {
     'events: loop {
@@ -256,10 +256,10 @@ pub fn follow_record<F: Shelf>(
     requires few { length store.old.plain.blocks ≤ 1 }
     requires new { history_of book.old (which_of side) ≡ [] }
     requires following { IsFollowing side genesis.now store.old.plain book.old }
-    ensures followed { RecordFollowed side name.now result store.old.plain (F.told shelf.old) (F.told shelf.new) (followed_by side store.new.plain book.new) }
-    ensures following { IfOk result (λ _. IsFollowing side genesis.now store.new.plain book.new) }
+    ensures followed { RecordFollowed side.entry name.now result store.old.plain (F.told shelf.old) (F.told shelf.new) (followed_by side.entry store.new.plain book.new) }
+    ensures following { IfOk result (λ _. IsFollowing side.entry genesis.now store.new.plain book.new) }
     ensures few { IfOk result (λ _. length store.new.plain.blocks ≤ most_events + 1) }
-    ensures same { SameBeside side book.old book.new }
+    ensures same { SameBeside side.entry book.old book.new }
     ensures outside { FollowsOutside (name.now ∷ []) result (F.told shelf.old) (F.told shelf.new) }
 {
     let file = match shelf.open(name) {

@@ -89,17 +89,18 @@ EventFollowed which others number old outcome new = (rest : Followed → Result 
 abbrev pub EventEnds : Status → ℕ → List KeptBlock → ℕ → Followed → EventOutcome (Store × Accepted) → Type 0
 EventEnds status which others number old outcome = (rest : Followed → Result Followed End) → EndsBy status (follow_then which others number old outcome rest)
 
--- A status of a command that is neither a fault of reading nor one of writing.
+-- A status of a command that came to no good end, and is neither a fault of reading nor one of writing.
 pub record IsInside (status : Status) : Type 0 where
+  pub done : status ≢ statuses.Done
   pub words : status ≢ statuses.Words
   pub read : status ≢ statuses.ReadFault
   pub write : status ≢ statuses.WriteFault
 
--- What following does to the shelf: a fault is answered only where its count rose.
+-- What following does to the shelf: a fault is answered only where its count rose. No good end is a status.
 pub record FollowsOutside {T : Type 0} (names : List (List ℕ)) (result : Result T Status) (told told_then : ShelfTold) : Type 0 where
   pub shelf : ShelfKeeps names told told_then
   pub read : IfErr result (λ status. status ≡ statuses.ReadFault → Rose told.faults told_then.faults)
-  pub others : IfErr result (λ status. (status ≢ statuses.Words) × (status ≢ statuses.WriteFault))
+  pub others : IfErr result (λ status. (status ≢ statuses.Words) × (status ≢ statuses.WriteFault) × (status ≢ statuses.Done))
 
 -- ---- the events
 

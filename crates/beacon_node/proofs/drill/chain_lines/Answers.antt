@@ -19,7 +19,9 @@ pub returns-clause-told : goal.returns-clause-told
 returns-clause-told g c = (refl, λ never. absurd cc)
 
 pub returns-then-not-is_done-clause-outside : goal.returns-then-not-is_done-clause-outside
-returns-then-not-is_done-clause-outside g c = own_outside _ c.digest_events-status.result.0 _ _ c.digest_events-status.ensures.outside c.digest_events-status.ensures.command (inl refl)
+returns-then-not-is_done-clause-outside g c =
+    let other : is_done c.digest_events-status.result.0 ≡ false = (let same = c.is_done.ensures in let no_more = c.if-not-is_done.true in cc) in
+    own_outside _ c.digest_events-status.result.0 _ _ c.digest_events-status.ensures.outside c.digest_events-status.ensures.command (inl (refl, other))
 
 pub returns-in-Ok-clause-outside : goal.returns-in-Ok-clause-outside
 returns-in-Ok-clause-outside g c = own_outside _ c.digest_events-status.result.0 _ _ c.digest_events-status.ensures.outside c.digest_events-status.ensures.command tt
