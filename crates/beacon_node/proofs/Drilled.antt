@@ -45,7 +45,7 @@ use Rattle.beacon_node.specs.inside.AtEnd.{EndsOver}
 use Rattle.beacon_node.specs.inside.Statuses.{unread, unwritten}
 use Rattle.beacon_node.specs.inside.Reading.{ReadOf, Unread}
 use Rattle.beacon_node.specs.inside.Progress.{Ended, EventsOver}
-use Rattle.beacon_node.specs.inside.Drilled.{AreMakers, Digested, DrillTold, Finished, OwnTold, SplitTold, WritesOut, chains_to_come, is_done, own_lines}
+use Rattle.beacon_node.specs.inside.Drilled.{AreMakers, Digested, DrillEnds, Finished, OwnEnds, SplitEnds, WritesOut, chains_to_come, is_done, own_lines}
 use Rattle.beacon_node.specs.inside.Following.{FollowedToEnd, FollowsOutside, Leaves, others_of, which_of}
 use Rattle.beacon_node.specs.inside.Histories.{IsGenesis, OpeningEnds}
 use Rattle.beacon_node.proofs.Reaching.{reaches_none, is_prefix, reaches_all, no_lines}
@@ -138,8 +138,8 @@ module _ (store : Store) (maker : PlainMaker) (status : Status) (digest : List �
   ended : Ended status replayed [] h.lines
   ended = over_new.ended [] (λ _. refl)
 
-  pub stops_before : {V : Type 0} (items : V → List ℕ) → is_done status ≡ false → OwnTold items (Err status) replayed.end (own_lines store rest)
-  stops_before items other = (other, ended.ends)
+  pub stops_before : is_done status ≡ false → OwnEnds status replayed.end
+  stops_before other = (other, ended.ends)
 
   -- the digest is of all lines
   all_lines : status ≡ statuses.Done → h.lines ≡ replayed.lines
@@ -187,30 +187,30 @@ made_followed side maker result store history left s t new h =
     let k : FollowedToEnd side result (record { store = store; history = [] }) (made_source (begun maker)) s t left = rw new at h in
     k.leaves [] (λ _. refl)
 
-module _ (genesis : PlainState) (store : Store) (left : Followed) (side : Side) (second : which_of side ≡ 1) (same : others_of side ≡ first_accepted genesis left.history) (rest : Events) {V : Type 0} (items : V → List ℕ) where
-  pub second_over : (status : Status) (left_then : Followed) → Leaves (Err status) (follow (which_of side) (others_of side) store rest) left_then → SplitTold items (Err status) (behind_first genesis store (Ok left) rest)
+module _ (genesis : PlainState) (store : Store) (left : Followed) (side : Side) (second : which_of side ≡ 1) (same : others_of side ≡ first_accepted genesis left.history) (rest : Events) where
+  pub second_over : (status : Status) (left_then : Followed) → Leaves (Err status) (follow (which_of side) (others_of side) store rest) left_then → SplitEnds status (behind_first genesis store (Ok left) rest)
   unfolding behind_first behind_second
   second_over status left_then h = λ on. let e = h on in let is = rw (second, same) at e.2 in (e.0, e.1, rw is refl)
 
-  pub second_told : (left_then : Followed) (made : V) → Leaves (Ok tt) (follow (which_of side) (others_of side) store rest) left_then → items made ≡ two_lines genesis left left_then → SplitTold items (Ok made) (behind_first genesis store (Ok left) rest)
+  pub second_told : (left_then : Followed) (made : List ℕ) → Leaves (Ok tt) (follow (which_of side) (others_of side) store rest) left_then → made ≡ two_lines genesis left left_then → behind_first genesis store (Ok left) rest ≡ Ok made
   unfolding behind_first behind_second
   second_told left_then made h lines = let is = rw (second, same) at h in rw (is, lines) refl
 
-pub no_split_memory : {V : Type 0} (items : V → List ℕ) (split : Result (List ℕ) End) → SplitTold items (Err statuses.NoMemory) split
-no_split_memory items split = λ on. absurd cc
+pub no_split_memory : (split : Result (List ℕ) End) → SplitEnds statuses.NoMemory split
+no_split_memory split = λ on. absurd cc
 
-module _ (genesis : PlainState) (store : Store) (first second : Events) {V : Type 0} (items : V → List ℕ) where
-  pub first_over : (status : Status) (left : Followed) → Leaves (Err status) (follow 0 [] store first) left → SplitTold items (Err status) (split_lines genesis store first second)
+module _ (genesis : PlainState) (store : Store) (first second : Events) where
+  pub first_over : (status : Status) (left : Followed) → Leaves (Err status) (follow 0 [] store first) left → SplitEnds status (split_lines genesis store first second)
   unfolding split_lines behind_first
   first_over status left h = λ on. let e = h on in (e.0, e.1, rw e.2 refl)
 
-  pub first_told : (result : Result V Status) (left : Followed) → Leaves (Ok tt) (follow 0 [] store first) left → SplitTold items result (behind_first genesis store (Ok left) second) → SplitTold items result (split_lines genesis store first second)
+  pub first_told : (left : Followed) → Leaves (Ok tt) (follow 0 [] store first) left → split_lines genesis store first second ≡ behind_first genesis store (Ok left) second
   unfolding split_lines
-  first_told result left h told = rw h told
+  first_told left h = rw h refl
 
 -- the genesis doesn't clash, so that its stores open unless memory runs out
-pub opening_breaks : {V : Type 0} (items : V → List ℕ) (status : Status) (clash : Option ClashKind) (split : Result (List ℕ) End) → clash ≡ None → OpeningEnds status clash → SplitTold items (Err status) split
-opening_breaks items status clash split none h = λ on. let e = h.clashes on in absurd (let no = sym none ∙ e.1 in cc)
+pub opening_breaks : (status : Status) (clash : Option ClashKind) (split : Result (List ℕ) End) → clash ≡ None → OpeningEnds status clash → SplitEnds status split
+opening_breaks status clash split none h = λ on. let e = h.clashes on in absurd (let no = sym none ∙ e.1 in cc)
 
 -- ---- all chains
 
@@ -254,37 +254,37 @@ unfolding drill_store drill_events
 no_files (Some kind) genesis store chains = refl
 no_files None genesis store chains = split-files _ _ _
 
-module _ (clashes : Option ClashKind) (genesis : PlainState) (store : Store) (chains : Chains) {V : Type 0} (items : V → List ℕ) where
+module _ (clashes : Option ClashKind) (genesis : PlainState) (store : Store) (chains : Chains) where
   abbrev pub drilled : Run
   drilled = drill_store clashes genesis store chains
 
   abbrev pub split : Result (List ℕ) End
   split = split_lines genesis store chains.first chains.second
 
-  pub drill_memory : DrillTold items (Err statuses.NoMemory) drilled
+  pub drill_memory : DrillEnds statuses.NoMemory drilled
   drill_memory = (no_files clashes genesis store chains, λ on. absurd cc)
 
-  pub not_opened : (status : Status) → OpeningEnds status clashes → DrillTold items (Err status) drilled
+  pub not_opened : (status : Status) → OpeningEnds status clashes → DrillEnds status drilled
   unfolding drill_store
   not_opened status h = (no_files clashes genesis store chains, λ on. let e = h.clashes on in (clash 0 0 e.0 0, ap end_of (sym e.2), rw e.1 refl))
 
   module _ (none : clashes ≡ None) where
-    pub own_over : {W : Type 0} (of : W → List ℕ) (status : Status) → OwnTold of (Err status) (with_events 1 store chains.own).end (own_lines store chains.own) → DrillTold items (Err status) drilled
+    pub own_over : (status : Status) → OwnEnds status (with_events 1 store chains.own).end → DrillEnds status drilled
     unfolding drill_store drill_events
-    own_over of status h = (no_files clashes genesis store chains, λ on. rw none (split_not_reached (own_lines store chains.own) split status (with_events 1 store chains.own).end h.0 on (h.1 on)))
+    own_over status h = (no_files clashes genesis store chains, λ on. rw none (split_not_reached (own_lines store chains.own) split status (with_events 1 store chains.own).end h.0 on (h.1 on)))
 
     module _ (end : (with_events 1 store chains.own).end ≡ Some done) where
-      pub split_over : {W : Type 0} (of : W → List ℕ) (status : Status) → SplitTold of (Err status) split → DrillTold items (Err status) drilled
+      pub split_over : (status : Status) → SplitEnds status split → DrillEnds status drilled
       unfolding drill_store drill_events with_split
-      split_over of status h = (no_files clashes genesis store chains, λ on. let e = h on in (e.0, e.1, rw (none, end, e.2) refl))
+      split_over status h = (no_files clashes genesis store chains, λ on. let e = h on in (e.0, e.1, rw (none, end, e.2) refl))
 
-      pub all_told : (made : V) (more : List ℕ) → split ≡ Ok more → items made ≡ own_lines store chains.own ++ more → DrillTold items (Ok made) drilled
+      pub all_told : (made more : List ℕ) → split ≡ Ok more → made ≡ own_lines store chains.own ++ more → drilled ≡ record { lines = made; end = Some done; files = 0 }
       unfolding drill_store drill_events with_split
       all_told made more is lines = rw (none, end, is, lines) refl
 
 -- the run ends before its lines are written
-pub drill_over : {V : Type 0} (items : V → List ℕ) (status : Status) (run : Run) (w : List ℕ) → DrillTold items (Err status) run → Finished status run w w
-drill_over items status run w h =
+pub drill_over : (status : Status) (run : Run) (w : List ℕ) → DrillEnds status run → Finished status run w w
+drill_over status run w h =
     let none : WritesLines (breaks_off status) run.lines w w = no_lines (breaks_off status) run.lines w (omega arith, λ on. sym (ap (λ (r : Run). length r.lines) (h.1 on).2)) in
     record { ends = λ on. ap (λ (r : Run). r.end) (h.1 on).2 ∙ (h.1 on).1; lines = none; pace = pace_none status run w none; files = h.0 }
 

@@ -48,7 +48,7 @@ impl<'a> Side<'a> {
     }
 
     /// The place of the other record's block that has this root and another content. None exactly where there is none.
-    #[tactic(auto, unfolding(spec_fork_choice::specs::Clash::clash_among))]
+    #[tactic(auto, using(crate::proofs::Following::none_among))]
     fn clash(&self, root: Root, block: &BeaconBlock) -> Option<u32>
         requires { length (others_of self.now) < 2 ^ 32 }
         ensures { result ≡ clash_among (others_of self.now) root block.now }

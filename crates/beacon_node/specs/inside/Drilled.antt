@@ -59,17 +59,29 @@ chains_to_come makers = record {
 abbrev pub own_lines : Store → Events → List ℕ
 own_lines store rest = six_lines (tally_of (record { store = store; events = 0; accepted = 0 }) rest.events) (hash (with_events 1 store rest).lines)
 
+-- The run of the own chain ends before all was done.
+abbrev pub OwnEnds : Status → Option End → Type 0
+OwnEnds status end = (is_done status ≡ false) × (breaks_off status ≡ false → end ≡ end_of status)
+
+-- The run ends in the split.
+abbrev pub SplitEnds : Status → Result (List ℕ) End → Type 0
+SplitEnds status split = breaks_off status ≡ false → (end : End) × (Some end ≡ end_of status) × (split ≡ Err end)
+
+-- The run ends with nothing to write.
+abbrev pub DrillEnds : Status → Run → Type 0
+DrillEnds status run = (run.files ≡ 0) × (breaks_off status ≡ false → (end : End) × (Some end ≡ end_of status) × (run ≡ over end))
+
 -- The own chain came to its end, and these are its lines; or its run ends.
 abbrev pub OwnTold : {V : Type 0} → (V → List ℕ) → Result V Status → Option End → List ℕ → Type 0
 OwnTold items (Ok made) end lines = (end ≡ Some done) × (items made ≡ lines)
-OwnTold items (Err status) end lines = (is_done status ≡ false) × (breaks_off status ≡ false → end ≡ end_of status)
+OwnTold items (Err status) end lines = OwnEnds status end
 
 -- Both chains of the split came to their end, and these are the lines; or the run ends.
 abbrev pub SplitTold : {V : Type 0} → (V → List ℕ) → Result V Status → Result (List ℕ) End → Type 0
 SplitTold items (Ok made) split = split ≡ Ok (items made)
-SplitTold items (Err status) split = breaks_off status ≡ false → (end : End) × (Some end ≡ end_of status) × (split ≡ Err end)
+SplitTold items (Err status) split = SplitEnds status split
 
 -- The run writes these lines at its end; or it ends before.
 abbrev pub DrillTold : {V : Type 0} → (V → List ℕ) → Result V Status → Run → Type 0
 DrillTold items (Ok made) run = run ≡ record { lines = items made; end = Some done; files = 0 }
-DrillTold items (Err status) run = (run.files ≡ 0) × (breaks_off status ≡ false → (end : End) × (Some end ≡ end_of status) × (run ≡ over end))
+DrillTold items (Err status) run = DrillEnds status run

@@ -7,7 +7,7 @@ use Rattle.beacon_node.proofs.drill.chain_lines.Goals as goal
 pub returns-then-not-is_done-clause-told : goal.returns-then-not-is_done-clause-told
 returns-then-not-is_done-clause-told g c =
     let other : is_done c.digest_events-status.result.0 ≡ false = (let same = c.is_done.ensures in let no_more = c.if-not-is_done.true in cc) in
-    stops_before c.args.store.plain c.args.maker c.digest_events-status.result.0 c.digest_events-status.result.1 _ _ _ _ refl c.digest_events-status.ensures.over (λ lines. lines.items) other
+    stops_before c.args.store.plain c.args.maker c.digest_events-status.result.0 c.digest_events-status.result.1 _ _ _ _ refl c.digest_events-status.ensures.over other
 
 pub returns-in-Ok-clause-told : goal.returns-in-Ok-clause-told
 returns-in-Ok-clause-told g c =

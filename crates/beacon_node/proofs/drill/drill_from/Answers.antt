@@ -6,7 +6,7 @@ use Rattle.beacon_node.proofs.Forensics.{follows_outside}
 use Rattle.beacon_node.proofs.drill.drill_from.Goals as goal
 
 pub returns-in-Err-clause-over : goal.returns-in-Err-clause-over
-returns-in-Err-clause-over g c = drill_over (λ lines. lines.items) c.in-Err.status _ _ c.in-Err.ensures.told
+returns-in-Err-clause-over g c = drill_over c.in-Err.status _ _ c.in-Err.ensures.told
 
 pub returns-in-Ok-write_all-clause-over : goal.returns-in-Ok-write_all-clause-over
 returns-in-Ok-write_all-clause-over g c = rw c.in-Ok.ensures.told (wrote_all _ _ _ (rw c.deref.ensures.value at c.in-Ok-write_all.ensures.writes))
