@@ -1,5 +1,4 @@
 pub mod Answers
-pub mod Findings
 pub mod Statuses
 pub mod inside
 pub mod laws

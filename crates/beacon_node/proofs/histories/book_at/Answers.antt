@@ -1,6 +1,0 @@
--- The genesis begins a book.
-use Rattle.beacon_node.proofs.Beginnings.{begins_book}
-use Rattle.beacon_node.proofs.histories.book_at.Goals as goal
-
-pub new-requires : goal.new-requires
-new-requires c = begins_book c.args.config.now c.args.genesis.now c.requires.genesis c.requires.opened
