@@ -149,11 +149,10 @@ reached_by genesis (done step) state now gives =
     let both : (step.state, shown_all with_entered (record { genesis = genesis; entered = [] }) step.entered) ≡ (state, now) = same_done _ _ gives in
     let state_is : step.state ≡ state = ap (λ (p : PlainState × PlainWatch). p.0) both in
     let shown : shown_all with_entered (record { genesis = genesis; entered = [] }) step.entered ≡ now = ap (λ (p : PlainState × PlainWatch). p.1) both in
-    let seen : record { genesis = genesis; entered = step.entered } ≡ now = sym (watched genesis step.entered) ∙ shown in
-    (
+    let seen : record { genesis = genesis; entered = step.entered } ≡ now = sym (watched genesis step.entered) ∙ shown in (
       sym (ap (λ (w : PlainWatch). w.genesis) seen),
       ap (λ (s : PlainState). done (record { state = s; entered = step.entered })) state_is
-      ∙ ap (λ (w : PlainWatch). done (record { state = state; entered = w.entered })) seen
+          ∙ ap (λ (w : PlainWatch). done (record { state = state; entered = w.entered })) seen,
     )
 reached_by genesis (refused why) state now gives = absurd cc
 reached_by genesis (limited bound) state now gives = absurd cc
@@ -163,8 +162,8 @@ pub reached : (view chain : PlainChain) (signed : SignedBeaconBlock) (config : C
     → IfOk r (λ s. now.genesis ≡ view.book.genesis) × Reaches r now.entered (state_transition view.state signed view.book.config)
 reached view chain signed config old now r is config_is fresh gives =
     by r (subst (λ (w : PlainWatch). GivesBy (λ (s : PlainState). (s, now)) r (showing with_entered w (state_transition view.state signed view.book.config))) fresh
-      (subst (λ (c : PlainChain). GivesBy (λ (s : PlainState). (s, now)) r (showing with_entered old (state_transition c.state signed c.book.config))) is
-      (subst (λ (k : ConfigValues). GivesBy (λ (s : PlainState). (s, now)) r (showing with_entered old (state_transition chain.state signed k))) config_is gives)))
+    (subst (λ (c : PlainChain). GivesBy (λ (s : PlainState). (s, now)) r (showing with_entered old (state_transition c.state signed c.book.config))) is
+    (subst (λ (k : ConfigValues). GivesBy (λ (s : PlainState). (s, now)) r (showing with_entered old (state_transition chain.state signed k))) config_is gives)))
   where
     by : (r : Result PlainState Stop) → GivesBy (λ (s : PlainState). (s, now)) r (showing with_entered (record { genesis = view.book.genesis; entered = [] }) (state_transition view.state signed view.book.config))
         → IfOk r (λ s. now.genesis ≡ view.book.genesis) × Reaches r now.entered (state_transition view.state signed view.book.config)
