@@ -77,9 +77,9 @@ by_sum genesis total is =
     let finish : Outcome ℕ → Outcome ℕ = λ o. bind o (λ n. done (max increment n)) in
     elim (cases_lt (sum_by (λ (v : Validator). v.effective_balance) active) (2 ^ 64)) [
       | inl less ↦ (
-          omega arith,
-          ap finish (summed genesis ∙ checked_sum_fits (λ (v : Validator). v.effective_balance) active less) ∙ ap (λ n. done (max increment n)) same
-        )
+        omega arith,
+        ap finish (summed genesis ∙ checked_sum_fits (λ (v : Validator). v.effective_balance) active less) ∙ ap (λ n. done (max increment n)) same,
+      )
       | inr more ↦ absurd (
           let e : finish (refused Overflow) ≡ done total = sym (ap finish (summed genesis ∙ checked_sum_overflows (λ (v : Validator). v.effective_balance) active more)) ∙ is in cc)
     ]
@@ -265,11 +265,11 @@ pub balance_is : (genesis : PlainState) (first second : List AcceptedBlock) (vot
 unfolding balance_of offences_of genesis_weights
 balance_is genesis first second votes count holds =
     same_weight (has_offence votes) (among (named (offences_of genesis first second))) 0 (map weight genesis.validators) (λ i low high.
-      let less : i < length genesis.validators = let n = weights_len genesis.validators in omega arith in
-      offends_is votes i (omega arith) (carried_in first second) holds
-      ∙ ap (λ n. is_some (offence_of (all_votes_by n (carried_in first second)) i)) count
-      ∙ ap (λ (vs : List Vote). is_some (offence_of vs i)) (votes_held genesis first second)
-      ∙ sym (offender_is _ (length genesis.validators) i less))
+    let less : i < length genesis.validators = let n = weights_len genesis.validators in omega arith in
+    offends_is votes i (omega arith) (carried_in first second) holds
+    ∙ ap (λ n. is_some (offence_of (all_votes_by n (carried_in first second)) i)) count
+    ∙ ap (λ (vs : List Vote). is_some (offence_of vs i)) (votes_held genesis first second)
+    ∙ sym (offender_is _ (length genesis.validators) i less))
 
 -- what the loop over the registry needs
 pub ruleset weighing = (weigh_begins, weigh_more, weigh_others, weigh_ends, weigh_fits)

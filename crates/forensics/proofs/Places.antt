@@ -100,9 +100,9 @@ module _ (epoch : ℕ) where
   side_by_side now before i (own ∷ owns) [] reads reads_before = elim (active_before own) as (λ a. pointwise nat_eq [] (cond a (i ∷ indices_from active_before (suc i) owns) (indices_from active_before (suc i) owns))
       && pointwise nat_eq (map now (cond a (i ∷ indices_from active_before (suc i) owns) (indices_from active_before (suc i) owns))) (map before (cond a (i ∷ indices_from active_before (suc i) owns) (indices_from active_before (suc i) owns)))
       ≡ not a && stay_in epoch owns []) [
-    | true ↦ refl
-    | false ↦ side_by_side now before (suc i) owns [] (reads_past now i reads) (reads_more before i own owns reads_before)
-  ]
+        | true ↦ refl
+        | false ↦ side_by_side now before (suc i) owns [] (reads_past now i reads) (reads_more before i own owns reads_before)
+      ]
   side_by_side now before i (own ∷ owns) (v ∷ vs) reads reads_before =
       at_place now before i own v owns vs (reads_first now i v vs reads) (reads_first before i own owns reads_before)
       (side_by_side now before (suc i) owns vs (reads_more now i v vs reads) (reads_more before i own owns reads_before))

@@ -127,7 +127,10 @@ impl Book {
         let (firsts, seconds) = (self.first.len(), self.second.len());
         let (first, second) = (&mut self.first, &mut self.second);
         keep_in(first, second, which, alloc, root, block, state)?;
-        match self.votes.add(alloc, which, event, block, root, state, watch) {
+        match self
+            .votes
+            .add(alloc, which, event, block, root, state, watch)
+        {
             Ok(()) => Ok(()),
             Err(refused) => {
                 self.first.truncate(firsts);
