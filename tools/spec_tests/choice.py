@@ -1,4 +1,4 @@
-"""Cases of the runner `fork_choice`: their steps as a record, the run of `beacon replay` on their anchor, and their checks against its lines."""
+"""Cases of the runner `fork_choice`: their steps as a record, the run of `beacon anchor` on their anchor, and their checks against its lines."""
 
 import re
 import subprocess
@@ -135,14 +135,14 @@ def planned(case, config, folder):
 
 
 def run(case, program, config, folder):
-    """Gives a case to `beacon replay`: what becomes of it, and what is said of it."""
+    """Gives a case to `beacon anchor`: what becomes of it, and what is said of it."""
     cases.unpack(case, config, folder)
     try:
         plan = planned(case, config, folder)
         RECORD.write_record(folder / "record", plan.events)
     except (RECORD.Fault, ValueError, AttributeError, OSError) as error:
         raise cases.Fault(f"its steps make no record: {error}") from error
-    words = [program, "replay", config, folder / "anchor_state.ssz", folder / "record"]
+    words = [program, "anchor", config, folder / "anchor_state.ssz", folder / "anchor_block.ssz", folder / "record"]
     ran = subprocess.run(words, stdin=subprocess.DEVNULL, capture_output=True, text=True, timeout=600)
     lines = [PICTURE.LINE.match(line) for line in ran.stdout.splitlines()]
     if ran.returncode != 0 or len(lines) != len(plan.events) or None in lines:
