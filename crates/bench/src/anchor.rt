@@ -69,7 +69,7 @@ fn open(alloc: Global, config: &Config, state: &[u8], block: Option<&[u8]>) -> R
 }
 
 /// What a store that stands took.
-fn opened(
+fn open_anchor(
     rt: &(impl AllocGlobal + CpuClock + Files),
     begin: Time,
     store: &Store,
@@ -91,7 +91,7 @@ fn time_opening(
 ) -> Result<Opened> {
     let begin = now(rt);
     match open(rt.alloc(), config, state, block) {
-        Ok(store) => opened(rt, begin, &store),
+        Ok(store) => open_anchor(rt, begin, &store),
         Err(error) => Err(error),
     }
 }
