@@ -58,6 +58,14 @@ fn cause_of<'a, R: Files, W: io::Write>(
     }
 }
 
+/// The file of the record, by the order of the words: that of `anchor` stands behind a state and its block.
+fn record_of(alloc: Global, words: &[String]) -> u32 {
+    match read_command(alloc, words) {
+        Ok(Command::Anchor(_)) => 3,
+        _ => 2,
+    }
+}
+
 /// The number of the event that was read or whose line was written, where the record of `replay` or `anchor` was opened: each event
 /// before it has its line.
 fn event_at<R: Files, W: io::Write>(
