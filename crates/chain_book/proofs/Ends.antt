@@ -1,6 +1,7 @@
 -- A block on the end of a chain is a step of its history, and the new end.
-use Rattle.std.proofs.Common.{◌≡◌, ◌∙◌, ℕ, zero, suc, ◌+◌, ◌<◌, ◌^◌, ◌⊎◌, inl, inr, false, true, cond, List, [], ◌∷◌, map, length, refl, sym, ap, subst, arith}
+use Rattle.std.proofs.Common.{◌≡◌, ◌∙◌, ℕ, zero, suc, ◌+◌, ◌<◌, ◌^◌, ◌⊎◌, inl, inr, false, true, cond, List, [], ◌∷◌, map, length, Result, Ok, Err, refl, sym, ap, subst, arith}
 use Rattle.std.specs.List.{Contains}
+use Rattle.std.specs.Prelude.{IfOk}
 use Rattle.std.specs.Cmp.{unsigned_Decides}
 use Rattle.std.specs.Cmp.Lexicographic.{pointwise_decides}
 use Rattle.bc_words.specs.Outcome.{Outcome, done, refused, limited, Stops, GivesBy}
@@ -16,6 +17,8 @@ use Rattle.spec_state.specs.States.{state_codec}
 use Rattle.spec_transition.specs.ProcessSlots.{Stepped}
 use Rattle.spec_transition.specs.StateTransition.{state_transition}
 use Rattle.spec_forensics.specs.Histories.{AcceptedBlock, IsStepOn, chain_to, state_behind}
+use Rattle.transition.specs.Shown.{shown_all, showing}
+use Rattle.transition.proofs.Visits.{stops_shown}
 use Rattle.forensics.specs.Books.{PlainBook, begun, history_of, with_block}
 use Rattle.forensics.specs.Watches.{PlainWatch, with_entered}
 use Rattle.forensics.proofs.Watches.{watched}
@@ -136,12 +139,16 @@ goes_on view chain signed step is goes = ap (λ (c : PlainChain). state_transiti
 
 -- ---- a step, by what a watch becomes
 
+same_done : (x y : PlainState × PlainWatch) → done x ≡ done y → x ≡ y
+same_done x y e = cc
+
 reached_by : (genesis : PlainState) (outcome : Outcome Stepped) (state : PlainState) (now : PlainWatch) → showing with_entered (record { genesis = genesis; entered = [] }) outcome ≡ done (state, now)
     → (now.genesis ≡ genesis) × (outcome ≡ done (record { state = state; entered = now.entered }))
 unfolding showing
 reached_by genesis (done step) state now gives =
-    let state_is : step.state ≡ state = cc in
-    let shown : shown_all with_entered (record { genesis = genesis; entered = [] }) step.entered ≡ now = cc in
+    let both : (step.state, shown_all with_entered (record { genesis = genesis; entered = [] }) step.entered) ≡ (state, now) = same_done _ _ gives in
+    let state_is : step.state ≡ state = ap (λ (p : PlainState × PlainWatch). p.0) both in
+    let shown : shown_all with_entered (record { genesis = genesis; entered = [] }) step.entered ≡ now = ap (λ (p : PlainState × PlainWatch). p.1) both in
     let seen : record { genesis = genesis; entered = step.entered } ≡ now = sym (watched genesis step.entered) ∙ shown in
     (
       sym (ap (λ (w : PlainWatch). w.genesis) seen),
@@ -151,12 +158,13 @@ reached_by genesis (done step) state now gives =
 reached_by genesis (refused why) state now gives = absurd cc
 reached_by genesis (limited bound) state now gives = absurd cc
 
-pub reached : (genesis : PlainState) (view chain : PlainChain) (signed : SignedBeaconBlock) (old now : PlainWatch) (r : Result PlainState Stop) → chain ≡ view → old ≡ record { genesis = view.book.genesis; entered = [] }
-    → GivesBy (λ (s : PlainState). (s, now)) r (showing with_entered old (state_transition chain.state signed chain.book.config))
+pub reached : (view chain : PlainChain) (signed : SignedBeaconBlock) (config : ConfigValues) (old now : PlainWatch) (r : Result PlainState Stop) → chain ≡ view → config ≡ chain.book.config → old ≡ record { genesis = view.book.genesis; entered = [] }
+    → GivesBy (λ (s : PlainState). (s, now)) r (showing with_entered old (state_transition chain.state signed config))
     → IfOk r (λ s. now.genesis ≡ view.book.genesis) × Reaches r now.entered (state_transition view.state signed view.book.config)
-reached genesis view chain signed old now r is fresh gives =
+reached view chain signed config old now r is config_is fresh gives =
     by r (subst (λ (w : PlainWatch). GivesBy (λ (s : PlainState). (s, now)) r (showing with_entered w (state_transition view.state signed view.book.config))) fresh
-      (subst (λ (c : PlainChain). GivesBy (λ (s : PlainState). (s, now)) r (showing with_entered old (state_transition c.state signed c.book.config))) is gives))
+      (subst (λ (c : PlainChain). GivesBy (λ (s : PlainState). (s, now)) r (showing with_entered old (state_transition c.state signed c.book.config))) is
+      (subst (λ (k : ConfigValues). GivesBy (λ (s : PlainState). (s, now)) r (showing with_entered old (state_transition chain.state signed k))) config_is gives)))
   where
     by : (r : Result PlainState Stop) → GivesBy (λ (s : PlainState). (s, now)) r (showing with_entered (record { genesis = view.book.genesis; entered = [] }) (state_transition view.state signed view.book.config))
         → IfOk r (λ s. now.genesis ≡ view.book.genesis) × Reaches r now.entered (state_transition view.state signed view.book.config)

@@ -87,7 +87,6 @@ impl ChainBook {
     }
 
     /// The state behind a block on the end of the chain. A watch of the book's genesis is shown the states entered on the way.
-    #[tactic(auto, using(crate::proofs::Ends::reached))]
     pub fn step(
         &self,
         alloc: Global,
