@@ -99,6 +99,9 @@ len_here : (state : PlainState) (slot index : ℕ) → length (get_beacon_commit
 unfolding get_beacon_committee compute_committee get_committee_count_per_slot committee_len
 len_here state slot index = length-map-range_with_len _ _ _
 
+pub size_is : (state : PlainState) (slot index active size : ℕ) → active ≡ length (get_active_validator_indices state (compute_epoch_at_slot state.preset slot)) → size ≡ committee_len state.preset active slot index → size ≡ length (get_beacon_committee state slot index)
+size_is state slot index active size active_is is = is ∙ ap (λ n. committee_len state.preset n slot index) active_is ∙ sym (len_here state slot index)
+
 len_is : (state : PlainState) (epoch slot index : ℕ) → compute_epoch_at_slot state.preset slot ≡ epoch → length (get_beacon_committee state slot index) ≡ committee_len state.preset (length (get_active_validator_indices state epoch)) slot index
 len_is state epoch slot index e = len_here state slot index ∙ ap (λ n. committee_len state.preset (length (get_active_validator_indices state n)) slot index) e
 

@@ -8,7 +8,8 @@ ghost use Rattle.std.specs.List.{list_any};
 ghost use Rattle.bc_words.specs.Outcome.{GivesExactly};
 ghost use Rattle.bc_preset.specs.Presets.{IsPreset};
 ghost use Rattle.committees.specs.Committees.{committee_count_per_slot, committee_start};
-ghost use Rattle.spec_state.specs.Accessors.{get_current_epoch, get_previous_epoch, get_active_validator_indices};
+ghost use Rattle.spec_state.specs.Accessors.{get_current_epoch, get_previous_epoch, get_active_validator_indices, get_beacon_committee, get_committee_count_per_slot};
+ghost use Rattle.spec_state.specs.Misc.{compute_epoch_at_slot};
 ghost use Rattle.spec_blocks.specs.ProcessAttestation.{check_committee};
 ghost use Rattle.attest_ops.specs.inside.Attested.{is_attested, Attests, IsTimely};
 ghost use Rattle.attest_ops.specs.inside.Counted.{committee_len, attested_among};
@@ -47,6 +48,20 @@ fn committee_len(preset: &Preset, active: u64, slot: u64, index: u64) -> u64
     let first = slot % preset.slots_per_epoch * per_slot + index;
     let begin = committee_start(active, count, first);
     committee_start(active, count, first + 1).saturating_sub(begin)
+}
+
+/// How many members the committee of a slot with an index has, where so many validators are active in the slot's epoch. Who they
+/// are isn't asked.
+#[tactic(auto, using(crate::proofs::AmongActive::size_is), unfolding(spec_state::specs::Accessors::get_committee_count_per_slot, spec_state::specs::Misc::compute_epoch_at_slot))]
+pub fn committee_size(state: &State, active: u64, slot: u64, index: u64) -> u64
+    requires active { active ≡ length (get_active_validator_indices state.now (compute_epoch_at_slot state.now.preset slot)) }
+    requires index { index < get_committee_count_per_slot state.now (compute_epoch_at_slot state.now.preset slot) }
+    ensures { result ≡ length (get_beacon_committee state.now slot index) }
+{
+    let preset = state.preset();
+    preset.bounds();
+    active_are_indices(state, slot / preset.slots_per_epoch);
+    committee_len(preset, active, slot, index)
 }
 
 /// Whether one of the bits is set.

@@ -10,5 +10,6 @@ mod get_attesting_indices;
 mod pending;
 pub mod process_attestation;
 
+pub use counted::committee_size;
 pub use get_attesting_indices::attesting_indices;
 pub use participation::{matching_head, matching_target};

@@ -8,6 +8,7 @@ use beacon_state::shortest_state;
 use command_words::{COMMANDS, Command};
 use duties::DutiesFault;
 use genesis_maker::{DEPOSIT_LEN, DEPOSITS_HEAD_LEN};
+use spec_fork_choice::AnchorFault;
 use spec_genesis::DepositsFault;
 use spec_state::GenesisFault;
 use std::fmt;
@@ -33,7 +34,7 @@ pub struct Explanation<'a, 'b> {
     pub wrong: Option<&'a str>,
     /// Why the outside failed, where it is known.
     pub cause: Option<Cause<'b>>,
-    /// The event that was read or whose line was written, where the record was opened.
+    /// The event that was read or whose line was written, where a record was opened that gives a line an event.
     pub event: Option<u64>,
     /// How many bytes were taken of the second file, which holds a state or deposits, where it was opened.
     pub genesis_len: Option<usize>,
@@ -97,6 +98,12 @@ fn origins_of<'a>(command: &Option<Command<'a>>) -> Origins<'a> {
             Origin::File(files.first),
             Origin::File(files.second),
         ),
+        Some(Command::Anchor(files)) => (
+            files.config,
+            Origin::File(files.state),
+            Origin::File(files.events),
+            none,
+        ),
         None => ("CONFIG", Origin::File("GENESIS"), none, none),
     };
     Origins {
@@ -140,6 +147,25 @@ fn write_cause<W: fmt::Write>(
         Some(Cause { name: None, error }) => write!(f, "{what}: {error}"),
         None => write!(f, "{what}"),
     }
+}
+
+/// Where memory ran out, as far as it is known: the event of the record, or the state or deposits that were read.
+fn write_no_memory<W: fmt::Write>(
+    f: &mut fmt::Formatter<W>,
+    explanation: &Explanation<'_, '_>,
+) -> fmt::Result {
+    let Origins {
+        genesis,
+        events,
+        ..
+    } = origins_of(&explanation.command);
+    write!(f, "NoMemory: ")?;
+    match (explanation.event, explanation.genesis_len) {
+        (Some(event), _) => write!(f, "{events}: event {event}: ")?,
+        (None, Some(_)) => write!(f, "{genesis}: ")?,
+        (None, None) => {}
+    }
+    write!(f, "memory ran out")
 }
 
 /// A fault of the configuration. A chain is made only where its validators aren't ejected, whatever else the key allows.
@@ -289,6 +315,69 @@ fn write_duties<W: fmt::Write>(
     }
 }
 
+/// The file of the block that is a state's, or a placeholder where the command has none.
+fn block_of<'a>(command: &Option<Command<'a>>) -> Origin<'a> {
+    match command {
+        Some(Command::Anchor(files)) => Origin::File(files.block),
+        _ => Origin::File("BLOCK"),
+    }
+}
+
+/// A root in hexadecimal.
+fn write_root<W: fmt::Write>(f: &mut fmt::Formatter<W>, root: &[u8; 32]) -> fmt::Result {
+    write!(f, "0x")?;
+    for byte in root {
+        write!(f, "{byte:02x}")?;
+    }
+    Ok(())
+}
+
+/// Two roots that aren't the same: that of the state's file, and that of the block's.
+fn write_roots<W: fmt::Write>(
+    f: &mut fmt::Formatter<W>,
+    of_state: &[u8; 32],
+    of_block: &[u8; 32],
+) -> fmt::Result {
+    write!(f, ": by the state ")?;
+    write_root(f, of_state)?;
+    write!(f, ", by the block ")?;
+    write_root(f, of_block)
+}
+
+/// Why a state and a block are no anchor: which file it is that is wrong, or which values of the two differ.
+fn write_anchor<W: fmt::Write>(
+    f: &mut fmt::Formatter<W>,
+    command: &Option<Command<'_>>,
+    fault: AnchorFault,
+    len: Option<usize>,
+) -> fmt::Result {
+    let state = origins_of(command).genesis;
+    let block = block_of(command);
+    match fault {
+        AnchorFault::BlockTooLong | AnchorFault::BlockNotAWriting => {
+            write!(f, "Anchor: {block}: {fault}")
+        }
+        AnchorFault::BlockSlot(_, _) => write!(f, "Anchor: {state} and {block}: {fault}"),
+        AnchorFault::StateRoot(of_state, of_block) | AnchorFault::Header(of_state, of_block) => {
+            write!(f, "Anchor: {state} and {block}: {fault}")?;
+            write_roots(f, &of_state, &of_block)
+        }
+        AnchorFault::StateNotAWriting => {
+            write!(f, "Anchor: {state}: {fault}")?;
+            write_sizes(f, len)
+        }
+        _ => write!(f, "Anchor: {state}: {fault}"),
+    }
+}
+
+/// What the first kept block is.
+fn first_block(command: &Option<Command<'_>>) -> &'static str {
+    match command {
+        Some(Command::Anchor(_)) => "the anchor's block",
+        _ => "the genesis block",
+    }
+}
+
 /// The kept block whose root another block has: one of its own record, or of the first one.
 fn write_kept<W: fmt::Write>(
     f: &mut fmt::Formatter<W>,
@@ -307,28 +396,29 @@ fn write_kept<W: fmt::Write>(
     }
 }
 
-/// How the root of a block that would be accepted is no name for it alone. Event 0 is the genesis block. The kept block may be of
+/// How the root of a block that would be accepted is no name for it alone. Event 0 is the first kept block. The kept block may be of
 /// another record.
 fn write_clash<W: fmt::Write>(
     f: &mut fmt::Formatter<W>,
-    genesis: Origin<'_>,
-    events: Origin<'_>,
+    command: &Option<Command<'_>>,
+    which: u8,
     event: u32,
     kind: ClashKind,
     kept: Option<Origin<'_>>,
 ) -> fmt::Result {
+    let origins = origins_of(command);
+    let genesis = origins.genesis;
+    let events = origins.record(which);
+    let first = first_block(command);
     if event == 0 {
-        write!(f, "Clash: {genesis}: the genesis block: ")?;
+        write!(f, "Clash: {genesis}: {first}: ")?;
     } else {
         write!(f, "Clash: {events}: event {event}: ")?;
     }
     match kind {
         ClashKind::ZeroBlock => write!(f, "the block's root is zero"),
         ClashKind::ZeroState => write!(f, "the block's state root is zero"),
-        ClashKind::Kept(0) => write!(
-            f,
-            "the block has the root of the genesis block, and is another one"
-        ),
+        ClashKind::Kept(0) => write!(f, "the block has the root of {first}, and is another one"),
         ClashKind::Kept(number) => write_kept(f, number, kept),
     }
 }
@@ -386,10 +476,11 @@ impl fmt::Display for Explanation<'_, '_> {
                 } else {
                     Some(origins.record(*kept_which))
                 };
-                write_clash(f, genesis, origins.record(*which), *event, *kind, kept)
+                write_clash(f, &self.command, *which, *event, *kind, kept)
             }
             Status::Deposits(fault) => write_deposits(f, genesis, *fault, self.genesis_len),
             Status::Duties(fault) => write_duties(f, &self.command, *fault, self.genesis_len),
+            Status::Anchor(fault) => write_anchor(f, &self.command, *fault, self.genesis_len),
             Status::ReadFault => write_cause(
                 f,
                 "ReadFault",
@@ -402,7 +493,7 @@ impl fmt::Display for Explanation<'_, '_> {
                 "the lines could not be written",
                 self,
             ),
-            Status::NoMemory => write!(f, "NoMemory: memory ran out"),
+            Status::NoMemory => write_no_memory(f, self),
         }
     }
 }

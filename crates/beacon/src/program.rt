@@ -58,16 +58,21 @@ fn cause_of<'a, R: Files, W: io::Write>(
     }
 }
 
-/// The number of the event that was read or whose line was written, where the record of `replay` was opened: each event before it
-/// has its line.
+/// The number of the event that was read or whose line was written, where the record of `replay` or `anchor` was opened: each event
+/// before it has its line.
 fn event_at<R: Files, W: io::Write>(
     command: &Option<Command<'_>>,
     shelf: &DiskShelf<'_, R>,
     out: &StdSink<W>,
 ) -> Option<u64> {
-    match (command, shelf.handed_out(2)) {
-        (Some(Command::Replay(_)), Some(_)) => Some(out.lines().saturating_add(1)),
-        _ => None,
+    let record = match command {
+        Some(Command::Replay(_)) => 2,
+        Some(Command::Anchor(_)) => 3,
+        _ => return None,
+    };
+    match shelf.handed_out(record) {
+        Some(_) => Some(out.lines().saturating_add(1)),
+        None => None,
     }
 }
 
@@ -110,7 +115,7 @@ pub fn run<R: Env + Files + Print + Eprint + Clock + AllocGlobal>(
             return status.number();
         }
     };
-    let watch = Watch::new(rt, progress);
+    let watch = Watch::new(rt, progress, record_of(rt.alloc(), &words));
     let mut shelf = WatchedShelf::new(DiskShelf::new(rt.alloc(), rt), &watch);
     let written = StdSink::new(rt.alloc(), WatchedOut::new(rt, &watch));
     let mut out = WatchedSink::new(written, &watch);

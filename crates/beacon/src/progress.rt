@@ -1,8 +1,8 @@
 //! The progress of a run, on a terminal beside a file of lines.
 //!
 //! The shelf and the writer of a run are wrapped, and count what passes: the bytes of the record, and the lines, one an
-//! event. The sink is wrapped too, and asks for the slot of the head when it is time to show. No answer depends on it:
-//! contracts see each as what it wraps.
+//! event. The shelf shows each file when it is opened. The sink is wrapped too, and asks for the slot of the head when it is
+//! time to show. No answer depends on it: contracts see each as what it wraps.
 
 ghost use Rattle.std.specs.Prelude.{◌≡◌, ◌<◌, ◌^◌, [], ◌∷◌, length};
 ghost use Rattle.bc_outside.specs.Calls.{FailsOnlyBy, Opens, Reads, ShelfKeeps, SinkKeeps, Writes};
@@ -12,9 +12,6 @@ use std::cell::Cell;
 use std::io;
 use std::io::{Eprint, IsTerminal, Print, Write};
 use std::time::{Clock, Duration};
-
-/// The file of the record, by the order of the command's words.
-const RECORD: u32 = 2;
 
 /// How much time passes between one show and the next, in milliseconds.
 const PAUSE: u64 = 200;
@@ -44,6 +41,8 @@ impl Progress {
 pub struct Watch<'a, R: Eprint + Clock> {
     rt: &'a R,
     progress: Progress,
+    // The file of the record, by the order of the command's words.
+    record: u32,
     events: Cell<u64>,
     bytes: Cell<u64>,
     // When it was shown last, or the run's beginning.
@@ -52,11 +51,12 @@ pub struct Watch<'a, R: Eprint + Clock> {
 }
 
 impl<'a, R: Eprint + Clock> Watch<'a, R> {
-    /// A run that did nothing yet.
-    pub fn new(rt: &'a R, progress: Progress) -> Self {
+    /// A run that did nothing yet, whose record is the file of this number.
+    pub fn new(rt: &'a R, progress: Progress, record: u32) -> Self {
         Watch {
             rt,
             progress,
+            record,
             events: Cell::new(0),
             bytes: Cell::new(0),
             shown: Cell::new(rt.monotonic().unwrap_or(Duration::ZERO)),
@@ -65,17 +65,29 @@ impl<'a, R: Eprint + Clock> Watch<'a, R> {
     }
 
     /// Shows the progress in place of what was shown before, with the slot of the head. Made events are read of no record.
+    /// A terminal that is narrower than the row cuts it (`?7l`), and leaves none behind.
     fn show(&self, slot: u64) {
         let events = self.events.get();
         let bytes = self.bytes.get();
         let _ = if bytes == 0 {
-            eprint!(self.rt; "\rhead at slot {slot}\x1b[K")
+            eprint!(self.rt; "\r\x1b[?7lhead at slot {slot}\x1b[K\x1b[?7h")
         } else {
             eprint!(self.rt;
-                "\r{events} events, {bytes} bytes of the record, head at slot {slot}\x1b[K"
+                "\r\x1b[?7l{events} events, {bytes} bytes of the record, head at slot {slot}\x1b[K\x1b[?7h"
             )
         };
         self.is_dirty.set(true);
+    }
+
+    /// Shows that a file is read, in place of what was shown before: of a large genesis it takes long until the first event.
+    fn show_file(&self, name: &str) {
+        match self.progress {
+            Progress::Shown => {
+                let _ = eprint!(self.rt; "\r\x1b[?7lreading {name:?}\x1b[K\x1b[?7h");
+                self.is_dirty.set(true);
+            }
+            Progress::Hidden => {}
+        }
     }
 
     /// Whether what was shown is out of date by now, and counts as shown from now on.
@@ -95,10 +107,12 @@ impl<'a, R: Eprint + Clock> Watch<'a, R> {
         }
     }
 
-    /// Counts bytes that were read of the record.
-    fn count_bytes(&self, count: usize) {
-        self.bytes
-            .set(self.bytes.get().saturating_add(count as u64));
+    /// Counts bytes that were read of a file, where it is the record.
+    fn count_bytes(&self, file: u32, count: usize) {
+        if file == self.record {
+            self.bytes
+                .set(self.bytes.get().saturating_add(count as u64));
+        }
     }
 
     /// Counts a line where it ends in bytes that were written: no write has more than one.
@@ -116,7 +130,7 @@ impl<'a, R: Eprint + Clock> Watch<'a, R> {
     }
 }
 
-/// A shelf that counts what is read of the record.
+/// A shelf that shows which file is opened, and counts what is read of the record.
 #[derive(Drop)]
 pub struct WatchedShelf<'a, 'b, F: Shelf + Drop, R: Eprint + Clock> {
     shelf: F,
@@ -148,6 +162,7 @@ impl<'a, 'b, F: Shelf + Drop, R: Eprint + Clock> Shelf for WatchedShelf<'a, 'b, 
         ensures causes { FailsOnlyBy result (F.told self.old.shelf).faults (F.told self.new.shelf).faults }
         ensures keeps { ShelfKeeps (name.now ∷ []) (F.told self.old.shelf) (F.told self.new.shelf) }
     {
+        self.watch.show_file(name);
         self.shelf.open(name)
     }
 
@@ -158,9 +173,7 @@ impl<'a, 'b, F: Shelf + Drop, R: Eprint + Clock> Shelf for WatchedShelf<'a, 'b, 
         ensures keeps { ShelfKeeps [] (F.told self.old.shelf) (F.told self.new.shelf) }
     {
         let count = self.shelf.read(file, into)?;
-        if file == RECORD {
-            self.watch.count_bytes(count);
-        }
+        self.watch.count_bytes(file, count);
         Ok(count)
     }
 }

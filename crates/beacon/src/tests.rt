@@ -7,6 +7,7 @@ use beacon_node::Status;
 use command_words::{Command, read_command};
 use duties::DutiesFault;
 use record_file::RecordFault;
+use spec_fork_choice::AnchorFault;
 use spec_genesis::DepositsFault;
 use spec_state::GenesisFault;
 use std::alloc::{AllocError, Global};
@@ -70,9 +71,20 @@ const TEXTS: &[(Status, Option<Option<&str>>, Option<u64>, &str)] = &[
         Status::Words,
         None,
         None,
-        "Words: no command is named; the commands are `replay CONFIG GENESIS RECORD` `drill NUMBER CONFIG` `genesis CONFIG DEPOSITS` `duties CONFIG STATE EPOCH` `forensic CONFIG GENESIS A B`",
+        "Words: no command is named; the commands are `replay CONFIG GENESIS RECORD` `drill NUMBER CONFIG` `genesis CONFIG DEPOSITS` `duties CONFIG STATE EPOCH` `anchor CONFIG STATE BLOCK RECORD` `forensic CONFIG GENESIS A B`",
     ),
-    (Status::NoMemory, None, None, "NoMemory: memory ran out"),
+    (
+        Status::NoMemory,
+        None,
+        None,
+        "NoMemory: \"g\": memory ran out",
+    ),
+    (
+        Status::NoMemory,
+        None,
+        Some(3),
+        "NoMemory: \"r\": event 3: memory ran out",
+    ),
     (
         Status::ReadFault,
         Some(Some("r")),
@@ -225,6 +237,59 @@ const DUTIES_TEXTS: &[(Status, &str)] = &[
             limit: Limit::Proposer,
         },
         "Limit: \"s\": epoch 7: none of the first 65536 candidates for the slot's proposer passes",
+    ),
+];
+
+/// The texts of statuses of `anchor c s b r`, where the state's file has 7056 bytes.
+const ANCHOR_TEXTS: &[(Status, &str)] = &[
+    (
+        Status::Anchor(AnchorFault::StateNotAWriting),
+        "Anchor: \"s\": the bytes are no state of the preset: the file has 7056 bytes, and a state has at least 7057 under the preset minimal and 2687377 under mainnet",
+    ),
+    (
+        Status::Anchor(AnchorFault::BlockNotAWriting),
+        "Anchor: \"b\": the bytes are no block without its signature",
+    ),
+    (
+        Status::Anchor(AnchorFault::EpochStart(15)),
+        "Anchor: \"s\": the state's slot 15 is not the first of its epoch",
+    ),
+    (
+        Status::Anchor(AnchorFault::BlockSlot(16, 17)),
+        "Anchor: \"s\" and \"b\": the state is of slot 16, and the block of slot 17",
+    ),
+    (
+        Status::Anchor(AnchorFault::Unsound),
+        "Anchor: \"s\": the state is not sound",
+    ),
+    (
+        Status::Anchor(AnchorFault::StateRoot([171; 32], [7; 32])),
+        "Anchor: \"s\" and \"b\": the block's state root is not the state's root: by the state 0xabababababababababababababababababababababababababababababababab, by the block 0x0707070707070707070707070707070707070707070707070707070707070707",
+    ),
+    (
+        Status::Anchor(AnchorFault::Header([1; 32], [0; 32])),
+        "Anchor: \"s\" and \"b\": the state's latest block is another one: by the state 0x0101010101010101010101010101010101010101010101010101010101010101, by the block 0x0000000000000000000000000000000000000000000000000000000000000000",
+    ),
+    (
+        Status::Anchor(AnchorFault::Time(18_446_744_073_709_551_615, 8)),
+        "Anchor: \"s\": the genesis time 18446744073709551615 and the seconds up to slot 8 do not fit in 64 bits",
+    ),
+    (
+        Status::Clash {
+            which: 0,
+            event: 0,
+            kind: ClashKind::ZeroState,
+            kept_which: 0,
+        },
+        "Clash: \"s\": the anchor's block: the block's state root is zero",
+    ),
+    (
+        Status::Record {
+            which: 0,
+            event: 2,
+            fault: RecordFault::Torn,
+        },
+        "Record: \"r\": event 2: the record ends inside the event",
     ),
 ];
 
@@ -395,10 +460,14 @@ fn texts_of_deposits(rt: HostRuntime) -> Result<(), Fail> {
     Ok(())
 }
 
-/// Whether the texts are those of the statuses of this command.
-fn duties_texts_hold(alloc: Global, command: Command<'_>) -> bool {
+/// Whether these texts are those of the statuses of this command, where the second file has 7056 bytes.
+fn state_texts_hold<'a>(
+    alloc: Global,
+    texts: &'a [(Status, &'a str)],
+    command: Command<'a>,
+) -> bool {
     let mut all = true;
-    for (status, text) in DUTIES_TEXTS.iter() {
+    for (status, text) in texts.iter() {
         let explanation = Explanation {
             status,
             command: Some(command),
@@ -418,7 +487,18 @@ fn texts_of_duties(rt: HostRuntime) -> Result<(), Fail> {
     let command = read_command(rt.alloc(), &words)
         .ok()
         .expect(&rt, "a command");
-    let holds = duties_texts_hold(rt.alloc(), command);
+    let holds = state_texts_hold(rt.alloc(), DUTIES_TEXTS, command);
+    assert!(rt; holds);
+    Ok(())
+}
+
+#[test]
+fn texts_of_an_anchor(rt: HostRuntime) -> Result<(), Fail> {
+    let words = words_of(rt.alloc(), "anchor c s b r")?;
+    let command = read_command(rt.alloc(), &words)
+        .ok()
+        .expect(&rt, "a command");
+    let holds = state_texts_hold(rt.alloc(), ANCHOR_TEXTS, command);
     assert!(rt; holds);
     Ok(())
 }

@@ -1,11 +1,12 @@
 -- The command words as the first step of a run.
 use Rattle.std.proofs.Common.{◌≡◌, ℕ, List, [], Option, Some, None, Err, true, false, refl, sym, ◌∙◌, append-nil, arith}
 use Rattle.bc_outside.specs.Told.{FileHanded, ShelfTold}
-use Rattle.command_words.specs.Commands.{Command, DrillWords, DutiesWords, ForensicFiles, GenesisFiles, ReplayFiles, command_of, drill, duties, forensic, genesis, names_of, replay}
+use Rattle.command_words.specs.Commands.{AnchorFiles, Command, DrillWords, DutiesWords, ForensicFiles, GenesisFiles, ReplayFiles, anchor, command_of, drill, duties, forensic, genesis, names_of, replay}
 use Rattle.command_words.specs.inside.Reading.{ReadsCommand}
 use Rattle.command_words.specs.declared.command.WordsStop.{WordsStop}
 use Rattle.command_words.specs.declared.command.WordsStop.TheVariants.{NoCommand, NoMemory}
 use Rattle.spec_replay.specs.Commands.{run_of, with_command}
+use Rattle.spec_replay.specs.Anchor.{anchor_run}
 use Rattle.spec_replay.specs.Drill.{drill_run}
 use Rattle.spec_replay.specs.Duties.{duties_run}
 use Rattle.spec_replay.specs.Forensic.{forensic_run}
@@ -45,6 +46,14 @@ pub duties_answers : (words : List (List ℕ)) (named : DutiesWords) (status : S
     → Replayed (λ contents. run_of contents words) (taken_run_of status words) (names_of (command_of words)) status s t w x
 unfolding run_of with_command taken_run_of
 duties_answers words named status s t w x is h = record { opened = h.opened; files = h.files; answers = λ c a. rw is (h.answers c a) }
+
+-- the words are the command `anchor`
+pub anchor_answers : (words : List (List ℕ)) (files : AnchorFiles) (status : Status) (s t : ShelfTold) (w x : List ℕ) → command_of words ≡ Some (anchor files)
+    → Replayed (λ contents. anchor_run (contents files.config) (contents files.state) (contents files.block) (contents files.events))
+    (λ contents opened. anchor_run (contents files.config) (contents files.state) (contents files.block) (taken_of 3 opened)) (names_of (Some (anchor files))) status s t w x
+    → Replayed (λ contents. run_of contents words) (taken_run_of status words) (names_of (command_of words)) status s t w x
+unfolding run_of with_command taken_run_of
+anchor_answers words files status s t w x is h = record { opened = h.opened; files = h.files; answers = λ c a. rw is (h.answers c a) }
 
 -- the words are the command `forensic`
 pub forensic_answers : (words : List (List ℕ)) (files : ForensicFiles) (status : Status) (s t : ShelfTold) (w x : List ℕ) → command_of words ≡ Some (forensic files)

@@ -20,7 +20,7 @@ use Rattle.record_file.specs.Record.{Events}
 use Rattle.spec_state.specs.Genesis.{genesis_fault}
 use Rattle.spec_state.specs.declared.plain.PlainState.{PlainState}
 use Rattle.spec_fork_choice.specs.Store.{Store}
-use Rattle.spec_fork_choice.specs.GetForkchoiceStore.{get_forkchoice_store}
+use Rattle.spec_fork_choice.specs.GetForkchoiceStore.{genesis_store}
 use Rattle.spec_fork_choice.specs.OnEvent.{genesis_clash}
 use Rattle.spec_forensics.specs.Clash.{first_accepted}
 use Rattle.spec_forensics.specs.Histories.{AcceptedBlock}
@@ -119,6 +119,7 @@ done_status statuses.NoMemory is = absurd cc
 done_status (statuses.Clash which event kind kept_which) is = absurd cc
 done_status (statuses.Deposits fault) is = absurd cc
 done_status (statuses.Duties fault) is = absurd cc
+done_status (statuses.Anchor fault) is = absurd cc
 
 module _ (store : Store) (maker : PlainMaker) (status : Status) (digest : List ℕ) (s t : ShelfTold) (tally tally_then : Tally) (new : tally ≡ record { store = store; events = 0; accepted = 0 })
     (h : Digested status digest tally (made_source (begun maker)) s t tally_then) where
@@ -229,6 +230,7 @@ module _ (lines : List ℕ) (split : Result (List ℕ) End) where
   split_not_reached (statuses.Clash which event kind kept_which) end other on is = ends_so (statuses.Clash which event kind kept_which) _ end is refl refl
   split_not_reached (statuses.Deposits fault) end other on is = ends_so (statuses.Deposits fault) _ end is refl refl
   split_not_reached (statuses.Duties fault) end other on is = ends_so (statuses.Duties fault) _ end is refl refl
+  split_not_reached (statuses.Anchor fault) end other on is = ends_so (statuses.Anchor fault) _ end is refl refl
   split_not_reached statuses.ReadFault end other on is = absurd cc
   split_not_reached statuses.WriteFault end other on is = absurd cc
   split_not_reached statuses.NoMemory end other on is = absurd cc
@@ -331,7 +333,7 @@ module _ (number : ℕ) (config : ConfigValues) where
 
   no_plan_files : (b : Bool) → (if b then drill_plan plan else over (bad_config (OutOfRange EjectionBalance))).files ≡ 0
   unfolding drill_plan
-  no_plan_files true = no_files (genesis_clash (genesis_of_plan plan)) (genesis_of_plan plan) (get_forkchoice_store config (genesis_of_plan plan)) (chains_of plan)
+  no_plan_files true = no_files (genesis_clash (genesis_of_plan plan)) (genesis_of_plan plan) (genesis_store config (genesis_of_plan plan)) (chains_of plan)
   no_plan_files false = refl
 
   pub no_config_files : (drill_config number (Ok config)).files ≡ 0
@@ -343,7 +345,7 @@ module _ (number : ℕ) (config : ConfigValues) where
   ejects w high = rw high (nothing_written (statuses.Config (OutOfRange EjectionBalance)) (bad_config (OutOfRange EjectionBalance)) w refl refl refl refl)
 
   pub drills : (makers : Makers) (genesis : PlainState) (status : Status) (w x : List ℕ) → nat_lt config.ejection_balance 32_000_000_000 ≡ true → AreMakers plan makers → genesis ≡ genesis_of_plan plan
-      → Finished status (drill_store (genesis_clash genesis) genesis (get_forkchoice_store config genesis) (chains_to_come makers)) w x → Finished status (drill_config number (Ok config)) w x
+      → Finished status (drill_store (genesis_clash genesis) genesis (genesis_store config genesis) (chains_to_come makers)) w x → Finished status (drill_config number (Ok config)) w x
   unfolding drill_config drill_plan
   drills makers genesis status w x low are is h = rw (low, ← is, ← makers_give plan makers are) h
 

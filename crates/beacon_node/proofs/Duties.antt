@@ -31,7 +31,6 @@ use Rattle.spec_state.specs.Soundness.{IsSound}
 use Rattle.spec_state.specs.inside.EpochCommittees.{epoch_committees}
 use Rattle.spec_replay.specs.Run.{Run, End, done, limited, bad_duties, after_file, after_lines, over}
 use Rattle.spec_replay.specs.Duties.{checked_state, duties_lines, duties_run, slot_lines, sound_state_of, with_config, with_duties, with_epoch, with_file, with_state}
-use Rattle.spec_replay.specs.Soundness.{is_sound}
 use Rattle.beacon_node.specs.declared.status.Status.{Status}
 use Rattle.beacon_node.specs.declared.status.Status.TheVariants as statuses
 use Rattle.beacon_node.specs.declared.tell_duties.StateStop.{StateStop}
@@ -45,7 +44,7 @@ use Rattle.beacon_node.specs.inside.Texts.{WritesText}
 use Rattle.beacon_node.proofs.DutyTables.{all_lines}
 use Rattle.beacon_node.proofs.Prefixes.{config_of-prefix}
 use Rattle.beacon_node.proofs.Reaching.{reaches_none, reaches_all, is_prefix, no_lines, lines_behind, lines_prefix}
-use Rattle.beacon_node.proofs.Soundness.{soundness_is_tested}
+use Rattle.spec_fork_choice.proofs.Soundness.{tested}
 use Rattle.beacon_node.proofs.Steps.{held_prefix, over_after, opened_more}
 use Rattle.beacon_node.proofs.Whole.{ends_whole, goes_on_whole, unread_whole, out_of_memory, over_concludes, text_concludes}
 
@@ -104,14 +103,6 @@ duties_stop state epoch (stops.Limit bound) s is = rw (is.0, is.1) (over_conclud
 duties_stop state epoch stops.NoMemory s is = out_of_memory (with_epoch state epoch) s (files-with_epoch state epoch)
 
 -- ---- the state's file
-
--- the code's test of soundness
-tested : (state : PlainState) (sound : Bool) → IsTrue sound ↔ IsSound state → is_sound state ≡ sound
-tested state true h = (soundness_is_tested state).1 (h.0 refl)
-tested state false h = elim (cases_Bool (is_sound state)) [
-  | inl sound ↦ absurd (let no : false ≡ true = h.1 ((soundness_is_tested state).0 sound) in cc)
-  | inr unsound ↦ unsound
-]
 
 pub sound_state : (state : PlainState) → IsTrue true ↔ IsSound state → GivesState (Ok state) (checked_state (Some state))
 sound_state state h = rw (tested state true h) refl

@@ -191,6 +191,7 @@ module _ (which : ℕ) (others : List KeptBlock) (number : ℕ) (old : Followed)
   block_ends statuses.WriteFault store given is h = absurd h
   block_ends (statuses.Deposits fault) store given is h = absurd h
   block_ends (statuses.Duties fault) store given is h = absurd h
+  block_ends (statuses.Anchor fault) store given is h = absurd h
 
 -- a clash is no fault of the outside
 pub clash_is_inside : (status : Status) (which number : ℕ) (found : Option ℕ) → ClashesBy status which number found → IsInside status
@@ -206,6 +207,7 @@ clash_is_inside statuses.ReadFault which number found h = absurd h
 clash_is_inside statuses.WriteFault which number found h = absurd h
 clash_is_inside (statuses.Deposits fault) which number found h = absurd h
 clash_is_inside (statuses.Duties fault) which number found h = absurd h
+clash_is_inside (statuses.Anchor fault) which number found h = absurd h
 
 -- ---- the book
 

@@ -15,7 +15,7 @@ use Rattle.record_file.specs.Sources.{record_source}
 use Rattle.spec_state.specs.Genesis.{genesis_of}
 use Rattle.spec_state.specs.declared.plain.PlainState.{PlainState}
 use Rattle.spec_fork_choice.specs.Store.{KeptBlock, Store}
-use Rattle.spec_fork_choice.specs.GetForkchoiceStore.{get_forkchoice_store}
+use Rattle.spec_fork_choice.specs.GetForkchoiceStore.{genesis_store}
 use Rattle.spec_fork_choice.specs.OnEvent.{genesis_clash}
 use Rattle.spec_forensics.specs.Clash.{first_accepted}
 use Rattle.spec_replay.specs.Run.{Run, End, after_file, bad_config, bad_genesis, clash, over}
@@ -120,7 +120,7 @@ module _ (config : ConfigValues) (genesis : PlainState) (files : ForensicFiles) 
   opening_over status s w h = ends_at_once _ _ status s w (λ c on. let e = h.clashes on in (clash 0 0 e.0 0, ap end_of (sym e.2), rw e.1 refl))
 
   -- the first record comes next
-  pub records_go_on : (first : Store) (status : Status) (s u : ShelfTold) (w x : List ℕ) → genesis_clash genesis ≡ None → first ≡ get_forkchoice_store config genesis
+  pub records_go_on : (first : Store) (status : Status) (s u : ShelfTold) (w x : List ℕ) → genesis_clash genesis ≡ None → first ≡ genesis_store config genesis
       → EndsOver (λ contents. with_first genesis first (contents files.first) (contents files.second)) (files.first ∷ files.second ∷ []) status s u w x
       → EndsOver (λ contents. run_of_records config genesis (contents files.first) (contents files.second)) (files.first ∷ files.second ∷ []) status s u w x
   unfolding with_store

@@ -4,6 +4,7 @@ pub mod Steps
 pub mod OneByOne
 pub mod Readers
 pub mod Outside
+pub mod AnchorReaders
 pub mod Commands
 pub mod InMemory
 pub mod Drilled
@@ -11,7 +12,6 @@ pub mod MakingGenesis
 pub mod Texts
 pub mod DutyLines
 pub mod DutyTables
-pub mod Soundness
 pub mod Whole
 pub mod Duties
 pub mod Beginnings

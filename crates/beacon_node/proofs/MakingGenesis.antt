@@ -67,6 +67,7 @@ whole_behind (statuses.Limit which event limit) run = refl
 whole_behind (statuses.Clash which event kind kept_which) run = refl
 whole_behind (statuses.Deposits fault) run = refl
 whole_behind (statuses.Duties fault) run = refl
+whole_behind (statuses.Anchor fault) run = refl
 whole_behind statuses.ReadFault run = refl
 whole_behind statuses.WriteFault run = refl
 whole_behind statuses.NoMemory run = refl

@@ -214,6 +214,7 @@ module _ (event : Event) (place place_then : Source) (before : Tally) (told told
   over_at statuses.WriteFault written after h = absurd h
   over_at (statuses.Deposits fault) written after h = absurd h
   over_at (statuses.Duties fault) written after h = absurd h
+  over_at (statuses.Anchor fault) written after h = absurd h
 
 -- one step more
 pub progress_then : {tally mid next : Tally} {place place_mid place_next : Source} {s t u : ShelfTold} {w x y : List ℕ} → Progress tally place s w mid place_mid t x → Progress mid place_mid t x next place_next u y → Progress tally place s w next place_next u y

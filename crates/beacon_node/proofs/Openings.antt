@@ -7,7 +7,7 @@ use Rattle.bc_words.specs.declared.store_stop.StoreStop.{StoreStop}
 use Rattle.bc_words.specs.declared.store_stop.StoreStop.TheVariants as stores
 use Rattle.spec_state.specs.declared.plain.PlainState.{PlainState}
 use Rattle.spec_fork_choice.specs.Store.{Store}
-use Rattle.spec_fork_choice.specs.GetForkchoiceStore.{get_forkchoice_store}
+use Rattle.spec_fork_choice.specs.GetForkchoiceStore.{genesis_store, get_forkchoice_store}
 use Rattle.spec_fork_choice.specs.OnEvent.{genesis_clash, open_store}
 use Rattle.spec_forensics.specs.Histories.{AcceptedBlock}
 use Rattle.safety_law.specs.Follows.{Follows}
@@ -31,13 +31,13 @@ module _ (config : ConfigValues) (genesis : PlainState) where
   pub opened_store : (store : Store) → open_store config genesis ≡ accepted store → IsOpened config genesis store
   unfolding open_store
   opened_store store is =
-      let opened = opened_without (genesis_clash genesis) (get_forkchoice_store config genesis) store is in
+      let opened = opened_without (genesis_clash genesis) (genesis_store config genesis) store is in
       record { none = opened.0; is = opened.1 }
 
   pub opening_ends : (stop : StoreStop) → StoreStops stop (open_store config genesis) → OpeningEnds (no_store stop) (genesis_clash genesis)
   unfolding open_store
   opening_ends (stores.Clash kind) is = record {
-    clashes = λ on. (kind, clash_of_opening (genesis_clash genesis) (get_forkchoice_store config genesis) kind is, refl);
+    clashes = λ on. (kind, clash_of_opening (genesis_clash genesis) (genesis_store config genesis) kind is, refl);
     inside = record { done = λ is. cc; words = λ is. cc; read = λ is. cc; write = λ is. cc };
   }
   opening_ends (stores.Refused why) is = no_memory_opens (genesis_clash genesis)
@@ -52,8 +52,8 @@ opened_again config genesis histories are =
     subst (λ (c : ConfigValues). AreOpened c histories.genesis histories) (sym same_config) (subst (λ (g : PlainState). AreOpened config g histories) (sym are.genesis_is) are)
 
 -- a store that opened keeps one block
-pub one_kept : (config : ConfigValues) (genesis : PlainState) (store : Store) → store ≡ get_forkchoice_store config genesis → length store.blocks ≤ 1
-unfolding get_forkchoice_store
+pub one_kept : (config : ConfigValues) (genesis : PlainState) (store : Store) → store ≡ genesis_store config genesis → length store.blocks ≤ 1
+unfolding genesis_store get_forkchoice_store
 one_kept config genesis store is = rw is (omega arith)
 
 module _ (config : ConfigValues) (genesis : PlainState) (histories : Histories) (are : AreOpened config genesis histories) where

@@ -14,11 +14,14 @@ use Rattle.record_file.specs.declared.source.SourceStop.TheVariants as sources
 use Rattle.spec_fork_choice.specs.Store.{Store}
 use Rattle.spec_fork_choice.specs.OnEvent.{Accepted}
 use Rattle.command_words.specs.Commands.{Command, command_of, names_of}
+use Rattle.fork_store.specs.declared.anchor.AnchorStop.{AnchorStop}
+use Rattle.fork_store.specs.declared.anchor.AnchorStop.TheVariants as anchors
 use Rattle.beacon_node.specs.declared.genesis.GenesisStop.{GenesisStop}
 use Rattle.beacon_node.specs.declared.genesis.GenesisStop.TheVariants as genesis
 use Rattle.beacon_node.specs.declared.status.Status.{Status}
 use Rattle.beacon_node.specs.declared.status.Status.TheVariants as statuses
 use Rattle.beacon_node.specs.Answers.{HasCauses, OutsideKeeps}
+use Rattle.beacon_node.specs.inside.AnchorAnswers.{no_anchor}
 use Rattle.beacon_node.specs.inside.GenesisAnswers.{no_genesis, no_store}
 use Rattle.beacon_node.specs.inside.Progress.{EndsAt}
 use Rattle.beacon_node.specs.inside.Statuses.{unread, unwritten, no_event}
@@ -92,12 +95,17 @@ event_causes (statuses.Genesis part) number outcome h = absurd h
 event_causes (statuses.Record which event fault) number outcome h = absurd h
 event_causes (statuses.Deposits fault) number outcome h = absurd h
 event_causes (statuses.Duties fault) number outcome h = absurd h
+event_causes (statuses.Anchor fault) number outcome h = absurd h
 event_causes statuses.ReadFault number outcome h = absurd h
 event_causes statuses.WriteFault number outcome h = absurd h
 
 pub genesis_causes : (stop : GenesisStop) {a b c d : ℕ} → HasCauses (no_genesis stop) a b c d
 genesis_causes (genesis.Fault part) = record { read = λ is. cc; write = λ is. cc }
 genesis_causes genesis.NoMemory = no_fault statuses.NoMemory (λ is. cc) (λ is. cc)
+
+pub anchor_causes : (stop : AnchorStop) {a b c d : ℕ} → HasCauses (no_anchor stop) a b c d
+anchor_causes (anchors.Fault fault) = record { read = λ is. cc; write = λ is. cc }
+anchor_causes anchors.NoMemory = no_fault statuses.NoMemory (λ is. cc) (λ is. cc)
 
 pub store_causes : (stop : StoreStop) {a b c d : ℕ} → HasCauses (no_store stop) a b c d
 store_causes (stores.Clash kind) = record { read = λ is. cc; write = λ is. cc }

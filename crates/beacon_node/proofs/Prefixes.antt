@@ -11,7 +11,7 @@ use Rattle.spec_state.specs.declared.fault.GenesisFault.TheVariants as genesis
 use Rattle.spec_replay.specs.Run.{with_record, with_store, with_state, with_genesis, with_config, with_files}
 use Rattle.bc_words.specs.declared.store_stop.ClashKind.{ClashKind}
 use Rattle.spec_fork_choice.specs.Store.{Store}
-use Rattle.spec_fork_choice.specs.GetForkchoiceStore.{get_forkchoice_store}
+use Rattle.spec_fork_choice.specs.GetForkchoiceStore.{genesis_store}
 use Rattle.spec_fork_choice.specs.OnEvent.{genesis_clash}
 use Rattle.spec_state.specs.declared.plain.PlainState.{PlainState}
 use Rattle.spec_state.specs.declared.fault.GenesisFault.{GenesisFault}
@@ -60,7 +60,7 @@ pub no_record_lines : (store : Store) (events : Option (List ℕ)) → events �
 unfolding with_record
 no_record_lines store events e = rw e refl
 
-no_store_lines : (clash : Option ClashKind) (store : Store) → (with_store clash store None).lines ≡ []
+pub no_store_lines : (clash : Option ClashKind) (store : Store) → (with_store clash store None).lines ≡ []
 unfolding with_store with_record
 no_store_lines (Some kind) store = refl
 no_store_lines None store = refl
@@ -68,7 +68,7 @@ no_store_lines None store = refl
 no_state_lines : (config : ConfigValues) (state : Result PlainState GenesisFault) → (with_state config state None).lines ≡ []
 unfolding with_state
 no_state_lines config (Err part) = refl
-no_state_lines config (Ok state) = no_store_lines (genesis_clash state) (get_forkchoice_store config state)
+no_state_lines config (Ok state) = no_store_lines (genesis_clash state) (genesis_store config state)
 
 pub no_genesis_lines : (config : ConfigValues) (genesis events : Option (List ℕ)) → events ≡ None → (with_genesis config genesis events).lines ≡ []
 unfolding with_genesis

@@ -17,7 +17,7 @@ use Rattle.bc_words.specs.declared.store_stop.StoreStop.TheVariants as stores
 use Rattle.spec_state.specs.Genesis.{genesis_of}
 use Rattle.spec_state.specs.declared.plain.PlainState.{PlainState}
 use Rattle.spec_fork_choice.specs.Store.{Store}
-use Rattle.spec_fork_choice.specs.GetForkchoiceStore.{get_forkchoice_store}
+use Rattle.spec_fork_choice.specs.GetForkchoiceStore.{genesis_store, get_forkchoice_store}
 use Rattle.spec_fork_choice.specs.OnEvent.{genesis_clash, open_unless, open_store}
 use Rattle.bc_words.specs.Events.{StoreStops}
 use Rattle.spec_replay.specs.Run.{with_files, with_config, with_genesis, with_state, with_store, with_record, with_events}
@@ -132,52 +132,65 @@ opened_without None store opened e = (refl, cc)
 
 -- a store that opened keeps one block
 pub one_block : (config : ConfigValues) (genesis : PlainState) (store : Store) → open_store config genesis ≡ accepted store → length store.blocks ≤ 1
-unfolding open_store get_forkchoice_store
+unfolding open_store genesis_store get_forkchoice_store
 one_block config genesis store is =
-    let opened = opened_without (genesis_clash genesis) (get_forkchoice_store config genesis) store is in
+    let opened = opened_without (genesis_clash genesis) (genesis_store config genesis) store is in
     rw opened.1 (omega arith)
 
--- The store opened, and the record comes next.
+-- a run on a store that opens unless its first block clashes
+module _ (clash : Option ClashKind) (fresh : Store) (name : List ℕ) where
+  abbrev pub OfStore : Status → ShelfTold → ShelfTold → List ℕ → List ℕ → Type 0
+  OfStore status s t w x = Replayed (λ contents. with_store clash fresh (contents name)) (λ contents opened. with_store clash fresh (taken_of 0 opened)) (name ∷ []) status s t w x
+
+  -- the store opened, and the record comes next
+  pub store_goes_on : (store : Store) (status : Status) (s t : ShelfTold) (w x : List ℕ) → open_unless clash fresh ≡ accepted store
+      → Replayed (λ contents. with_record store (contents name)) (λ contents opened. with_record store (taken_of 0 opened)) (name ∷ []) status s t w x → OfStore status s t w x
+  unfolding with_store
+  store_goes_on store status s t w x is rest =
+      let opened = opened_without clash fresh store is in
+      rw (opened.0, ← opened.1) rest
+
+  -- no store opened
+  no_store_over : (s : ShelfTold) (w : List ℕ) → OfStore statuses.NoMemory s s w w
+  no_store_over s w = record {
+    opened = [];
+    files = sym (append-nil s.files);
+    answers = λ c a. record {
+      ends = λ never. cc;
+      lines = no_lines true _ w (is_prefix 0 _ (omega arith));
+      pace = no_lines true _ w (is_prefix 0 _ (omega arith));
+      asks = asks_none true _ (name ∷ []) s.asked s.asked (is_prefix 0 _ (omega arith)) refl;
+    };
+  }
+
+  pub store_over : (stop : StoreStop) (s : ShelfTold) (w : List ℕ) → StoreStops stop (open_unless clash fresh) → OfStore (no_store stop) s s w w
+  unfolding with_store
+  store_over (stores.Clash kind) s w is = record {
+    opened = [];
+    files = sym (append-nil s.files);
+    answers = λ c a.
+        rw (clash_of_opening clash fresh kind is) (record {
+          ends = λ _. refl;
+          lines = no_lines false [] w (reaches_none false);
+          pace = no_lines false [] w (reaches_none false);
+          asks = asks_none false 0 (name ∷ []) s.asked s.asked (reaches_none false) refl;
+        });
+  }
+  store_over (stores.Refused why) s w is = no_store_over s w
+  store_over (stores.Limit bound) s w is = no_store_over s w
+  store_over stores.NoMemory s w is = no_store_over s w
+
+-- The store at genesis opened, or didn't.
 pub opened_goes_on : (config : ConfigValues) (genesis : PlainState) (store : Store) (name : List ℕ) (status : Status) (s t : ShelfTold) (w x : List ℕ) → open_store config genesis ≡ accepted store
     → Replayed (λ contents. with_record store (contents name)) (λ contents opened. with_record store (taken_of 0 opened)) (name ∷ []) status s t w x
     → Replayed (λ contents. run_from config genesis (contents name)) (λ contents opened. run_from config genesis (taken_of 0 opened)) (name ∷ []) status s t w x
-unfolding open_store with_store
-opened_goes_on config genesis store name status s t w x is rest =
-    let opened = opened_without (genesis_clash genesis) (get_forkchoice_store config genesis) store is in
-    rw (opened.0, ← opened.1) rest
-
--- no store opened
-no_store_over : (config : ConfigValues) (genesis : PlainState) (name : List ℕ) (s : ShelfTold) (w : List ℕ)
-    → Replayed (λ contents. run_from config genesis (contents name)) (λ contents opened. run_from config genesis (taken_of 0 opened)) (name ∷ []) statuses.NoMemory s s w w
-no_store_over config genesis name s w = record {
-  opened = [];
-  files = sym (append-nil s.files);
-  answers = λ c a. record {
-    ends = λ never. cc;
-    lines = no_lines true _ w (is_prefix 0 _ (omega arith));
-    pace = no_lines true _ w (is_prefix 0 _ (omega arith));
-    asks = asks_none true _ (name ∷ []) s.asked s.asked (is_prefix 0 _ (omega arith)) refl;
-  };
-}
+unfolding open_store
+opened_goes_on config genesis store name status s t w x is rest = store_goes_on (genesis_clash genesis) (genesis_store config genesis) name store status s t w x is rest
 
 pub opening_over : (config : ConfigValues) (genesis : PlainState) (name : List ℕ) (stop : StoreStop) (s : ShelfTold) (w : List ℕ) → StoreStops stop (open_store config genesis)
     → Replayed (λ contents. run_from config genesis (contents name)) (λ contents opened. run_from config genesis (taken_of 0 opened)) (name ∷ []) (no_store stop) s s w w
-unfolding open_store with_store
-opening_over config genesis name (stores.Clash kind) s w is = record {
-  opened = [];
-  files = sym (append-nil s.files);
-  answers = λ c a.
-      let clash = clash_of_opening (genesis_clash genesis) (get_forkchoice_store config genesis) kind is in
-      rw clash (record {
-        ends = λ _. refl;
-        lines = no_lines false [] w (reaches_none false);
-        pace = no_lines false [] w (reaches_none false);
-        asks = asks_none false 0 (name ∷ []) s.asked s.asked (reaches_none false) refl;
-      });
-}
-opening_over config genesis name (stores.Refused why) s w is = no_store_over config genesis name s w
-opening_over config genesis name (stores.Limit bound) s w is = no_store_over config genesis name s w
-opening_over config genesis name stores.NoMemory s w is = no_store_over config genesis name s w
+unfolding open_store
+opening_over config genesis name stop s w is = store_over (genesis_clash genesis) (genesis_store config genesis) name stop s w is
 
 module _ (files : ReplayFiles) (bytes : List ℕ) (s t : ShelfTold) (read : ReadOf files.config 65537 bytes s t) where
   pub config_stops : (w : List ℕ) (reason : ConfigFault) → Err reason ≡ config_of bytes

@@ -2,12 +2,13 @@
 use Rattle.std.specs.Prelude.{◌≡◌, ℕ, zero, suc, ◌≤◌, Bool, true, false, List, [], ◌∷◌, ◌++◌, length, take, Option, Some, None, IfSome}
 use Rattle.bc_outside.specs.Told.{FileHanded, ShelfTold, SinkTold, Agrees}
 use Rattle.bc_outside.specs.Calls.{Rose, ShelfKeeps, SinkKeeps}
-use Rattle.spec_replay.specs.Run.{Run, End, bad_config, bad_deposits, bad_duties, bad_genesis, bad_record, clash, done, limited, no_command, over, with_files}
+use Rattle.spec_replay.specs.Run.{Run, End, bad_anchor, bad_config, bad_deposits, bad_duties, bad_genesis, bad_record, clash, done, limited, no_command, over, with_files}
+use Rattle.spec_replay.specs.Anchor.{anchor_run}
 use Rattle.spec_replay.specs.Drill.{drill_run}
 use Rattle.spec_replay.specs.Genesis.{genesis_run}
 use Rattle.spec_replay.specs.Duties.{duties_run}
 use Rattle.spec_replay.specs.Forensic.{forensic_run}
-use Rattle.command_words.specs.Commands.{Command, command_of, drill, duties, forensic, genesis, replay}
+use Rattle.command_words.specs.Commands.{Command, anchor, command_of, drill, duties, forensic, genesis, replay}
 use Rattle.beacon_node.specs.declared.status.Status.{Status}
 use Rattle.beacon_node.specs.declared.status.Status.TheVariants as statuses
 
@@ -22,6 +23,7 @@ end_of (statuses.Limit which event limit) = Some (limited which event limit)
 end_of (statuses.Clash which event kind kept_which) = Some (clash which event kind kept_which)
 end_of (statuses.Deposits fault) = Some (bad_deposits fault)
 end_of (statuses.Duties fault) = Some (bad_duties fault)
+end_of (statuses.Anchor fault) = Some (bad_anchor fault)
 end_of statuses.ReadFault = None
 end_of statuses.WriteFault = None
 end_of statuses.NoMemory = None
@@ -81,7 +83,7 @@ abbrev pub whole_of : Status → Run → Run
 whole_of statuses.ReadFault run = record { lines = []; end = run.end; files = run.files }
 whole_of _ run = run
 
--- What keeps pace with the files. Of `replay` it is the run with as much of the record, the third file, as was taken; the
+-- What keeps pace with the files. Of `replay` and `anchor` it is the run with as much of the record, the last file, as was taken; the
 -- other commands write at their end.
 abbrev pub with_taken : Status → (List ℕ → Option (List ℕ)) → List FileHanded → Option Command → Run
 with_taken status contents opened None = over no_command
@@ -89,6 +91,7 @@ with_taken status contents opened (Some (replay files)) = with_files (contents f
 with_taken status contents opened (Some (drill words)) = whole_of status (drill_run words.number (contents words.config))
 with_taken status contents opened (Some (genesis files)) = whole_of status (genesis_run (contents files.config) (contents files.deposits))
 with_taken status contents opened (Some (duties words)) = whole_of status (duties_run words.epoch (contents words.config) (contents words.state))
+with_taken status contents opened (Some (anchor files)) = anchor_run (contents files.config) (contents files.state) (contents files.block) (taken_of 3 opened)
 with_taken status contents opened (Some (forensic files)) = whole_of status (forensic_run (contents files.config) (contents files.genesis) (contents files.first) (contents files.second))
 
 -- the same of the command words

@@ -17,6 +17,7 @@ status_number statuses.NoMemory = 8
 status_number (statuses.Clash which event kind kept_which) = 9
 status_number (statuses.Deposits fault) = 11
 status_number (statuses.Duties fault) = 12
+status_number (statuses.Anchor fault) = 10
 
 -- the status's name
 unfoldable pub name_of : Status → List ℕ
@@ -32,3 +33,4 @@ name_of statuses.NoMemory = codes "NoMemory"
 name_of (statuses.Clash which event kind kept_which) = codes "Clash"
 name_of (statuses.Deposits fault) = codes "Deposits"
 name_of (statuses.Duties fault) = codes "Duties"
+name_of (statuses.Anchor fault) = codes "Anchor"

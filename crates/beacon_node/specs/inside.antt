@@ -1,3 +1,4 @@
+pub mod AnchorAnswers
 pub mod AtEnd
 pub mod Duties
 pub mod Files

@@ -5,7 +5,7 @@
 ghost use Rattle.std.specs.Prelude.{◌≡◌, ◌≢◌, ◌<◌, ◌≤◌, ◌+◌, ◌^◌, ◌∷◌, [], length, None, Some, Ok, IfOk, IfErr};
 ghost use Rattle.bc_outside.specs.Told.{SinkTold};
 ghost use Rattle.record_file.specs.Record.{most_events};
-ghost use Rattle.spec_fork_choice.specs.GetForkchoiceStore.{get_forkchoice_store};
+ghost use Rattle.spec_fork_choice.specs.GetForkchoiceStore.{genesis_store};
 ghost use Rattle.spec_fork_choice.specs.OnEvent.{genesis_clash};
 ghost use Rattle.spec_drill.specs.AsEvents.{events_to_come};
 ghost use Rattle.spec_drill.specs.Maker.{new_maker, to_come};
@@ -203,7 +203,7 @@ fn split_lines<F: Shelf>(
     requires genesis { IsGenesis config.now genesis }
     requires none { genesis_clash genesis ≡ None }
     requires new { (first_maker ≡ new_maker first_maker.plan) × (second_maker ≡ new_maker second_maker.plan) }
-    ensures told { SplitTold (λ lines. lines.items) result (split_lines genesis (get_forkchoice_store config.now genesis) (events_to_come 0 (to_come first_maker)) (events_to_come 0 (to_come second_maker))) }
+    ensures told { SplitTold (λ lines. lines.items) result (split_lines genesis (genesis_store config.now genesis) (events_to_come 0 (to_come first_maker)) (events_to_come 0 (to_come second_maker))) }
     ensures still { F.told shelf.new ≡ F.told shelf.old }
     ensures outside { FollowsOutside [] result (F.told shelf.old) (F.told shelf.new) }
 {
@@ -242,7 +242,7 @@ fn all_lines<F: Shelf, O: Sink>(
 ) -> Result<Vec<u8>, Status>
     requires genesis { IsGenesis config.now genesis }
     requires makers { AreMakers makers.own.plan makers }
-    ensures told { DrillTold (λ lines. lines.items) result (drill_store (genesis_clash genesis) genesis (get_forkchoice_store config.now genesis) (chains_to_come makers)) }
+    ensures told { DrillTold (λ lines. lines.items) result (drill_store (genesis_clash genesis) genesis (genesis_store config.now genesis) (chains_to_come makers)) }
     ensures still { F.told shelf.new ≡ F.told shelf.old }
     ensures outside { FollowsOutside [] result (F.told shelf.old) (F.told shelf.new) }
 {
@@ -276,7 +276,7 @@ fn drill_from<F: Shelf, O: Sink>(
 ) -> Status
     requires genesis { IsGenesis config.now genesis }
     requires makers { AreMakers makers.own.plan makers }
-    ensures over { Finished result (drill_store (genesis_clash genesis) genesis (get_forkchoice_store config.now genesis) (chains_to_come makers))
+    ensures over { Finished result (drill_store (genesis_clash genesis) genesis (genesis_store config.now genesis) (chains_to_come makers))
         (O.told out.old).taken (O.told out.new).taken }
     ensures still { F.told shelf.new ≡ F.told shelf.old }
     ensures command { result ≢ Status.Words }

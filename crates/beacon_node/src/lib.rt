@@ -1,6 +1,7 @@
 //! The program: command words, files and a sink in, lines and a status out.
 #![tactic(auto)]
 
+mod anchor;
 mod drill;
 mod duty_lines;
 mod events;

@@ -7,6 +7,7 @@ use bc_preset::ConfigFault;
 use bc_words::{ClashKind, Limit};
 use duties::DutiesFault;
 use record_file::RecordFault;
+use spec_fork_choice::AnchorFault;
 use spec_genesis::DepositsFault;
 use spec_state::GenesisFault;
 
@@ -49,7 +50,7 @@ pub enum Status {
     Clash {
         /// Which record: 0 is the only or the first one, 1 the second.
         which: u8,
-        /// The event, and 0 for the genesis block.
+        /// The event, and 0 for the first kept block.
         event: u32,
         /// How it clashes.
         kind: ClashKind,
@@ -60,6 +61,8 @@ pub enum Status {
     Deposits(DepositsFault),
     /// The state has no duties to tell of the epoch, and this is the first reason.
     Duties(DutiesFault),
+    /// The state and its block are no anchor, and this is the first reason.
+    Anchor(AnchorFault),
 }
 
 impl Status {
@@ -81,6 +84,7 @@ impl Status {
             Status::Clash { .. } => 9,
             Status::Deposits(_) => 11,
             Status::Duties(_) => 12,
+            Status::Anchor(_) => 10,
         }
     }
 
@@ -102,6 +106,7 @@ impl Status {
             Status::Clash { .. } => "Clash",
             Status::Deposits(_) => "Deposits",
             Status::Duties(_) => "Duties",
+            Status::Anchor(_) => "Anchor",
         }
     }
 }

@@ -6,6 +6,7 @@ ghost use Rattle.command_words.specs.Commands.{ForensicFiles, IsDeclined, comman
 ghost use Rattle.beacon_node.specs.Answers.{OutsideKeeps, Replayed, taken_run_of};
 ghost use Rattle.beacon_node.specs.Findings.{WritesFindings};
 
+use crate::anchor::anchor;
 use crate::drill::drill;
 use crate::forensic::forensic;
 use crate::make_genesis::make_genesis;
@@ -55,6 +56,7 @@ pub fn beacon_main<F: Shelf, O: Sink>(
         Ok(Command::Drill(words)) => drill(alloc, &words, shelf, out),
         Ok(Command::Genesis(files)) => make_genesis(alloc, &files, shelf, out),
         Ok(Command::Duties(words)) => tell_duties(alloc, &words, shelf, out),
+        Ok(Command::Anchor(files)) => anchor(alloc, &files, shelf, out),
         Ok(Command::Forensic(files)) => forensic(alloc, &files, shelf, out),
         Err(WordsStop::NoCommand) => Status::Words,
         Err(WordsStop::NoMemory) => Status::NoMemory,

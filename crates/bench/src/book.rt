@@ -12,6 +12,7 @@ use beacon_body::{Attestation, SignedBeaconBlock};
 use beacon_state::State;
 use beacon_types::AttestationData;
 use chain_book::ChainBook;
+use forensics::Watch;
 use ssz_codec::Ssz;
 use std::alloc::Global;
 use std::rt::Files;
@@ -104,12 +105,14 @@ fn add(
     times: &mut Times,
 ) -> Result<()> {
     let alloc = rt.alloc();
+    let genesis = book.genesis()?;
+    let mut watch = Watch::new(&genesis);
     let begin = now(rt);
-    match book.step(alloc, block) {
-        Ok(step) => {
+    match book.step(alloc, block, &mut watch) {
+        Ok(state) => {
             times.steps = times.steps.plus(time_since(rt, begin));
             let begin = now(rt);
-            book.add(alloc, event, block, step)?;
+            book.add(alloc, event, block, state, &watch)?;
             times.adds = times.adds.plus(time_since(rt, begin));
             Ok(())
         }
@@ -169,14 +172,12 @@ fn gather_block(
     block: &SignedBeaconBlock,
     votes: &mut Votes,
 ) -> Result<()> {
-    match book.step(alloc, block) {
-        Ok(step) => {
-            votes.add(
-                alloc,
-                &step.state,
-                block.message.body.attestations.as_slice(),
-            )?;
-            Ok(book.add(alloc, 0, block, step)?)
+    let genesis = book.genesis()?;
+    let mut watch = Watch::new(&genesis);
+    match book.step(alloc, block, &mut watch) {
+        Ok(state) => {
+            votes.add(alloc, &state, block.message.body.attestations.as_slice())?;
+            Ok(book.add(alloc, 0, block, state, &watch)?)
         }
         Err(stop) => Err(stop.into()),
     }

@@ -74,7 +74,7 @@ pub struct Genesis {
 
 /// Reads a state of the preset.
 #[tactic(auto, using(spec_state::proofs::Limits::within_preset))]
-fn read_state(alloc: Global, preset: &Preset, bytes: &[u8]) -> Result<State, SszFault>
+pub fn read_state(alloc: Global, preset: &Preset, bytes: &[u8]) -> Result<State, SszFault>
     requires { IsPreset preset.now }
     ensures { IfOk result (λ state. state.preset ≡ preset.now) }
 {

@@ -2,9 +2,10 @@
 //!
 //! The word behind the program's name says what to measure: `pairs`, `shuffle`, `state`, `registry`, `change`, `iter`, `many`,
 //! `slots`, `block`, `attestation`, `operations`, `epoch`, `head`, `record`, `events`, `bodies`,
-//! `mainnet`, `drill`, `drill_mainnet`, `deposits`, `duties`, `book`, `forensic` or `forensic_mainnet`. Without a word nothing is measured.
+//! `mainnet`, `drill`, `drill_mainnet`, `deposits`, `anchor`, `duties`, `book`, `forensic` or `forensic_mainnet`. Without a word nothing is measured.
 #![tactic(auto)]
 
+mod anchor;
 mod attestation;
 mod block;
 mod book;
@@ -43,7 +44,7 @@ use std::time::CpuClock;
 
 /// What is printed where no word names a measurement.
 const USAGE: &str =
-    "name what to measure: pairs, shuffle, state, registry, change, iter, many, slots, block, attestation, operations, epoch, head, record, events, bodies, mainnet, drill, drill_mainnet, deposits, duties, book, forensic or forensic_mainnet";
+    "name what to measure: pairs, shuffle, state, registry, change, iter, many, slots, block, attestation, operations, epoch, head, record, events, bodies, mainnet, drill, drill_mainnet, deposits, anchor, duties, book, forensic or forensic_mainnet";
 
 /// Measures what a word names.
 fn measure(rt: &(impl AllocGlobal + Print + CpuClock + Files), word: &str) -> Result<()> {
@@ -55,6 +56,7 @@ fn measure(rt: &(impl AllocGlobal + Print + CpuClock + Files), word: &str) -> Re
         "drill" => drill::measure(rt),
         "drill_mainnet" => drill::measure_mainnet(rt),
         "deposits" => deposits::measure(rt),
+        "anchor" => anchor::measure(rt),
         "book" => book::measure(rt),
         "forensic" => forensic::measure(rt),
         "forensic_mainnet" => forensic::measure_mainnet(rt),

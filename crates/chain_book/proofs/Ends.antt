@@ -3,7 +3,8 @@ use Rattle.std.proofs.Common.{◌≡◌, ◌∙◌, ℕ, zero, suc, ◌+◌, ◌
 use Rattle.std.specs.List.{Contains}
 use Rattle.std.specs.Cmp.{unsigned_Decides}
 use Rattle.std.specs.Cmp.Lexicographic.{pointwise_decides}
-use Rattle.bc_words.specs.Outcome.{done}
+use Rattle.bc_words.specs.Outcome.{Outcome, done, refused, limited, Stops, GivesBy}
+use Rattle.bc_words.specs.declared.stop.Stop.{Stop}
 use Rattle.bc_preset.specs.declared.configuration.ConfigValues.{ConfigValues}
 use Rattle.beacon_types.specs.Equality.{same_root}
 use Rattle.beacon_body.specs.Containers.{block_codec}
@@ -15,8 +16,10 @@ use Rattle.spec_state.specs.States.{state_codec}
 use Rattle.spec_transition.specs.ProcessSlots.{Stepped}
 use Rattle.spec_transition.specs.StateTransition.{state_transition}
 use Rattle.spec_forensics.specs.Histories.{AcceptedBlock, IsStepOn, chain_to, state_behind}
-use Rattle.forensics.specs.Books.{PlainBook, history_of, with_block}
-use Rattle.chain_book.specs.Chains.{PlainChain, IsChain}
+use Rattle.forensics.specs.Books.{PlainBook, begun, history_of, with_block}
+use Rattle.forensics.specs.Watches.{PlainWatch, with_entered}
+use Rattle.forensics.proofs.Watches.{watched}
+use Rattle.chain_book.specs.Chains.{PlainChain, IsChain, Reaches}
 
 -- the accepted block of a step
 abbrev pub accepted : ℕ → List ℕ → SignedBeaconBlock → Stepped → AcceptedBlock
@@ -95,8 +98,8 @@ next_end chain b is sound =
 
 -- ---- at the beginning
 
-pub no_block : (config : ConfigValues) (genesis : PlainState) → IsSound genesis → IsChain (record { book = record { config = config; genesis = genesis; first = []; second = [] }; which = 0; root = header_root_of genesis; state = genesis })
-unfolding history_of chain_to
+pub no_block : (config : ConfigValues) (genesis : PlainState) → IsSound genesis → IsChain (record { book = begun config genesis; which = 0; root = header_root_of genesis; state = genesis })
+unfolding history_of chain_to begun
 no_block config genesis sound = record { which = omega arith; order = λ e. refl; sound = sound; genesis_sound = sound; behind = refl; known = inl refl }
 
 pub turned : (book : PlainBook) → book.second ≡ [] → IsSound book.genesis → IsChain (record { book = book; which = 1; root = header_root_of book.genesis; state = book.genesis })
@@ -112,14 +115,15 @@ turned book none sound = record {
 
 -- ---- the same, as code comes by it
 
-pub begins : (config : ConfigValues) (genesis : PlainState) (book : PlainBook) (root : List ℕ) (state : PlainState) → IsSound genesis → book ≡ record { config = config; genesis = genesis; first = []; second = [] } → root ≡ header_root_of genesis → state ≡ genesis
+pub begins : (config : ConfigValues) (genesis : PlainState) (book : PlainBook) (root : List ℕ) (state : PlainState) → IsSound genesis → book ≡ begun config genesis → root ≡ header_root_of genesis → state ≡ genesis
     → IsChain (record { book = book; which = 0; root = root; state = state })
 begins config genesis book root state sound is root_is state_is =
     subst (λ (b : PlainBook). IsChain (record { book = b; which = 0; root = root; state = state })) (sym is)
-    (subst (λ (r : List ℕ). IsChain (record { book = record { config = config; genesis = genesis; first = []; second = [] }; which = 0; root = r; state = state })) (sym root_is)
-    (subst (λ (s : PlainState). IsChain (record { book = record { config = config; genesis = genesis; first = []; second = [] }; which = 0; root = header_root_of genesis; state = s })) (sym state_is) (no_block config genesis sound)))
+    (subst (λ (r : List ℕ). IsChain (record { book = begun config genesis; which = 0; root = r; state = state })) (sym root_is)
+    (subst (λ (s : PlainState). IsChain (record { book = begun config genesis; which = 0; root = header_root_of genesis; state = s })) (sym state_is) (no_block config genesis sound)))
 
-pub none_counted : (config : ConfigValues) (genesis : PlainState) (book : PlainBook) → book ≡ record { config = config; genesis = genesis; first = []; second = [] } → length book.first + length book.second ≡ 0
+pub none_counted : (config : ConfigValues) (genesis : PlainState) (book : PlainBook) → book ≡ begun config genesis → length book.first + length book.second ≡ 0
+unfolding begun
 none_counted config genesis book is = ap (λ (b : PlainBook). length b.first + length b.second) is
 
 pub turns : (book : PlainBook) (genesis : PlainState) (root : List ℕ) (state : PlainState) → genesis ≡ book.genesis → book.second ≡ [] → IsSound book.genesis → root ≡ header_root_of genesis → state ≡ genesis → IsChain (record { book = book; which = 1; root = root; state = state })
@@ -127,8 +131,40 @@ turns book genesis root state is none sound root_is state_is =
     subst (λ (r : List ℕ). IsChain (record { book = book; which = 1; root = r; state = state })) (sym (root_is ∙ ap header_root_of is))
     (subst (λ (s : PlainState). IsChain (record { book = book; which = 1; root = header_root_of book.genesis; state = s })) (sym (state_is ∙ is)) (turned book none sound))
 
-pub goes_on : (view chain : PlainChain) (signed : SignedBeaconBlock) (step shown : Stepped) → chain ≡ view → shown ≡ step → state_transition view.state signed view.book.config ≡ done step → state_transition chain.state signed chain.book.config ≡ done shown
-goes_on view chain signed step shown is same goes = ap (λ (c : PlainChain). state_transition c.state signed c.book.config) is ∙ goes ∙ ap done (sym same)
+pub goes_on : (view chain : PlainChain) (signed : SignedBeaconBlock) (step : Stepped) → chain ≡ view → state_transition view.state signed view.book.config ≡ done step → state_transition chain.state signed chain.book.config ≡ done step
+goes_on view chain signed step is goes = ap (λ (c : PlainChain). state_transition c.state signed c.book.config) is ∙ goes
+
+-- ---- a step, by what a watch becomes
+
+reached_by : (genesis : PlainState) (outcome : Outcome Stepped) (state : PlainState) (now : PlainWatch) → showing with_entered (record { genesis = genesis; entered = [] }) outcome ≡ done (state, now)
+    → (now.genesis ≡ genesis) × (outcome ≡ done (record { state = state; entered = now.entered }))
+unfolding showing
+reached_by genesis (done step) state now gives =
+    let state_is : step.state ≡ state = cc in
+    let shown : shown_all with_entered (record { genesis = genesis; entered = [] }) step.entered ≡ now = cc in
+    let seen : record { genesis = genesis; entered = step.entered } ≡ now = sym (watched genesis step.entered) ∙ shown in
+    (
+      sym (ap (λ (w : PlainWatch). w.genesis) seen),
+      ap (λ (s : PlainState). done (record { state = s; entered = step.entered })) state_is
+      ∙ ap (λ (w : PlainWatch). done (record { state = state; entered = w.entered })) seen
+    )
+reached_by genesis (refused why) state now gives = absurd cc
+reached_by genesis (limited bound) state now gives = absurd cc
+
+pub reached : (genesis : PlainState) (view chain : PlainChain) (signed : SignedBeaconBlock) (old now : PlainWatch) (r : Result PlainState Stop) → chain ≡ view → old ≡ record { genesis = view.book.genesis; entered = [] }
+    → GivesBy (λ (s : PlainState). (s, now)) r (showing with_entered old (state_transition chain.state signed chain.book.config))
+    → IfOk r (λ s. now.genesis ≡ view.book.genesis) × Reaches r now.entered (state_transition view.state signed view.book.config)
+reached genesis view chain signed old now r is fresh gives =
+    by r (subst (λ (w : PlainWatch). GivesBy (λ (s : PlainState). (s, now)) r (showing with_entered w (state_transition view.state signed view.book.config))) fresh
+      (subst (λ (c : PlainChain). GivesBy (λ (s : PlainState). (s, now)) r (showing with_entered old (state_transition c.state signed c.book.config))) is gives))
+  where
+    by : (r : Result PlainState Stop) → GivesBy (λ (s : PlainState). (s, now)) r (showing with_entered (record { genesis = view.book.genesis; entered = [] }) (state_transition view.state signed view.book.config))
+        → IfOk r (λ s. now.genesis ≡ view.book.genesis) × Reaches r now.entered (state_transition view.state signed view.book.config)
+    by (Ok s) gives = reached_by view.book.genesis (state_transition view.state signed view.book.config) s now gives
+    by (Err stop) gives = (tt, still stop (state_transition view.state signed view.book.config) gives)
+      where
+        still : (stop : Stop) (outcome : Outcome Stepped) → Stops stop (showing with_entered (record { genesis = view.book.genesis; entered = [] }) outcome) → Stops stop outcome
+        still stop outcome stops = stops_shown with_entered _ stop outcome stops
 
 pub next_of : (chain : PlainChain) (count : ℕ) (genesis : PlainState) (config : ConfigValues) (b : AcceptedBlock) (book : PlainBook) → IsChain chain → genesis ≡ chain.book.genesis → config ≡ chain.book.config → length chain.book.first + length chain.book.second ≡ count → IsSound b.state → book ≡ with_block chain.book chain.which b
     → IsChain (record { book = book; which = chain.which; root = b.root; state = b.state }) × (genesis ≡ book.genesis) × (config ≡ book.config) × (length book.first + length book.second ≡ count + 1)

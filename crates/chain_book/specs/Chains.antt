@@ -1,10 +1,12 @@
 -- A book with the end of the chain that the latest block of one of its histories ends.
-use Rattle.std.specs.Prelude.{◌≡◌, ◌⊎◌, ℕ, ◌<◌, List, [], map, Contains}
-use Rattle.bc_words.specs.Outcome.{done}
+use Rattle.std.specs.Prelude.{◌≡◌, ◌⊎◌, ℕ, ◌<◌, List, [], map, Contains, Result, Ok, Err}
+use Rattle.bc_words.specs.Outcome.{Outcome, done, Stops}
+use Rattle.bc_words.specs.declared.stop.Stop.{Stop}
 use Rattle.spec_state.specs.declared.plain.PlainState.{PlainState}
 use Rattle.spec_state.specs.Accessors.{get_total_active_balance}
 use Rattle.spec_state.specs.Genesis.{header_root_of}
 use Rattle.spec_state.specs.Soundness.{IsSound}
+use Rattle.spec_transition.specs.ProcessSlots.{Stepped}
 use Rattle.spec_forensics.specs.Histories.{chain_to, state_behind}
 use Rattle.forensics.specs.Books.{PlainBook, history_of}
 
@@ -28,3 +30,8 @@ pub record IsChain (chain : PlainChain) : Type 0 where
 pub record HasTotal (state : PlainState) : Type 0 where
   pub total : ℕ
   pub is : get_total_active_balance state ≡ done total
+
+-- The answer of a step: a state, where the states entered on the way to it are these, or why it stops
+abbrev pub Reaches : Result PlainState Stop → List PlainState → Outcome Stepped → Type 0
+Reaches (Ok state) entered outcome = outcome ≡ done (record { state = state; entered = entered })
+Reaches (Err stop) entered outcome = Stops stop outcome

@@ -1,11 +1,12 @@
 //! A book with the ends of its chains.
 
 ghost use Rattle.std.specs.Prelude.{◌≡◌, ◌<◌, ◌+◌, ◌-◌, ◌^◌, [], ◌∷◌, length, IfOk, OnOk, OnErr};
-ghost use Rattle.bc_words.specs.Outcome.{Gives, done};
+ghost use Rattle.bc_words.specs.Outcome.{done};
 ghost use Rattle.spec_state.specs.Soundness.{IsSound};
 ghost use Rattle.spec_state.specs.Genesis.{header_root_of};
 ghost use Rattle.spec_transition.specs.StateTransition.{state_transition};
-ghost use Rattle.forensics.specs.Books.{with_block};
+ghost use Rattle.chain_book.specs.Chains.{Reaches};
+ghost use Rattle.forensics.specs.Books.{begun, with_block};
 
 use crate::beginning::{is_beginning, is_same, is_set};
 use crate::chain_stop::ChainStop;
@@ -13,12 +14,12 @@ use bc_preset::Config;
 use bc_words::{NoMemory, Stop};
 use beacon_body::SignedBeaconBlock;
 use beacon_state::State;
-use forensics::{Book, Offence};
+use forensics::{Book, Offence, Watch};
 use hash_tree::{Leaf, Root};
 use std::alloc::Global;
 use std::marker::Model;
-use transition::state_transition::state_transition;
-use transition::{Step, genesis_is_sound};
+use transition::genesis_is_sound;
+use transition::state_transition::visit_transition;
 
 /// A book, and the end of the chain of the history that is being added.
 #[derive(Drop)]
@@ -46,7 +47,7 @@ impl Model for ChainBook {
 impl ChainBook {
     /// A book without blocks, whose first history ends with genesis. The genesis must begin the histories of a book.
     pub fn new(alloc: Global, genesis: &State, config: &Config) -> Result<ChainBook, ChainStop>
-        ensures { IfOk result (λ chain. chain.book ≡ record { config = config.now; genesis = genesis.now; first = []; second = [] }) }
+        ensures { IfOk result (λ chain. chain.book ≡ begun config.now genesis.now) }
     {
         if !is_beginning(genesis) {
             return Err(ChainStop::NoBeginning);
@@ -64,6 +65,13 @@ impl ChainBook {
         })
     }
 
+    /// A share of genesis, for a watch to compare with.
+    pub fn genesis(&self) -> Result<State, NoMemory>
+        ensures { IfOk result (λ genesis. genesis ≡ self.now.book.genesis) }
+    {
+        self.genesis.share()
+    }
+
     /// Turns to the second history, which begins with genesis. Where it was turned to already, nothing changes.
     pub fn turn(&mut self) -> Result<(), NoMemory>
         ensures { self.new.book ≡ self.old.book }
@@ -78,48 +86,53 @@ impl ChainBook {
         Ok(())
     }
 
-    /// The step from the end of the chain by a block.
-    pub fn step(&self, alloc: Global, block: &SignedBeaconBlock) -> Result<Step, Stop>
-        ensures sound { IfOk result (λ step. IsSound step.state) }
-        ensures step { Gives result (state_transition self.now.state block.now self.now.book.config) }
+    /// The state behind a block on the end of the chain. A watch of the book's genesis is shown the states entered on the way.
+    #[tactic(auto, using(crate::proofs::Ends::reached))]
+    pub fn step(
+        &self,
+        alloc: Global,
+        block: &SignedBeaconBlock,
+        watch: &mut Watch<'_>,
+    ) -> Result<State, Stop>
+        requires fresh { watch.old ≡ record { genesis = self.now.book.genesis; entered = [] } }
+        ensures sound { IfOk result (λ state. IsSound state) }
+        ensures genesis { IfOk result (λ state. watch.new.genesis ≡ self.now.book.genesis) }
+        ensures step { Reaches result watch.new.entered (state_transition self.now.state block.now self.now.book.config) }
     {
-        state_transition(alloc, &self.state, block, &self.config)
+        visit_transition(alloc, &self.state, block, &self.config, watch)
     }
 
-    /// Adds a block to the history, with the number of its event and the step that it makes. It must be on the end of the chain.
+    /// Adds a block to the history, with the number of its event, the state behind it and the watch that was shown the states entered
+    /// on the way. It must be on the end of the chain.
     pub fn add(
         &mut self,
         alloc: Global,
         event: u32,
         block: &SignedBeaconBlock,
-        step: Step,
+        state: State,
+        watch: &Watch<'_>,
     ) -> Result<(), ChainStop>
-        requires sound { IsSound step.state }
-        requires step { state_transition self.old.state block.now self.old.book.config ≡ done step }
+        requires sound { IsSound state }
+        requires genesis { watch.now.genesis ≡ self.old.book.genesis }
+        requires step { state_transition self.old.state block.now self.old.book.config ≡ done (record { state = state; entered = watch.now.entered }) }
     {
         let root = block.message.root();
         let _slot = block.message.slot;
         if !is_same(&block.message.parent_root, &self.root) {
             return Err(ChainStop::NotOnTop);
         }
-        if !is_set(&root) || !is_set(&step.state.root()) {
+        if !is_set(&root) || !is_set(&state.root()) {
             return Err(ChainStop::ZeroRoot);
         }
         if self.count >= u32::MAX - 1 {
             return Err(ChainStop::Full);
         }
-        self.book.add(
-            alloc,
-            self.which,
-            event,
-            &block.message,
-            root,
-            &step.state,
-            &step.entered,
-        )?;
+        let which = self.which;
+        self.book
+            .add(alloc, which, event, &block.message, root, &state, watch)?;
         self.count += 1;
         self.root = root;
-        self.state = step.state;
+        self.state = state;
         Ok(())
     }
 

@@ -26,6 +26,9 @@ committee_few s slot index calm next =
     let few = small.few (slot % s.preset.slots_per_epoch * committee_count_per_slot s.preset 64 + index) in
     omega (arith, is)
 
+pub few_of : (s : PlainState) (slot index size : ℕ) → IsCalm 0 s → s.slot ≡ slot + 1 → size ≡ length (get_beacon_committee s slot index) → size ≤ 4
+few_of s slot index size calm next is = let few = committee_few s slot index calm next in omega (arith, is, few)
+
 pub committees_few : (s : PlainState) (slot : ℕ) → IsCalm 0 s → s.slot ≡ slot + 1 → get_committee_count_per_slot s (compute_epoch_at_slot s.preset slot) ≤ 2
 committees_few s slot calm next =
     let is = count_is s (compute_epoch_at_slot s.preset slot) calm.registry (epoch_low s slot calm next) in

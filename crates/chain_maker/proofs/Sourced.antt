@@ -8,6 +8,7 @@ use Rattle.bc_outside.specs.Told.{ShelfTold}
 use Rattle.record_file.specs.Record.{Events, with_event, is_kind, most_events}
 use Rattle.record_file.specs.Record as record_file
 use Rattle.record_file.specs.Sources.{NextOf, Counts}
+use Rattle.record_file.specs.Stops.{SourceStopsBy}
 use Rattle.record_file.specs.declared.event.Event.{Event}
 use Rattle.spec_drill.specs.Plan.{Plan, IsPlan}
 use Rattle.spec_drill.specs.Make.{MadeEvent, Made, before, kind_of, payload_of, made}
@@ -89,6 +90,12 @@ module _ (old new : PlainMaker) (given : ℕ) where
   can_stop (stops.Refused why) next = next
   can_stop (stops.Limit bound) next = tt
   can_stop stops.NoMemory next = tt
+
+-- no shelf is at fault
+pub stop_causes : (T : Type 0) (given : ℕ) (stop : Stop) (faults : ℕ) → SourceStopsBy {T = T} (Err (stop_of given stop)) faults faults
+stop_causes T given (stops.Refused why) faults = omega arith
+stop_causes T given (stops.Limit bound) faults = omega arith
+stop_causes T given stops.NoMemory faults = omega arith
 
 -- a new maker's chain is short
 pub begun_short : (maker : PlainMaker) → maker ≡ new_maker maker.plan → IsPlan maker.plan → IsShort (begun maker)

@@ -1,13 +1,14 @@
 -- What the answers of the state transition's calls say of a maker.
 use Rattle.std.proofs.Common.{◌≡◌, ◌∙◌, ℕ, ◌+◌, ◌*◌, ◌<◌, ◌≤◌, Bool, true, false, List, [], ◌∷◌, map, Option, Some, None, Result, Ok, Err, IfOk, if◌then◌else◌, refl, sym, ap, subst, inl, inr, arith}
 use Rattle.hash_tree.specs.Merkle.{uint_to_bytes}
-use Rattle.bc_words.specs.Outcome.{Stops, done, refused, limited}
+use Rattle.bc_words.specs.Outcome.{Outcome, Stops, done, refused, limited}
 use Rattle.bc_words.specs.declared.refusal.Refusal.{Refusal}
 use Rattle.bc_words.specs.declared.stop.Limit.{Limit}
 use Rattle.bc_words.specs.declared.stop.Limit.TheVariants.{Proposer}
 use Rattle.bc_words.specs.declared.stop.NoMemory.{NoMemory}
 use Rattle.bc_words.specs.declared.stop.Stop.{Stop}
 use Rattle.bc_words.specs.declared.stop.Stop.TheVariants as stops
+use Rattle.bc_preset.specs.declared.configuration.ConfigValues.{ConfigValues}
 use Rattle.bc_preset.specs.declared.presets.Preset.{Preset}
 use Rattle.bc_preset.proofs.Bounds.{preset_bounds}
 use Rattle.beacon_body.specs.declared.attestation.Attestation.{Attestation}
@@ -16,8 +17,9 @@ use Rattle.spec_state.specs.declared.plain.PlainState.{PlainState}
 use Rattle.spec_state.specs.Genesis.{header_root_of, genesis_fault}
 use Rattle.spec_blocks.proofs.Done.{same_value}
 use Rattle.spec_transition.specs.ProcessSlots.{Stepped, process_slots}
+use Rattle.spec_transition.specs.StateTransition.{state_transition}
 use Rattle.spec_fork_choice.specs.Store.{Store}
-use Rattle.spec_fork_choice.specs.GetForkchoiceStore.{get_forkchoice_store}
+use Rattle.spec_fork_choice.specs.GetForkchoiceStore.{genesis_store}
 use Rattle.spec_fork_choice.specs.OnEvent.{on_event, genesis_clash}
 use Rattle.record_file.specs.declared.event.Event.{Event}
 use Rattle.spec_drill.specs.Plan.{Plan, IsPlan, last_slot, is_skipped}
@@ -30,6 +32,8 @@ use Rattle.spec_drill.specs.Taken.{Takes, store_after}
 use Rattle.spec_drill.specs.Maker.{Due, PlainMaker, to_come, new_maker, HasGiven}
 use Rattle.spec_drill.specs.inside.Calm.{IsCalm}
 use Rattle.spec_drill.specs.inside.Makers.{DueIs, IsMaker}
+use Rattle.spec_drill.proofs.Block.{IsMade, made_is_taken, make_gives}
+use Rattle.spec_drill.proofs.Proposer.{GivesOrLimit}
 use Rattle.spec_drill.proofs.Genesis.{last_slot_low}
 use Rattle.spec_drill.proofs.Maker.{next_is_accepted}
 use Rattle.spec_drill.proofs.Slots.{slots_give}
@@ -37,7 +41,7 @@ use Rattle.spec_drill.proofs.Steps.{pending_next, nothing_next, slot_opens, open
 use Rattle.chain_maker.specs.Next.{NextIs, IsAcceptedBy}
 use Rattle.chain_maker.specs.declared.votes.Votes.{Votes}
 use Rattle.chain_maker.specs.inside.Votes.{pending_of, NextVote}
-use Rattle.chain_maker.specs.inside.Standing.{due_of, Gives, GivesVote}
+use Rattle.chain_maker.specs.inside.Standing.{due_of, IsReached, Gives, GivesVote}
 
 -- the last slot is at most that of 32 epochs of 32 slots
 pub last_low : (plan : Plan) → IsPlan plan → last_slot plan ≤ 1024
@@ -144,7 +148,7 @@ gives_block maker new due made payload grows same is =
 
 pub accepted_next : (maker new : PlainMaker) (result : Result (Option Event) Stop) (given : List MadeEvent) (store : Store) → IsPlan maker.plan → NextIs result maker new
     → genesis_clash (genesis_of_plan maker.plan) ≡ None → HasGiven given maker
-    → store_after (get_forkchoice_store maker.plan.config (genesis_of_plan maker.plan)) given ≡ Some store → IsAcceptedBy store result
+    → store_after (genesis_store maker.plan.config (genesis_of_plan maker.plan)) given ≡ Some store → IsAcceptedBy store result
 accepted_next maker new (Ok (Some event)) given store ok next none has e =
     let taken = next_is_accepted maker given next.0 (to_come new) store ok none has next.2 e in
     subst (λ (payload : List ℕ). Takes (on_event store event.kind payload) (λ new. Unit {0})) (sym next.1.payload)
@@ -231,3 +235,29 @@ pub nothing_left : (old new : PlainMaker) → old.pending ≡ [] → new ≡ old
     → (to_come old ≡ record { events = []; end = done tt }) × (new ≡ old)
 nothing_left old new none same no_due last =
     (nothing_next old none (subst (λ (m : PlainMaker). m.due ≡ None) same no_due) (subst (λ (m : PlainMaker). m.slot ≡ last_slot m.plan) same last), same)
+
+-- the block that is due, if one is, stands behind the slot's end
+pub reached_if : (state at : PlainState) (slot : ℕ) (config : ConfigValues) (entered : List PlainState) (skipped : Bool) (due : Option PlainState) → due ≡ (if skipped then None else Some at)
+    → process_slots state slot config ≡ done (record { state = at; entered = entered }) → IsReached state slot config entered due
+reached_if state at slot config entered true due same is = subst (IsReached state slot config entered) (sym same) tt
+reached_if state at slot config entered false due same is = subst (IsReached state slot config entered) (sym same) is
+
+made_here : {A : Type 0} (P : A → Type 0) (o : Outcome A) (value : A) → GivesOrLimit P o → o ≡ done value → P value
+made_here P o value gives e = elim gives.either [
+  | inl g ↦ subst P (same_value g.value value (sym g.is ∙ e)) g.holds
+  | inr stops ↦ absurd cc
+]
+
+-- and the transition takes it
+pub stepped_is : (maker : PlainMaker) (due : Due) (made : MadeBlock) (entered : List PlainState) → IsMaker maker → maker.pending ≡ [] → maker.due ≡ Some due
+    → make_block maker.plan due.at (header_root_of maker.state) due.votes ≡ done made → process_slots maker.state maker.slot maker.plan.config ≡ done (record { state = due.at; entered = entered })
+    → (made.block.message.parent_root ≡ header_root_of maker.state) × (state_transition maker.state made.block maker.plan.config ≡ done (record { state = made.state; entered = entered })) × (made.state.slot ≡ made.block.message.slot)
+stepped_is maker due made entered is none due_is e reached =
+    let stands = subst (DueIs maker.plan maker.state maker.slot) due_is is.due in
+    let root : List ℕ = header_root_of maker.state in
+    let at : Stepped = record { state = due.at; entered = entered } in
+    let votes : due.votes ≡ votes_of due.at root stands.voted = stands.votes in
+    let next : due.at.slot ≡ stands.voted + 1 = stands.at ∙ stands.next in
+    let is_made : IsMade due.at root due.votes maker.plan.config made = made_here (IsMade due.at root due.votes maker.plan.config) (make_block maker.plan due.at root due.votes) made
+    (subst (λ (votes : List Attestation). GivesOrLimit (IsMade due.at root votes maker.plan.config) (make_block maker.plan due.at root votes)) (sym votes) (make_gives maker.plan due.at root stands.voted stands.calm next)) e in
+    (is_made.parent, made_is_taken maker.plan.config maker.state at root due.votes made (subst (λ (slot : ℕ). process_slots maker.state slot maker.plan.config ≡ done at) (sym stands.at) reached) is_made, is_made.at ∙ sym is_made.slot)

@@ -3,19 +3,18 @@
 ghost use Rattle.std.specs.Prelude.{◌≡◌, ◌<◌, ◌≤◌, ◌+◌, true, length, map, replicate, IfOk};
 ghost use Rattle.std.specs.List.{range_with_len};
 ghost use Rattle.beacon_types.specs.Limits.{max_validators_per_committee};
-ghost use Rattle.committees.specs.Committees.{committee_at};
-ghost use Rattle.spec_state.specs.Accessors.{get_beacon_committee, get_committee_count_per_slot, get_current_epoch};
+ghost use Rattle.spec_state.specs.Accessors.{get_active_validator_indices, get_beacon_committee, get_committee_count_per_slot, get_current_epoch};
 ghost use Rattle.spec_state.specs.Misc.{compute_epoch_at_slot};
-ghost use Rattle.balance_totals.specs.inside.PerSlot.{ArePublished};
 ghost use Rattle.spec_drill.specs.MakeVotes.{source_for, vote_of, votes_of};
 ghost use Rattle.spec_drill.specs.inside.Calm.{IsCalm};
 
-use balance_totals::{block_root, committees_of_epoch, current_epoch};
+use attest_ops::committee_size;
+use balance_totals::{block_root, count_active, current_epoch};
 use bc_words::NoMemory;
 use beacon_body::{Attestation, Attestations};
 use beacon_state::State;
 use beacon_types::{AggregationBits, AttestationData, Checkpoint};
-use committees::EpochCommittees;
+use committees::committee_count_per_slot;
 use hash_tree::Root;
 use ssz_codec::{BitList, Items, VariableList};
 use std::alloc::Global;
@@ -66,19 +65,17 @@ fn content_of(state: &State, root: &Root, slot: u64, index: u64) -> AttestationD
     }
 }
 
-/// How many members a committee of the slot before the state's has.
-fn committee_size(state: &State, committees: &EpochCommittees, slot: u64, index: u64) -> u64
+/// How many members a committee of the slot before the state's has, where so many validators are active in the slot's epoch.
+#[tactic(auto, using(crate::proofs::Committees::few_of))]
+fn size_of(state: &State, active: u64, slot: u64, index: u64) -> u64
     requires calm { IsCalm 0 state.now }
     requires next { state.now.slot ≡ slot + 1 }
-    requires published { ArePublished state.now (compute_epoch_at_slot state.now.preset slot) committees.now }
+    requires active { active ≡ length (get_active_validator_indices state.now (compute_epoch_at_slot state.now.preset slot)) }
     requires index { index < get_committee_count_per_slot state.now (compute_epoch_at_slot state.now.preset slot) }
     ensures exact { result ≡ length (get_beacon_committee state.now slot index) }
     ensures few { result ≤ 4 }
 {
-    match committees.committee(slot, index) {
-        Some(members) => members.len() as u64,
-        None => unreachable!(),
-    }
+    committee_size(state, active, slot, index)
 }
 
 /// The attestation of a whole committee of the slot before the state's.
@@ -86,18 +83,18 @@ fn committee_size(state: &State, committees: &EpochCommittees, slot: u64, index:
 fn vote_of(
     alloc: Global,
     state: &State,
-    committees: &EpochCommittees,
+    active: u64,
     root: &Root,
     slot: u64,
     index: u64,
 ) -> Result<Attestation, NoMemory>
     requires calm { IsCalm 0 state.now }
     requires next { state.now.slot ≡ slot + 1 }
-    requires published { ArePublished state.now (compute_epoch_at_slot state.now.preset slot) committees.now }
+    requires active { active ≡ length (get_active_validator_indices state.now (compute_epoch_at_slot state.now.preset slot)) }
     requires index { index < get_committee_count_per_slot state.now (compute_epoch_at_slot state.now.preset slot) }
     ensures { IfOk result (λ vote. vote ≡ vote_of state.now root.now slot index) }
 {
-    let size = committee_size(state, committees, slot, index);
+    let size = size_of(state, active, slot, index);
     let aggregation_bits = all_set(alloc, size)?;
     Ok(Attestation {
         aggregation_bits,
@@ -108,7 +105,7 @@ fn vote_of(
 
 /// The attestations of the slot before the state's, committee by committee, for the block with this root. The state is one of
 /// a made chain.
-#[tactic(auto, unfolding(spec_drill::specs::MakeVotes::votes_of))]
+#[tactic(auto, unfolding(spec_drill::specs::MakeVotes::votes_of, spec_state::specs::Accessors::get_committee_count_per_slot, spec_state::specs::Misc::compute_epoch_at_slot))]
 pub fn votes_of(
     alloc: Global,
     state: &State,
@@ -121,10 +118,12 @@ pub fn votes_of(
 {
     let preset = state.preset();
     preset.bounds();
-    let committees = committees_of_epoch(alloc, state, slot / preset.slots_per_epoch)?;
+    // whose votes they are isn't asked, so nothing is shuffled
+    let active = count_active(state, slot / preset.slots_per_epoch);
+    let per_slot = committee_count_per_slot(preset, active);
     let mut votes = Items::new(alloc);
-    for index in 0..committees.per_slot() {
-        let vote = vote_of(alloc, state, &committees, root, slot, index)?;
+    for index in 0..per_slot {
+        let vote = vote_of(alloc, state, active, root, slot, index)?;
         votes.push(vote)?;
     }
     Ok(VariableList::from_items(votes))

@@ -6,10 +6,12 @@
 mod attestations;
 mod block;
 mod genesis;
+mod given;
 mod maker;
 mod plan;
 mod source;
 mod votes;
 
+pub use given::{Given, SteppedBlock};
 pub use maker::Maker;
 pub use source::MadeEvents;

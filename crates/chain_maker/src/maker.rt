@@ -1,22 +1,23 @@
 //! The maker of a chain: where it stands between two events, and the next event.
 
-ghost use Rattle.std.specs.Prelude.{◌≡◌, ◌<◌, ◌≤◌, List, [], Some, None, IfOk, IsSome, if◌then◌else◌};
+ghost use Rattle.std.specs.Prelude.{◌≡◌, ◌<◌, ◌≤◌, List, [], Some, None, IfOk, IfSome, IsSome, if◌then◌else◌};
 ghost use Rattle.hash_tree.specs.Merkle.{uint_to_bytes};
 ghost use Rattle.spec_state.specs.Genesis.{genesis_fault};
 ghost use Rattle.spec_fork_choice.specs.Store.{Store};
-ghost use Rattle.spec_fork_choice.specs.GetForkchoiceStore.{get_forkchoice_store};
+ghost use Rattle.spec_fork_choice.specs.GetForkchoiceStore.{genesis_store};
 ghost use Rattle.spec_fork_choice.specs.OnEvent.{genesis_clash};
 ghost use Rattle.spec_drill.specs.Plan.{IsPlan, last_slot};
 ghost use Rattle.spec_drill.specs.MakeGenesis.{genesis_of_plan};
 ghost use Rattle.spec_drill.specs.Make.{MadeEvent};
 ghost use Rattle.spec_drill.specs.Taken.{store_after};
 ghost use Rattle.spec_drill.specs.Maker.{new_maker, HasGiven};
-ghost use Rattle.chain_maker.specs.Next.{NextIs, IsAcceptedBy};
-ghost use Rattle.chain_maker.specs.inside.Standing.{Gives, GivesVote};
+ghost use Rattle.chain_maker.specs.Next.{NextIs, IsAcceptedBy, StepIs, all_given};
+ghost use Rattle.chain_maker.specs.inside.Standing.{Gives, GivesVote, one_given};
 
 use crate::attestations::votes_of;
 use crate::block::make_block;
 use crate::genesis::made_genesis;
+use crate::given::{Given, SteppedBlock, no_block};
 use crate::plan::Plan;
 use crate::votes::{Source, Votes};
 use bc_preset::Config;
@@ -26,7 +27,9 @@ use record_file::{Event, Payload};
 use ssz_codec::{Ssz, Writer};
 use std::alloc::Global;
 use std::marker::Model;
+use std::mem;
 use transition::process_slots::process_slots;
+use transition::{Seen, Step};
 
 /// A chain that is being made. Contracts see what it is made by, the state behind its last block, the last slot that was begun,
 /// and what is still to be given of that slot.
@@ -41,6 +44,8 @@ pub struct Maker {
     votes: Votes,
     // The state at the slot, where its block is still to be made.
     due: Option<State>,
+    // The states on which epoch processing was entered on the way to it, which only clauses see.
+    entered: Seen,
 }
 
 impl Model for Maker {
@@ -48,12 +53,11 @@ impl Model for Maker {
 
     ghost Value = { PlainMaker };
 
-    ghost use Rattle.spec_drill.specs.inside.Makers.{IsMaker};
-    ghost use Rattle.chain_maker.specs.inside.Standing.{maker_of};
+    ghost use Rattle.chain_maker.specs.inside.Standing.{maker_of, Stands};
 
     ghost view = { maker_of };
 
-    ghost invariant = { λ maker. IsMaker (maker_of maker) };
+    ghost invariant = { Stands };
 }
 
 impl Maker {
@@ -68,6 +72,7 @@ impl Maker {
             slot: 0,
             votes: Votes::new(alloc),
             due: None,
+            entered: Seen::new(),
         })
     }
 
@@ -127,6 +132,7 @@ impl Maker {
     fn give_vote(&mut self, alloc: Global) -> Result<Option<Event>, NoMemory>
         ensures gives { GivesVote result self.old self.new }
         ensures plan { self.new.plan ≡ self.old.plan }
+        ensures state { self.new.state ≡ self.old.state }
     {
         self.votes.next(alloc)
     }
@@ -138,6 +144,7 @@ impl Maker {
         requires later { self.old.slot < last_slot self.old.plan }
         ensures gives { Gives result self.old self.new }
         ensures plan { self.new.plan ≡ self.old.plan }
+        ensures state { self.new.state ≡ self.old.state }
     {
         let begun = self.last_begun();
         let slot = begun + 1;
@@ -149,6 +156,7 @@ impl Maker {
         let skipped = self.plan.is_skipped(slot);
         let due = unless(skipped, step.state);
         self.due = due;
+        self.entered = step.entered;
         self.votes = Votes {
             all,
             given: 0,
@@ -159,11 +167,12 @@ impl Maker {
     }
 
     /// Makes the slot's block: the event is the block.
-    fn give_block(&mut self, alloc: Global) -> Result<Event, Stop>
+    fn give_block(&mut self, alloc: Global) -> Result<Given, Stop>
         requires none { self.old.pending ≡ [] }
         requires block { IsSome self.old.due }
-        ensures gives { Gives result self.old self.new }
+        ensures gives { Gives (one_given result) self.old self.new }
         ensures plan { self.new.plan ≡ self.old.plan }
+        ensures stepped { IfOk result (λ given. StepIs given.stepped self.old self.new) }
     {
         let root = self.state.header_root();
         let made = match &self.due {
@@ -171,37 +180,61 @@ impl Maker {
             None => unreachable!(),
         };
         let payload = Payload::new(made.block.write(alloc)?);
+        let state = made.state.share()?;
         self.state = made.state;
+        let entered = mem::replace(&mut self.entered, Seen::new());
         self.due = None;
         self.votes.given = 0;
         self.votes.source = Source::Carried;
-        Ok(Event { kind: 2, payload })
+        Ok(Given {
+            event: Event { kind: 2, payload },
+            stepped: Some(SteppedBlock {
+                block: made.block,
+                step: Step { state, entered },
+            }),
+        })
     }
 
     /// The next event, or None exactly behind the last slot. It is accepted by the store behind the events before it, unless it
-    /// clashes.
+    /// clashes. A block comes with its step from the state behind the one before it.
     ///
     /// Limited where none of the candidates for the proposer of the next block passes: the chain ends there. Nothing is refused.
     /// Where no event is given, the maker is as before.
-    pub fn next_event(&mut self, alloc: Global) -> Result<Option<Event>, Stop>
-        ensures gives { NextIs result self.old self.new }
+    pub fn next_given(&mut self, alloc: Global) -> Result<Option<Given>, Stop>
+        ensures gives { NextIs (all_given result) self.old self.new }
         ensures plan { self.new.plan ≡ self.old.plan }
+        ensures stepped { IfOk result (λ next. IfSome next (λ given. StepIs given.stepped self.old self.new)) }
         ensures accepted { (given : List MadeEvent) (store : Store) → genesis_clash (genesis_of_plan self.old.plan) ≡ None → HasGiven given self.old
-            → store_after (get_forkchoice_store self.old.plan.config (genesis_of_plan self.old.plan)) given ≡ Some store → IsAcceptedBy store result }
+            → store_after (get_forkchoice_store self.old.plan.config (genesis_of_plan self.old.plan)) given ≡ Some store → IsAcceptedBy store (all_given result) }
     {
         self.give(alloc)
     }
 
-    /// The next event: of what is left of the slot, or of the next slot.
-    #[tactic(auto, using(crate::proofs::Steps::nothing_left))]
-    fn give(&mut self, alloc: Global) -> Result<Option<Event>, Stop>
+    /// The next event, as `next_given` gives it.
+    pub fn next_event(&mut self, alloc: Global) -> Result<Option<Event>, Stop>
         ensures gives { NextIs result self.old self.new }
         ensures plan { self.new.plan ≡ self.old.plan }
+        ensures accepted { (given : List MadeEvent) (store : Store) → genesis_clash (genesis_of_plan self.old.plan) ≡ None → HasGiven given self.old
+            → store_after (genesis_store self.old.plan.config (genesis_of_plan self.old.plan)) given ≡ Some store → IsAcceptedBy store result }
+    {
+        match self.next_given(alloc) {
+            Ok(Some(given)) => Ok(Some(given.event)),
+            Ok(None) => Ok(None),
+            Err(stop) => Err(stop),
+        }
+    }
+
+    /// The next event: of what is left of the slot, or of the next slot.
+    #[tactic(auto, using(crate::proofs::Steps::nothing_left))]
+    fn give(&mut self, alloc: Global) -> Result<Option<Given>, Stop>
+        ensures gives { NextIs (all_given result) self.old self.new }
+        ensures plan { self.new.plan ≡ self.old.plan }
+        ensures stepped { IfOk result (λ next. IfSome next (λ given. StepIs given.stepped self.old self.new)) }
         ensures ok { IsPlan self.old.plan }
     {
         self.is_planned();
         if let Some(event) = self.give_vote(alloc)? {
-            return Ok(Some(event));
+            return Ok(Some(no_block(event)));
         }
         if self.due.is_some() {
             return Ok(Some(self.give_block(alloc)?));
@@ -209,7 +242,7 @@ impl Maker {
         if self.slot == self.plan.last_slot() {
             return Ok(None);
         }
-        Ok(Some(self.begin_slot(alloc)?))
+        Ok(Some(no_block(self.begin_slot(alloc)?)))
     }
 }
 

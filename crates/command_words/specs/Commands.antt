@@ -24,6 +24,7 @@ forms =
     ∷ record { name = codes "drill"; arguments = number (codes "NUMBER") ∷ file (codes "CONFIG") ∷ [] }
     ∷ record { name = codes "genesis"; arguments = file (codes "CONFIG") ∷ file (codes "DEPOSITS") ∷ [] }
     ∷ record { name = codes "duties"; arguments = file (codes "CONFIG") ∷ file (codes "STATE") ∷ number (codes "EPOCH") ∷ [] }
+    ∷ record { name = codes "anchor"; arguments = file (codes "CONFIG") ∷ file (codes "STATE") ∷ file (codes "BLOCK") ∷ file (codes "RECORD") ∷ [] }
     ∷ record { name = codes "forensic"; arguments = file (codes "CONFIG") ∷ file (codes "GENESIS") ∷ file (codes "A") ∷ file (codes "B") ∷ [] } ∷ []
 
 -- the greatest number that an argument can be
@@ -68,6 +69,13 @@ pub record DutiesWords : Type 0 where
   pub state : List ℕ
   pub epoch : ℕ
 
+-- the files that the command `anchor CONFIG STATE BLOCK RECORD` names
+pub record AnchorFiles : Type 0 where
+  pub config : List ℕ
+  pub state : List ℕ
+  pub block : List ℕ
+  pub events : List ℕ
+
 -- the files that the command `forensic CONFIG GENESIS A B` names
 pub record ForensicFiles : Type 0 where
   pub config : List ℕ
@@ -81,6 +89,7 @@ pub data Command : Type 0 where
   drill : DrillWords → Command
   genesis : GenesisFiles → Command
   duties : DutiesWords → Command
+  anchor : AnchorFiles → Command
   forensic : ForensicFiles → Command
 
 -- the number that u64's parser reads from a text
@@ -115,6 +124,12 @@ duties_in rows =
     option_and_then (λ config. option_and_then (λ state. option_map (λ epoch. duties (record { config = config; state = state; epoch = epoch }))
     (number_of (codes "EPOCH") rows)) (first_of (codes "STATE") rows)) (first_of (codes "CONFIG") rows)
 
+-- `anchor`, likewise
+abbrev pub anchor_in : List Row → Option Command
+anchor_in rows =
+    option_and_then (λ config. option_and_then (λ state. option_and_then (λ block. option_map (λ events. anchor (record { config = config; state = state; block = block; events = events }))
+    (first_of (codes "RECORD") rows)) (first_of (codes "BLOCK") rows)) (first_of (codes "STATE") rows)) (first_of (codes "CONFIG") rows)
+
 -- `forensic`, likewise
 abbrev pub forensic_in : List Row → Option Command
 forensic_in rows =
@@ -128,6 +143,7 @@ named_command p =
     else if bytes_eq p.0 (codes "drill") then drill_in p.1
     else if bytes_eq p.0 (codes "genesis") then genesis_in p.1
     else if bytes_eq p.0 (codes "duties") then duties_in p.1
+    else if bytes_eq p.0 (codes "anchor") then anchor_in p.1
     else if bytes_eq p.0 (codes "forensic") then forensic_in p.1 else None
 
 -- the command that clap's own function of the words gives
@@ -154,4 +170,5 @@ names_of (Some (replay files)) = files.config ∷ files.genesis ∷ files.events
 names_of (Some (drill words)) = words.config ∷ []
 names_of (Some (genesis files)) = files.config ∷ files.deposits ∷ []
 names_of (Some (duties words)) = words.config ∷ words.state ∷ []
+names_of (Some (anchor files)) = files.config ∷ files.state ∷ files.block ∷ files.events ∷ []
 names_of (Some (forensic files)) = files.config ∷ files.genesis ∷ files.first ∷ files.second ∷ []

@@ -2,7 +2,7 @@
 
 ghost use Rattle.std.specs.Prelude.{◌≡◌, ◌↔◌, Some, None, Result, Ok, Err, map, option_map, string_bytes, true};
 ghost use Rattle.clap.specs.Words.{first_of, found_of, kind_of, rows_of, takes};
-ghost use Rattle.command_words.specs.Commands.{command_line, drill_in, duties_in, forensic_in, genesis_in, named_command, number_in, number_of, replay_in};
+ghost use Rattle.command_words.specs.Commands.{anchor_in, command_line, drill_in, duties_in, forensic_in, genesis_in, named_command, number_in, number_of, replay_in};
 ghost use Rattle.command_words.specs.inside.Reading.{command_value, ReadsCommand};
 
 use crate::line::line;
@@ -50,6 +50,19 @@ pub struct DutiesWords<'a> {
     pub epoch: u64,
 }
 
+/// The files of the command `anchor CONFIG STATE BLOCK RECORD`.
+#[derive(Clone, Copy)]
+pub struct AnchorFiles<'a> {
+    /// The configuration's name.
+    pub config: &'a str,
+    /// The state's name.
+    pub state: &'a str,
+    /// The name of its block.
+    pub block: &'a str,
+    /// The record's name.
+    pub events: &'a str,
+}
+
 /// The files of the command `forensic CONFIG GENESIS A B`.
 #[derive(Clone, Copy)]
 pub struct ForensicFiles<'a> {
@@ -74,6 +87,8 @@ pub enum Command<'a> {
     Genesis(GenesisFiles<'a>),
     /// Who attests and proposes in an epoch.
     Duties(DutiesWords<'a>),
+    /// A record of events on a state and its block.
+    Anchor(AnchorFiles<'a>),
     /// Two records on a genesis state.
     Forensic(ForensicFiles<'a>),
 }
@@ -150,6 +165,18 @@ fn duties_in<'a>(found: &ArgMatches<'a>) -> Option<Command<'a>>
     }))
 }
 
+/// The command `anchor`, where each of its arguments has a value.
+fn anchor_in<'a>(found: &ArgMatches<'a>) -> Option<Command<'a>>
+    ensures { option_map command_value result ≡ anchor_in (rows_of (found_of found.now)) }
+{
+    Some(Command::Anchor(AnchorFiles {
+        config: text_of(found, "CONFIG")?,
+        state: text_of(found, "STATE")?,
+        block: text_of(found, "BLOCK")?,
+        events: text_of(found, "RECORD")?,
+    }))
+}
+
 /// The command `forensic`, where each of its arguments has a value.
 fn forensic_in<'a>(found: &ArgMatches<'a>) -> Option<Command<'a>>
     ensures { option_map command_value result ≡ forensic_in (rows_of (found_of found.now)) }
@@ -174,6 +201,8 @@ fn named<'a>(name: &str, found: &ArgMatches<'a>) -> Option<Command<'a>>
         genesis_in(found)
     } else if name == "duties" {
         duties_in(found)
+    } else if name == "anchor" {
+        anchor_in(found)
     } else if name == "forensic" {
         forensic_in(found)
     } else {

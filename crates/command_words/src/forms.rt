@@ -43,7 +43,7 @@ impl fmt::Display for Form {
 }
 
 /// The commands.
-pub static COMMANDS: [Form; 5] = [
+pub static COMMANDS: [Form; 6] = [
     Form {
         name: "replay",
         arguments: &[
@@ -66,6 +66,15 @@ pub static COMMANDS: [Form; 5] = [
             Argument::File("CONFIG"),
             Argument::File("STATE"),
             Argument::Number("EPOCH"),
+        ],
+    },
+    Form {
+        name: "anchor",
+        arguments: &[
+            Argument::File("CONFIG"),
+            Argument::File("STATE"),
+            Argument::File("BLOCK"),
+            Argument::File("RECORD"),
         ],
     },
     Form {

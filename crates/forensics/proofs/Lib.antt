@@ -1,1 +1,11 @@
+pub mod BlockVotes
+pub mod Books
+pub mod Chained
+pub mod Histories
+pub mod Kept
+pub mod Offenders
+pub mod Once
+pub mod Places
+pub mod Presets
+pub mod Votes
 pub mod Watches

@@ -1,1 +1,7 @@
 pub mod Added
+pub mod BlockVotes
+pub mod Entries
+pub mod Kept
+pub mod Offenders
+pub mod SideBySide
+pub mod Whole

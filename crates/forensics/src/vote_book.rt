@@ -1,14 +1,20 @@
-//! Stub.
+//! The votes of two histories on one genesis, and what they come to. No block is kept, and of states a share of genesis alone.
 
-ghost use Rattle.std.specs.Prelude.{◌≡◌, ◌≤◌, ◌<◌, ◌+◌, ◌*◌, ◌-◌, ◌^◌, ℕ, ◌++◌, [], None, List, length, map, All, IfOk};
+ghost use Rattle.std.specs.Prelude.{◌≡◌, ℕ, ◌<◌, ◌≤◌, ◌*◌, ◌∷◌, [], length, All, IfOk, None};
 ghost use Rattle.bc_words.specs.Outcome.{Becomes};
 ghost use Rattle.spec_forensics.specs.Histories.{IsStepOn};
 ghost use Rattle.spec_forensics.specs.Offences.{IsCarried, offences_below};
+ghost use Rattle.spec_forensics.specs.Verdict.{first_moved};
 ghost use Rattle.spec_forensics.specs.declared.verdict.Verdict.TheVariants.{Conflict};
 ghost use Rattle.safety_law.specs.Finals.{IsFinalOf};
-ghost use Rattle.forensics.specs.Books.{IsBeginning, begun, clash_in, history_of, verdict_on, votes_of, with_block, with_finalized};
+ghost use Rattle.forensics.specs.Books.{IsBeginning, begun, history_of, with_block, with_finalized, votes_of, verdict_on, clash_in};
+ghost use Rattle.forensics.specs.inside.Whole.{with_first, with_second, closed_first, closed_second};
 
-use crate::added::Added;
+use crate::attesters::RecentCommittees;
+use crate::beginning::begins;
+use crate::block_votes::add_votes;
+use crate::history::History;
+use crate::judge::judge;
 use crate::watch::Watch;
 use bc_preset::Config;
 use bc_words::NoMemory;
@@ -19,39 +25,92 @@ use hash_tree::Root;
 use spec_forensics::{Offence, Verdict};
 use std::alloc::Global;
 use std::marker::Model;
-use std::snapshot::Snapshot;
+use transition::Seen;
+use vote_spans::CarriedVotes;
 
-/// Stub.
+/// The votes that the blocks of two histories on one genesis carry, and what a verdict reads of each block.
 #[derive(Drop)]
 pub struct VoteBook {
     config: Config,
-    genesis: Snapshot<State>,
-    first: Added,
-    second: Added,
-    first_finalized: Checkpoint,
-    second_finalized: Checkpoint,
+    genesis: State,
+    first: History,
+    second: History,
+    votes: CarriedVotes,
+    committees: RecentCommittees,
 }
 
 impl Model for VoteBook {
     ghost use Rattle.forensics.specs.Books.{PlainBook};
+    ghost use Rattle.forensics.specs.inside.Whole.{IsBook, seen_of};
 
     ghost Value = { PlainBook };
 
-    ghost view = { λ b. record { config = b.config; genesis = b.genesis.value; first = b.first; second = b.second; first_finalized = b.first_finalized; second_finalized = b.second_finalized } };
+    ghost view = { λ b. seen_of b.config b.genesis b.first b.second };
 
-    ghost invariant = { λ b. Unit {0} };
+    ghost invariant = { λ b. IsBook b.config b.genesis b.first b.second b.votes };
+}
+
+/// Adds a block to the history with a number, 0 or 1. Where memory is refused, both are as before.
+#[tactic(auto, unfolding(crate::specs::inside::Whole::with_first, crate::specs::inside::Whole::with_second))]
+fn add_to(
+    first: &mut History,
+    second: &mut History,
+    which: u8,
+    event: u32,
+    block: &BeaconBlock,
+    root: Root,
+    state: &State,
+    entered: &Seen,
+    moved: Option<u64>,
+) -> Result<(), NoMemory>
+    requires one_genesis { second.old.genesis ≡ first.old.genesis }
+    requires moved { moved ≡ first_moved first.old.genesis entered.now }
+    ensures first { Becomes result first.old first.new (with_first which first.old record { event = event; root = root; block = block.now; state = state.now; entered = entered.now }) }
+    ensures second { Becomes result second.old second.new (with_second which second.old record { event = event; root = root; block = block.now; state = state.now; entered = entered.now }) }
+{
+    if which == 0 {
+        first.add(event, block, root, state, entered, moved)
+    } else {
+        second.add(event, block, root, state, entered, moved)
+    }
+}
+
+/// Closes the history with a number, 0 or 1.
+#[tactic(auto, unfolding(crate::specs::inside::Whole::closed_first, crate::specs::inside::Whole::closed_second))]
+fn close_one(first: &mut History, second: &mut History, which: u8, finalized: Checkpoint)
+    ensures first { first.new ≡ closed_first which first.old finalized }
+    ensures second { second.new ≡ closed_second which second.old finalized }
+{
+    if which == 0 {
+        first.close(finalized);
+    } else {
+        second.close(finalized);
+    }
 }
 
 impl VoteBook {
-    /// Stub.
+    /// A book without blocks, on a genesis, of which a share is kept.
     pub fn new(alloc: Global, genesis: &State, config: &Config) -> Result<VoteBook, NoMemory>
         requires { IsBeginning genesis.now }
         ensures { IfOk result (λ book. book ≡ begun config.now genesis.now) }
     {
-        Err(NoMemory)
+        begins(genesis);
+        Ok(VoteBook {
+            config: *config,
+            genesis: genesis.share()?,
+            first: History::new(alloc, genesis),
+            second: History::new(alloc, genesis),
+            votes: CarriedVotes::new(alloc, genesis.validators_len() as usize)?,
+            committees: RecentCommittees::new(),
+        })
     }
 
-    /// Stub.
+    /// Adds an accepted block to the history with a number, 0 or 1, with the number of its event, its root, the state behind it, and
+    /// the watch that was shown the states entered on the way. A block that was added already adds its votes again. All that can fail
+    /// is done before anything is changed that clauses see.
+    ///
+    /// Its conditions: the block is a step of those that were added to that history before, whose blocks are all added before any of
+    /// history 1, its root is no name for another block of the two, and the watch looks at the book's genesis.
     pub fn add(
         &mut self,
         alloc: Global,
@@ -69,37 +128,51 @@ impl VoteBook {
         requires clear { clash_in self.old root block.now ≡ None }
         ensures { Becomes result self.old self.new (with_block self.old which record { event = event; root = root; block = block.now; state = state.now; entered = watch.now.entered }) }
     {
-        Err(NoMemory)
+        let _preset = state.preset();
+        let _slot = state.slot();
+        let attestations = block.body.attestations.as_slice();
+        let lists = self.committees.attesters(alloc, state, attestations)?;
+        self.votes.reserve(&lists)?;
+        add_to(
+            &mut self.first,
+            &mut self.second,
+            which,
+            event,
+            block,
+            root,
+            state,
+            watch.entered(),
+            watch.moved(),
+        )?;
+        add_votes(&mut self.votes, which, event, root, attestations, &lists);
+        Ok(())
     }
 
-    /// Stub.
-    #[tactic(auto, unfolding(crate::specs::Books::with_finalized))]
+    /// Closes the history with a number, 0 or 1, with the checkpoint that it finalised: that of the state of one of its blocks, or that
+    /// of genesis, with which it is closed until then.
     pub fn close(&mut self, which: u8, finalized: Checkpoint)
         requires which { which < 2 }
         requires is_final { IsFinalOf self.old.genesis (history_of self.old which) finalized }
         ensures { self.new ≡ with_finalized self.old which finalized }
     {
-        if which == 0 {
-            self.first_finalized = finalized;
-        } else {
-            self.second_finalized = finalized;
-        }
+        close_one(&mut self.first, &mut self.second, which, finalized);
     }
 
-    /// Stub.
+    /// The offence of each validator that has one, in order of validator.
+    #[tactic(auto, using(crate::proofs::Votes::votes_held))]
     pub fn offences(&self, alloc: Global) -> Result<Vec<Offence>, NoMemory>
         ensures exact { IfOk result (λ list. list.items ≡ offences_below (votes_of self.now) (length self.now.genesis.validators)) }
         ensures carried { IfOk result (λ list. All (IsCarried (votes_of self.now)) list.items) }
     {
-        Err(NoMemory)
+        self.votes.offences(alloc)
     }
 
-    /// Stub.
+    /// The verdict on the histories as they are closed, which takes no memory. Where it is a conflict, the offenders have at least a
+    /// third of the total.
     pub fn judge(&self) -> Verdict
-        requires stub { verdict_on self.now ≡ Verdict.Agree }
         ensures exact { result ≡ verdict_on self.now }
         ensures convicts { (balance total : ℕ) → result ≡ Conflict balance total → total ≤ 3 * balance }
     {
-        Verdict::Agree
+        judge(&self.genesis, &self.first, &self.second, &self.votes)
     }
 }

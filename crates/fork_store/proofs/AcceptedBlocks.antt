@@ -14,14 +14,16 @@ use Rattle.spec_fork_choice.specs.Store.{KeptBlock, Store, block_of, is_kept}
 use Rattle.spec_fork_choice.specs.OnBlock.{with_block, with_boost, with_justified, with_finalized, with_accepted}
 use Rattle.fork_store.specs.inside.Accepted.{boosted, justified_by, finalized_by, settled}
 use Rattle.fork_store.specs.Arrays.{Balances, balances_of, node_number, IsArrayOf}
+use Rattle.fork_store.specs.Stores.{IsStore, IsLate, first_epoch}
 use Rattle.fork_store.specs.inside.Chains.{IsLinked, IsChained}
 use Rattle.fork_store.specs.inside.Wholes.{balances_for, IsReady, IsWhole}
 use Rattle.fork_store.specs.inside.Following.{may_move, AreGiven}
+use Rattle.fork_store.proofs.FirstSlots.{some_kept, epoch_stays}
 use Rattle.fork_store.proofs.Following.{number_kept}
 use Rattle.fork_store.proofs.Settling.{settle_blocks}
 use Rattle.fork_store.proofs.ArraysPlaces.{number_more}
 use Rattle.fork_store.proofs.ArraysSteps.{state_more}
-use Rattle.fork_store.proofs.Chains.{block_stays_chained, newer_is_reached, newer_finalized_is_reached, reached_is_kept, chained_best_justified_is_kept}
+use Rattle.fork_store.proofs.Chains.{block_stays_chained, newer_is_reached, newer_finalized, newer_finalized_is_reached, reached_is_kept, chained_best_justified_is_kept}
 
 pub settled_is_accepted : (store : Store) (kept : KeptBlock) → settled (with_block store kept) kept.block.slot kept.root kept.state.current_justified_checkpoint kept.state.finalized_checkpoint ≡ with_accepted store kept
 unfolding with_boost with_justified with_finalized with_accepted boosted justified_by finalized_by settled
@@ -58,7 +60,7 @@ last_kept (k ∷ blocks) kept = by_test (same_root k.root kept.root) k (block_of
     by_test true k o h = refl
     by_test false k o h = h
 
-module _ (old mid : Store) (a : PlainArray) (ready : Option Balances) (root : List ℕ) (block : BeaconBlock) (state : PlainState) (whole : IsWhole old a ready) (linked : IsLinked old.config old.blocks state)
+module _ (old mid : Store) (a : PlainArray) (ready : Option Balances) (root : List ℕ) (block : BeaconBlock) (state : PlainState) (good : IsStore old) (whole : IsWhole old a ready) (linked : IsLinked old.config old.blocks state)
     (is : mid ≡ with_block old (record { root = root; block = block; state = state })) where
   abbrev kept : KeptBlock
   kept = record { root = root; block = block; state = state }
@@ -69,6 +71,16 @@ module _ (old mid : Store) (a : PlainArray) (ready : Option Balances) (root : Li
 
   pub mid_low : start_slot_of old state.current_justified_checkpoint < 2 ^ 64 → start_slot_of mid state.current_justified_checkpoint < 2 ^ 64
   mid_low low = of_mid (λ (s : Store). start_slot_of s state.current_justified_checkpoint < 2 ^ 64) low low
+
+  -- a state that finalizes an epoch behind the first kept block's justifies one that isn't before it
+  pub mid_late : first_epoch mid.config.preset mid.blocks < state.finalized_checkpoint.epoch → IsLate mid state.current_justified_checkpoint
+  mid_late =
+      let finality : (s : Store) → first_epoch s.config.preset s.blocks ≡ first_epoch old.config.preset old.blocks → first_epoch s.config.preset s.blocks < state.finalized_checkpoint.epoch → IsLate s state.current_justified_checkpoint = λ s same newer.
+      let less : first_epoch old.config.preset old.blocks < state.current_justified_checkpoint.epoch = newer_finalized old.config old.blocks state linked (omega (arith, newer, same)) in
+      omega (arith, less, same) in
+      of_mid (λ (s : Store). first_epoch s.config.preset s.blocks < state.finalized_checkpoint.epoch → IsLate s state.current_justified_checkpoint)
+      (finality old refl)
+      (finality (record old { blocks = old.blocks ++ kept ∷ [] }) (epoch_stays old.config.preset old.blocks (kept ∷ []) (some_kept old.blocks _ whole.chained.justified.kept whole.chained.justified.found)))
 
   pub mid_few : length old.blocks < 2 ^ 32 - 1 → length mid.blocks < 2 ^ 32
   mid_few few = of_mid (λ (s : Store). length s.blocks < 2 ^ 32) (omega (arith, few)) (let n = length-append old.blocks (kept ∷ []) in omega (arith, few, n))
@@ -81,8 +93,8 @@ module _ (old mid : Store) (a : PlainArray) (ready : Option Balances) (root : Li
   moves_kept : may_move old state.current_justified_checkpoint state.finalized_checkpoint ≡ true → is_kept old.blocks state.current_justified_checkpoint.root ≡ true
   unfolding may_move
   moves_kept may = elim (either_true (nat_lt old.justified_checkpoint.epoch state.current_justified_checkpoint.epoch) (nat_lt old.finalized_checkpoint.epoch state.finalized_checkpoint.epoch) may) [
-    | inl newer ↦ reached_is_kept old.config old.blocks state.current_justified_checkpoint.root _ (newer_is_reached old.config old.blocks state old.justified_checkpoint.epoch linked (ltb-true _ _ newer))
-    | inr final ↦ reached_is_kept old.config old.blocks state.current_justified_checkpoint.root _ (newer_finalized_is_reached old.config old.blocks state old.finalized_checkpoint.epoch linked (ltb-true _ _ final))
+    | inl newer ↦ reached_is_kept old.config old.blocks state.current_justified_checkpoint.root _ (newer_is_reached old.config old.blocks state old.justified_checkpoint.epoch linked good.justified_late (ltb-true _ _ newer))
+    | inr final ↦ reached_is_kept old.config old.blocks state.current_justified_checkpoint.root _ (newer_finalized_is_reached old.config old.blocks state old.finalized_checkpoint.epoch linked good.finalized_late (ltb-true _ _ final))
   ]
     where
       either_true : (x y : Bool) → (x || y) ≡ true → (x ≡ true) ⊎ (y ≡ true)
@@ -113,7 +125,7 @@ module _ (old mid : Store) (a : PlainArray) (ready : Option Balances) (root : Li
     pub accepted_whole : (after : PlainArray) (then_ready : Option Balances) → length mid.blocks < 2 ^ 32 → IsArrayOf new after → IsReady new then_ready → IsWhole new after then_ready
     accepted_whole after then_ready few array r = record {
       array_of = array;
-      chained = subst IsChained (sym is_accepted) (block_stays_chained old kept linked whole.chained);
+      chained = subst IsChained (sym is_accepted) (block_stays_chained old kept good linked whole.chained);
       few = subst (λ (b : List KeptBlock). length b < 2 ^ 32) (sym (settle_blocks mid block.slot root state.current_justified_checkpoint state.finalized_checkpoint new settled_is)) few;
       ready_is = r;
     }

@@ -1,11 +1,11 @@
 -- The array of a store gives what the store's own definitions give.
-use Rattle.std.proofs.Common.{◌≡◌, ℕ, List, map, Some, sym, ap, ◌∙◌}
+use Rattle.std.proofs.Common.{◌≡◌, ◌≤◌, ℕ, List, map, Some, sym, ap, ◌∙◌}
 use Rattle.block_array.specs.PlainArray.{PlainArray, root_at}
 use Rattle.block_array.specs.FilterBlockTree as array_tree
 use Rattle.block_array.specs.GetAncestor as array_ancestor
 use Rattle.block_array.specs.GetHead as array_head
 use Rattle.block_array.specs.GetLatestAttestingBalance as array_weight
-use Rattle.spec_fork_choice.specs.Store.{KeptBlock, Store}
+use Rattle.spec_fork_choice.specs.Store.{KeptBlock, Store, first_slot}
 use Rattle.spec_fork_choice.specs.GetAncestor.{get_ancestor}
 use Rattle.spec_fork_choice.specs.FilterBlockTree.{get_filtered_block_tree}
 use Rattle.spec_fork_choice.specs.GetHead.{get_head}
@@ -20,9 +20,9 @@ module _ (store : Store) (a : PlainArray) (is : IsArrayOf store a) (good : IsSto
   -- the node of a root
   module _ (root : List ℕ) (n : ℕ) (numbered : node_number store.blocks root ≡ Some n) where
     -- get_ancestor
-    pub ancestor : (slot : ℕ) → get_ancestor store root slot ≡ root_at a.nodes (array_ancestor.get_ancestor a.nodes n slot)
-    ancestor slot =
-        get_ancestor_root store good.tree is.rooted.begins root n slot numbered
+    pub ancestor : (slot : ℕ) → first_slot store.blocks ≤ slot → get_ancestor store root slot ≡ root_at a.nodes (array_ancestor.get_ancestor a.nodes n slot)
+    ancestor slot late =
+        get_ancestor_root store good.tree root n slot late numbered
         ∙ ap (λ nodes. root_at nodes (array_ancestor.get_ancestor nodes n slot)) (sym is.nodes)
 
     -- get_latest_attesting_balance

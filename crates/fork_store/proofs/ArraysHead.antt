@@ -1,25 +1,24 @@
 -- The filtered tree and the head of a store are those of its array.
-use Rattle.std.proofs.Common.{◌≡◌, ℕ, zero, suc, inl, inr, Bool, true, false, cond, ◌||◌, ◌&&◌, eqb, nat_lt, List, [], ◌∷◌, ◌++◌, length, map, filter, take, Option, Some, slice_get, refl, sym, ap, ap₂, subst, ◌∙◌}
+use Rattle.std.proofs.Common.{◌≡◌, ◌<◌, ◌≤◌, ℕ, zero, suc, inl, inr, arith, Bool, true, false, cond, ◌||◌, ◌&&◌, eqb, nat_lt, List, [], ◌∷◌, ◌++◌, length, map, filter, take, Option, Some, slice_get, refl, sym, ap, ap₂, subst, ◌∙◌}
 use Rattle.std.specs.List.{AllByRecursion, list_any}
 use Rattle.std.specs.Option.{option_map_or, option_and_then}
-use Rattle.std.proofs.lemmas.Bool.{false_from_ne_true, both_ways}
+use Rattle.std.proofs.lemmas.Bool.{le-ltb, lt-ltb}
 use Rattle.std.proofs.lemmas.List.{append_assoc}
 use Rattle.beacon_types.specs.Equality.{same_root, same_checkpoint}
 use Rattle.block_array.specs.declared.node.Node.{Node}
 use Rattle.block_array.specs.PlainArray.{PlainArray, root_at, parent_at}
 use Rattle.block_array.specs.FilterBlockTree as tree_of
 use Rattle.block_array.specs.GetHead as heads
-use Rattle.spec_state.specs.Genesis.{zero_root}
-use Rattle.spec_fork_choice.specs.Store.{KeptBlock, Store}
-use Rattle.spec_fork_choice.specs.FilterBlockTree.{has_child, agrees, is_viable, with_viable, filter_block_tree, get_filtered_block_tree}
+use Rattle.spec_fork_choice.specs.Store.{KeptBlock, Store, first_slot, slot_of}
+use Rattle.spec_fork_choice.specs.FilterBlockTree.{is_child, has_child, agrees, is_viable, with_viable, filter_block_tree, get_filtered_block_tree}
 use Rattle.spec_fork_choice.specs.GetLatestAttestingBalance.{get_latest_attesting_balance}
 use Rattle.spec_fork_choice.specs.GetHead.{is_greater_root, goes_before, best_of, children_of, next_head, head_within, get_head}
 use Rattle.fork_store.specs.Arrays.{node_number, facts_of, node_of, nodes_behind, nodes_of, IsArrayOf}
 use Rattle.fork_store.specs.Stores.{HasPreset}
 use Rattle.fork_store.specs.Trees.{IsTree}
-use Rattle.fork_store.proofs.ArraysPlaces.{at_number, same_is, is_same, same_number}
-use Rattle.fork_store.proofs.ArraysNodes.{parent_cases, node_here, number_here, root_here, length_nodes, root_of_number}
-use Rattle.fork_store.proofs.ArraysVotes.{not_zero}
+use Rattle.fork_store.proofs.ArraysPlaces.{at_number, same_is, same_number}
+use Rattle.fork_store.proofs.ArraysNodes.{parent_cases, slot_here, slot_of_number, node_here, number_here, root_here, length_nodes, root_of_number}
+use Rattle.fork_store.proofs.FirstSlots.{slot_late}
 use Rattle.fork_store.proofs.ArraysWeights.{same_weight}
 
 -- ---- a list behind another one
@@ -59,23 +58,38 @@ module _ (store : Store) (a : PlainArray) (is : IsArrayOf store a) (tree : IsTre
   -- ---- children
 
   module _ (i : ℕ) (k : KeptBlock) (at : slice_get blocks i ≡ Some k) where
-    child_of_nodes : (n : ℕ) (c : KeptBlock) → slice_get blocks n ≡ Some c → tree_of.is_child_at (nodes_of blocks) i n ≡ same_root c.block.parent_root k.root
-    unfolding tree_of.is_child_at
-    child_of_nodes n c here = elim (parent_cases blocks tree n c here is.rooted.begins) [
+    -- a block names the parent, and is behind it
+    child_by : (c : KeptBlock) (named : Bool) → same_root c.block.parent_root k.root ≡ named → (named ≡ true → k.block.slot < c.block.slot) → named ≡ (named && nat_lt k.block.slot c.block.slot)
+    child_by c true e later = sym (lt-ltb k.block.slot c.block.slot (later refl))
+    child_by c false e later = refl
+
+    slot_here_of : slot_of blocks k.root ≡ k.block.slot
+    slot_here_of = slot_of_number blocks tree k.root i (number_here blocks tree i k at) ∙ slot_here blocks tree i k at
+
+    no_child : (named : Bool) → false ≡ (named && false)
+    no_child true = refl
+    no_child false = refl
+
+    child_of_nodes : (n : ℕ) (c : KeptBlock) → slice_get blocks n ≡ Some c → tree_of.is_child_at (nodes_of blocks) i n ≡ is_child k.root k.block.slot c
+    unfolding tree_of.is_child_at is_child
+    child_of_nodes n c here = elim (parent_cases blocks tree n c here) [
       | inl first ↦
-          ap (λ o. option_map_or (λ p. eqb p i) o false) first.2
-          ∙ sym (false_from_ne_true (same_root c.block.parent_root k.root)
-          (λ t. zero_isnt (sym (sym first.1 ∙ same_is c.block.parent_root k.root t))))
+          let it = at_number blocks k.root i (number_here blocks tree i k at) in
+          let late : first_slot blocks ≤ slot_of blocks k.root = slot_late blocks k.root it.kept tree it.found in
+          let behind : c.block.slot ≤ k.block.slot = omega (arith, late, first.0, slot_here_of) in
+          ap (λ o. option_map_or (λ p. eqb p i) o false) first.1
+          ∙ no_child (same_root c.block.parent_root k.root)
+          ∙ ap (λ b. same_root c.block.parent_root k.root && b) (sym (le-ltb k.block.slot c.block.slot behind))
       | inr has ↦
           ap (λ o. option_map_or (λ p. eqb p i) o false) has.node
           ∙ sym (same_number blocks c.block.parent_root k.root has.parent i has.number (number_here blocks tree i k at))
+          ∙ child_by c (same_root c.block.parent_root k.root) refl
+          (λ is.
+          let same : slot_of blocks c.block.parent_root ≡ slot_of blocks k.root = ap (slot_of blocks) (same_is c.block.parent_root k.root is) in
+          omega (arith, has.earlier, same, slot_here_of))
     ]
-      where
-        zero_isnt : k.root ≡ zero_root → ⊥
-        zero_isnt e = let no : same_root k.root zero_root ≡ false = not_zero blocks k.root i is.rooted.named (number_here blocks tree i k at) in
-            both_ways (same_root k.root zero_root) no (is_same k.root zero_root e)
 
-    child_at : (n : ℕ) (c : KeptBlock) → slice_get blocks n ≡ Some c → tree_of.is_child_at a.nodes i n ≡ same_root c.block.parent_root k.root
+    child_at : (n : ℕ) (c : KeptBlock) → slice_get blocks n ≡ Some c → tree_of.is_child_at a.nodes i n ≡ is_child k.root k.block.slot c
     child_at n c here = ap (λ nodes. tree_of.is_child_at nodes i n) is.nodes ∙ child_of_nodes n c here
 
     any_at : (ns : List ℕ) (ks : List KeptBlock) → AreAt blocks ns ks → list_any (tree_of.is_child_at a.nodes i) ns ≡ has_child k ks
@@ -85,8 +99,7 @@ module _ (store : Store) (a : PlainArray) (is : IsArrayOf store a) (tree : IsTre
     any_at (n ∷ ns) [] are = absurd are
     any_at (n ∷ ns) (c ∷ ks) are = ap₂ (λ x y. x || y) (child_at n c are.0) (any_at ns ks are.1)
 
-    child_behind : (before later : List KeptBlock) (c : KeptBlock) → before ++ c ∷ later ≡ blocks → tree_of.is_child i (node_of before c) ≡ same_root
-        c.block.parent_root k.root
+    child_behind : (before later : List KeptBlock) (c : KeptBlock) → before ++ c ∷ later ≡ blocks → tree_of.is_child i (node_of before c) ≡ is_child k.root k.block.slot c
     unfolding tree_of.is_child tree_of.is_child_at parent_at
     child_behind before later c e =
         let here : slice_get blocks (length before) ≡ Some c = subst (λ (l : List KeptBlock). slice_get l (length before) ≡ Some c) e
@@ -104,11 +117,11 @@ module _ (store : Store) (a : PlainArray) (is : IsArrayOf store a) (tree : IsTre
         ap₂ (λ x y. x || y) (child_behind before later c e) (any_behind (before ++ c ∷ []) later (append_assoc before (c ∷ []) later ∙ e))
 
     filter_at : (ns : List ℕ) (ks : List KeptBlock) → AreAt blocks ns ks → AreAt blocks (filter (tree_of.is_child_at a.nodes i) ns)
-        (filter (λ kept. same_root kept.block.parent_root k.root) ks)
+        (filter (is_child k.root k.block.slot) ks)
     filter_at [] [] are = tt
     filter_at [] (c ∷ ks) are = absurd are
     filter_at (n ∷ ns) [] are = absurd are
-    filter_at (n ∷ ns) (c ∷ ks) are = chosen blocks (tree_of.is_child_at a.nodes i n) (same_root c.block.parent_root k.root) n c _ _ (child_at n c are.0) are.0
+    filter_at (n ∷ ns) (c ∷ ks) are = chosen blocks (tree_of.is_child_at a.nodes i n) (is_child k.root k.block.slot c) n c _ _ (child_at n c are.0) are.0
         (filter_at ns ks are.1)
 
   -- ---- the filtered tree
@@ -198,20 +211,21 @@ module _ (store : Store) (a : PlainArray) (is : IsArrayOf store a) (tree : IsTre
     next_at root n (m ∷ ns) (c ∷ ks) numbered are = number_here blocks tree (heads.best_of a m ns) (best_of store c ks) (best_at m c ns ks are.0 are.1)
 
     children_at : (root : List ℕ) (n : ℕ) (ns : List ℕ) (ks : List KeptBlock) → node_number blocks root ≡ Some n → AreAt blocks ns ks → AreAt blocks
-        (heads.children_of a ns n) (children_of ks root)
+        (heads.children_of a ns n) (children_of store ks root)
     unfolding heads.children_of children_of
     children_at root n ns ks numbered are =
         let it = at_number blocks root n numbered in
-        subst (λ r. AreAt blocks (filter (tree_of.is_child_at a.nodes n) ns) (filter (λ kept. same_root kept.block.parent_root r) ks)) it.named
-        (filter_at n it.kept it.at ns ks are)
+        subst (λ r. AreAt blocks (filter (tree_of.is_child_at a.nodes n) ns) (filter (is_child r (slot_of blocks r)) ks)) it.named
+        (subst (λ s. AreAt blocks (filter (tree_of.is_child_at a.nodes n) ns) (filter (is_child it.kept.root s) ks)) (sym (slot_here_of n it.kept it.at))
+        (filter_at n it.kept it.at ns ks are))
 
     head_number_within : (steps : ℕ) (root : List ℕ) (n : ℕ) (ns : List ℕ) (ks : List KeptBlock) → node_number blocks root ≡ Some n → AreAt blocks ns ks
         → node_number blocks (head_within steps store ks root) ≡ Some (heads.head_within steps a ns n)
     unfolding head_within heads.head_within
     head_number_within zero root n ns ks numbered are = numbered
     head_number_within (suc steps) root n ns ks numbered are =
-        head_number_within steps (next_head store root (children_of ks root)) (heads.next_head a n (heads.children_of a ns n)) ns ks
-        (next_at root n (heads.children_of a ns n) (children_of ks root) numbered (children_at root n ns ks numbered are)) are
+        head_number_within steps (next_head store root (children_of store ks root)) (heads.next_head a n (heads.children_of a ns n)) ns ks
+        (next_at root n (heads.children_of a ns n) (children_of store ks root) numbered (children_at root n ns ks numbered are)) are
 
     pub head_number : node_number blocks (get_head store) ≡ Some (heads.get_head a)
     unfolding get_head heads.get_head

@@ -67,7 +67,7 @@ module _ (store : Store) (a : PlainArray) (is : IsArrayOf store a) (validator : 
       slots_per_epoch = is.slots_per_epoch;
       percent = is.percent;
       nodes = is.nodes;
-      rooted = is.rooted;
+      named = is.named;
       messages = moved;
       voted = with_voted (length a.nodes) a.latest_messages validator (record { epoch = epoch; node = node }) inside is.voted;
       balances = is.balances;

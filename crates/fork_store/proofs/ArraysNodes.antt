@@ -5,11 +5,11 @@ use Rattle.std.proofs.lemmas.List.{append-nil, append_assoc}
 use Rattle.block_array.specs.declared.node.Node.{Node}
 use Rattle.block_array.specs.PlainArray.{slot_at, root_at, parent_at}
 use Rattle.spec_state.specs.Genesis.{zero_root}
-use Rattle.spec_fork_choice.specs.Store.{KeptBlock, slot_of, parent_of}
+use Rattle.spec_fork_choice.specs.Store.{KeptBlock, block_of, first_slot, slot_of, parent_of}
 use Rattle.spec_fork_choice.specs.Clash.{place_of}
-use Rattle.fork_store.specs.Arrays.{node_number, node_of, nodes_behind, nodes_of, BeginsAtZero}
+use Rattle.fork_store.specs.Arrays.{node_number, node_of, nodes_behind, nodes_of}
 use Rattle.fork_store.specs.Trees.{HasParent, Follows, IsTreeBehind, IsTree}
-use Rattle.fork_store.proofs.ArraysPlaces.{at_number, number_more, number_fresh, number_found, no_number}
+use Rattle.fork_store.proofs.ArraysPlaces.{at_number, block_more, number_more, number_fresh, number_found, no_number}
 
 -- ---- behind others
 
@@ -56,14 +56,13 @@ pub nodes_push : (blocks : List KeptBlock) (kept : KeptBlock) → nodes_of (bloc
 unfolding nodes_of
 nodes_push blocks kept = push_behind [] blocks kept
 
-pub first_block : (blocks : List KeptBlock) (n : ℕ) (kept : KeptBlock) → BeginsAtZero blocks → take n blocks ≡ [] → slice_get blocks n ≡ Some kept
-    → (kept.block.slot ≡ 0) × (kept.block.parent_root ≡ zero_root)
-unfolding BeginsAtZero
-first_block [] n kept begins none h = absurd cc
-first_block (k ∷ blocks) zero kept begins none h =
+pub first_block : (blocks : List KeptBlock) (n : ℕ) (kept : KeptBlock) → take n blocks ≡ [] → slice_get blocks n ≡ Some kept → kept.block.slot ≡ first_slot blocks
+unfolding first_slot
+first_block [] n kept none h = absurd cc
+first_block (k ∷ blocks) zero kept none h =
     let same : k ≡ kept = cc in
-    subst (λ (x : KeptBlock). (x.block.slot ≡ 0) × (x.block.parent_root ≡ zero_root)) same begins
-first_block (k ∷ blocks) (suc n) kept begins none h = absurd cc
+    ap (λ (x : KeptBlock). x.block.slot) (sym same)
+first_block (k ∷ blocks) (suc n) kept none h = absurd cc
 
 cut : (blocks : List KeptBlock) (n : ℕ) → take n blocks ++ drop n blocks ≡ blocks
 cut [] zero = refl
@@ -81,6 +80,7 @@ pub record HasParentNode (blocks : List KeptBlock) (n : ℕ) (kept : KeptBlock) 
   pub parent : ℕ
   pub number : node_number blocks kept.block.parent_root ≡ Some parent
   pub node : parent_at (nodes_of blocks) n ≡ Some parent
+  pub earlier : slot_of blocks kept.block.parent_root < kept.block.slot
 
 module _ (blocks : List KeptBlock) (tree : IsTree blocks) where
   module _ (n : ℕ) (kept : KeptBlock) (here : slice_get blocks n ≡ Some kept) where
@@ -107,6 +107,7 @@ module _ (blocks : List KeptBlock) (tree : IsTree blocks) where
     parent_here = ap (λ (o : Option Node). option_and_then (λ node. node.parent) o) node_here
 
     found_parent : HasParent (take n blocks) kept.block → HasParentNode blocks n kept
+    unfolding slot_of
     found_parent has =
         let p : ℕ = place_of (take n blocks) kept.block.parent_root in
         let numbered : node_number (take n blocks) kept.block.parent_root ≡ Some p = number_found (take n blocks) kept.block.parent_root has.parent has.found in
@@ -115,15 +116,17 @@ module _ (blocks : List KeptBlock) (tree : IsTree blocks) where
           number = subst (λ (l : List KeptBlock). node_number l kept.block.parent_root ≡ Some p) (cut blocks n)
               (number_more (take n blocks) (drop n blocks) kept.block.parent_root p numbered);
           node = parent_here ∙ numbered;
+          earlier =
+              let found : block_of blocks kept.block.parent_root ≡ Some has.parent = subst (λ (l : List KeptBlock). block_of l kept.block.parent_root ≡ Some has.parent) (cut blocks n)
+              (block_more (take n blocks) (drop n blocks) kept.block.parent_root has.parent has.found) in
+              let at : slot_of blocks kept.block.parent_root ≡ has.parent.block.slot = ap (λ (o : Option KeptBlock). option_map_or (λ k. k.block.slot) o 0) found in
+              omega (arith, has.earlier, at);
         }
 
     -- it has one among them, or it is the first
-    pub parent_cases : BeginsAtZero blocks → ((kept.block.slot ≡ 0) × (kept.block.parent_root ≡ zero_root) × (parent_at (nodes_of blocks) n ≡ None)) ⊎
-        HasParentNode blocks n kept
-    parent_cases begins = elim follows_here.parent [
-      | inl none ↦
-          let first = first_block blocks n kept begins none here in
-          inl (first.0, first.1, parent_here ∙ ap (λ l. node_number l kept.block.parent_root) none ∙ no_number kept.block.parent_root)
+    pub parent_cases : ((kept.block.slot ≡ first_slot blocks) × (parent_at (nodes_of blocks) n ≡ None)) ⊎ HasParentNode blocks n kept
+    parent_cases = elim follows_here.parent [
+      | inl none ↦ inl (first_block blocks n kept none here, parent_here ∙ ap (λ l. node_number l kept.block.parent_root) none ∙ no_number kept.block.parent_root)
       | inr has ↦ inr (found_parent has)
     ]
 

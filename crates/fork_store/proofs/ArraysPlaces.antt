@@ -83,6 +83,9 @@ at_number (k ∷ blocks) root n h =
 pub number_inside : (blocks : List KeptBlock) (root : List ℕ) (n : ℕ) → node_number blocks root ≡ Some n → n < length blocks
 number_inside blocks root n h = let here = at_number blocks root n h in slice_get_within blocks n here.kept here.at
 
+pub some_numbered : (blocks : List KeptBlock) (root : List ℕ) (n : ℕ) → node_number blocks root ≡ Some n → 0 < length blocks
+some_numbered blocks root n h = let inside = number_inside blocks root n h in omega (arith, inside)
+
 -- ---- more blocks behind
 
 more_by : (b : Bool) (o p : Option ℕ) (n : ℕ) → ((m : ℕ) → o ≡ Some m → p ≡ Some m) → cond b (Some 0) (option_map (λ m. 1 + m) o) ≡ Some n

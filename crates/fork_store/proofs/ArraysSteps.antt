@@ -14,7 +14,7 @@ use Rattle.spec_state.specs.Genesis.{zero_root}
 use Rattle.spec_fork_choice.specs.Store.{KeptBlock, Store, block_of, is_kept}
 use Rattle.spec_fork_choice.specs.Slots.{start_slot_of}
 use Rattle.spec_fork_choice.specs.StoreTargetCheckpointState.{kept_or, state_at, store_target_checkpoint_state}
-use Rattle.fork_store.specs.Arrays.{node_number, facts_of, node_of, nodes_of, message_at, messages_at, BeginsAtZero, IsForNode, IsBoostedNode, balances_of, balances_at, IsArrayOf}
+use Rattle.fork_store.specs.Arrays.{node_number, facts_of, node_of, nodes_of, message_at, messages_at, IsForNode, IsBoostedNode, balances_of, balances_at, IsArrayOf}
 use Rattle.fork_store.proofs.ArraysPlaces.{at_number, number_more, block_more, number_inside, none_opens}
 use Rattle.fork_store.proofs.ArraysNodes.{nodes_push}
 
@@ -64,11 +64,6 @@ unkept_push (k ∷ blocks) kept root none here =
     let parts = none_opens k blocks root none in
     unkept_opens k (blocks ++ kept ∷ []) root parts.0 (unkept_push blocks kept root parts.1 here)
 
-begins_push : (blocks : List KeptBlock) (kept : KeptBlock) → 0 < length blocks → BeginsAtZero blocks → BeginsAtZero (blocks ++ kept ∷ [])
-unfolding BeginsAtZero
-begins_push [] kept some begins = absurd (omega arith)
-begins_push (k ∷ blocks) kept some begins = begins
-
 boost_more : (blocks more : List KeptBlock) (root : List ℕ) (o : Option ℕ) → IsBoostedNode blocks root o → IsBoostedNode (blocks ++ more) root o
 unfolding IsBoostedNode
 boost_more blocks more root None is = is
@@ -99,10 +94,7 @@ module _ (store : Store) (a : PlainArray) (is : IsArrayOf store a) where
             ∙ ap (λ p. nodes_of store.blocks ++ record { parent = p; slot = kept.block.slot; root = kept.root; facts = facts_of kept.state } ∷ [])
             (sym numbered)
             ∙ sym (nodes_push store.blocks kept);
-        rooted = record {
-          begins = begins_push store.blocks kept (omega arith) is.rooted.begins;
-          named = unkept_push store.blocks kept zero_root is.rooted.named named;
-        };
+        named = unkept_push store.blocks kept zero_root is.named named;
         messages = is.messages ∙ sym (messages_front a.nodes (node ∷ []) a.latest_messages is.voted);
         voted = voted_more (length a.nodes) (length (a.nodes ++ node ∷ [])) grown a.latest_messages is.voted;
         balances = is.balances ∙ ap balances_of (sym (state_more store (kept ∷ []) store.justified_checkpoint a.justified_node is.justified_node));
@@ -122,7 +114,7 @@ module _ (store : Store) (a : PlainArray) (is : IsArrayOf store a) where
     slots_per_epoch = is.slots_per_epoch;
     percent = is.percent;
     nodes = is.nodes;
-    rooted = is.rooted;
+    named = is.named;
     messages = is.messages;
     voted = is.voted;
     balances = is.balances;
@@ -138,7 +130,7 @@ module _ (store : Store) (a : PlainArray) (is : IsArrayOf store a) where
     slots_per_epoch = is.slots_per_epoch;
     percent = is.percent;
     nodes = is.nodes;
-    rooted = is.rooted;
+    named = is.named;
     messages = is.messages;
     voted = is.voted;
     balances = is.balances;
@@ -154,7 +146,7 @@ module _ (store : Store) (a : PlainArray) (is : IsArrayOf store a) where
     slots_per_epoch = is.slots_per_epoch;
     percent = is.percent;
     nodes = is.nodes;
-    rooted = is.rooted;
+    named = is.named;
     messages = is.messages;
     voted = is.voted;
     balances = is.balances;

@@ -57,7 +57,7 @@ module _ (store : Store) (a : PlainArray) (is : IsArrayOf store a) (tree : IsTre
     chain_at m inside =
         let less : m < length store.blocks = subst (λ k. m < k) same_length inside in
         ap (λ nodes. is_on_chain_of store root (root_at nodes m)) is.nodes
-        ∙ on_chain store tree is.rooted.begins root n numbered (root_at (nodes_of store.blocks) m) m (root_number store.blocks tree m less)
+        ∙ on_chain store tree root n numbered (root_at (nodes_of store.blocks) m) m (root_number store.blocks tree m less)
         ∙ ap (λ nodes. weights.is_on_chain_of nodes n m) (sym is.nodes)
 
     votes_by : (o : Option Message) → IsForNode (length a.nodes) o → option_map_or (λ m. is_on_chain_of store root m.root) (option_map (message_at a.nodes) o)
@@ -77,8 +77,8 @@ module _ (store : Store) (a : PlainArray) (is : IsArrayOf store a) (tree : IsTre
     unfolding is_boosted IsBoostedNode
     boosted_by None zero_is = ap (λ b. not b && is_on_chain_of store root store.proposer_boost_root) (is_same store.proposer_boost_root zero_root zero_is)
     boosted_by (Some b) there =
-        ap (λ c. not c && is_on_chain_of store root store.proposer_boost_root) (not_zero store.blocks store.proposer_boost_root b is.rooted.named there)
-        ∙ on_chain store tree is.rooted.begins root n numbered store.proposer_boost_root b there
+        ap (λ c. not c && is_on_chain_of store root store.proposer_boost_root) (not_zero store.blocks store.proposer_boost_root b is.named there)
+        ∙ on_chain store tree root n numbered store.proposer_boost_root b there
         ∙ ap (λ nodes. weights.is_on_chain_of nodes n b) (sym is.nodes)
 
     pub same_boost : is_boosted store root ≡ weights.is_boosted a n

@@ -1,11 +1,12 @@
 -- The justified checkpoints of a store are kept blocks, and their states were taken on to the first slots of their epochs.
 --
--- `genesis_is_chained`, `block_stays_chained` and `tick_stays_chained` keep the store's invariant through its definitions, and
+-- `first_is_chained`, `block_stays_chained` and `tick_stays_chained` keep the store's invariant through its definitions, and
 -- the lemmas beside them through their parts; `chained_justified_is_kept` and `chained_justified_state_is_done` say what it gives.
-use Rattle.std.proofs.Common.{◌≡◌, ◌∙◌, ℕ, ◌<◌, ◌&&◌, ◌==◌, Bool, true, false, not, nat_lt, cond, List, length, [], ◌∷◌, ◌++◌, Option, Some, None, is_some}
+use Rattle.std.proofs.Common.{◌≡◌, ◌∙◌, ℕ, ◌<◌, ◌≤◌, ◌*◌, ◌/◌, ◌^◌, ◌&&◌, ◌==◌, Bool, true, false, not, nat_lt, cond, List, length, [], ◌∷◌, ◌++◌, Option, Some, None, is_some}
 use Rattle.std.proofs.Common.{if◌then◌else◌, refl, sym, ap, subst, arith, inl, inr}
 use Rattle.std.specs.Cmp.Lexicographic.{bytes_decides}
-use Rattle.std.proofs.lemmas.Bool.{and_parts, cases_lt, eqb-true, false≢true, ltb-true, not-false}
+use Rattle.std.proofs.lemmas.Bool.{cases_lt, false≢true, ltb-true, not-false}
+use Rattle.std.proofs.Math.Nat.{div-mul-le_self}
 use Rattle.bc_words.specs.Outcome.{Outcome, done, bind}
 use Rattle.bc_words.specs.declared.refusal.Refusal.TheVariants.{FcTargetUnknown}
 use Rattle.bc_preset.specs.declared.presets.Preset.{Preset}
@@ -18,21 +19,24 @@ use Rattle.beacon_body.specs.Containers.{block_codec}
 use Rattle.beacon_body.specs.declared.block.BeaconBlock.{BeaconBlock}
 use Rattle.beacon_body.specs.declared.signed_block.SignedBeaconBlock.{SignedBeaconBlock}
 use Rattle.spec_state.specs.declared.plain.PlainState.{PlainState}
-use Rattle.spec_state.specs.Genesis.{genesis_fault, is_genesis_header, is_zero_checkpoint, zero_root}
+use Rattle.spec_state.specs.Accessors.{get_current_epoch, get_previous_epoch}
+use Rattle.spec_state.specs.Genesis.{zero_root}
+use Rattle.spec_state.specs.Soundness.{IsSound}
 use Rattle.spec_blocks.proofs.Done.{chosen, same_value}
 use Rattle.spec_transition.specs.ProcessSlots.{Stepped, process_slots}
 use Rattle.spec_transition.specs.StateTransition.{state_transition}
-use Rattle.spec_fork_choice.specs.Store.{KeptBlock, Store, block_of, is_kept}
+use Rattle.spec_fork_choice.specs.Store.{KeptBlock, Store, block_of, first_slot, is_kept}
 use Rattle.spec_fork_choice.specs.Slots.{get_current_slot, compute_slots_since_epoch_start, start_slot_of}
-use Rattle.spec_fork_choice.specs.GetForkchoiceStore.{genesis_block, get_forkchoice_store}
+use Rattle.spec_fork_choice.specs.GetForkchoiceStore.{get_forkchoice_store}
 use Rattle.spec_fork_choice.specs.ShouldUpdateJustifiedCheckpoint.{should_update_justified_checkpoint}
 use Rattle.spec_fork_choice.specs.StoreTargetCheckpointState.{kept_or, state_at, store_target_checkpoint_state}
 use Rattle.spec_fork_choice.specs.OnBlock.{is_before_attesting_interval, with_block, with_boost, with_best_justified, with_better_justified, with_justified}
 use Rattle.spec_fork_choice.specs.OnBlock.{with_finalized, with_accepted}
 use Rattle.spec_fork_choice.specs.OnTick.{is_better_justified, in_new_epoch, in_new_slot, on_tick}
-use Rattle.fork_store.specs.Stores.{IsKept}
+use Rattle.fork_store.specs.Stores.{IsKept, IsStore, IsLate, first_epoch}
 use Rattle.fork_store.specs.Done.{IsDone}
 use Rattle.fork_store.specs.inside.Chains.{IsReached, IsReachedCheckpoint, IsLinked, AreChained, IsChained}
+use Rattle.fork_store.proofs.FirstSlots.{some_kept, epoch_stays}
 use Rattle.fork_store.proofs.Presets.{found}
 use Rattle.fork_store.proofs.ChainPrefixes.{is_done}
 use Rattle.fork_store.proofs.ChainBlocks.{reached_more, linked_more, all_linked_more, step_is_linked}
@@ -49,7 +53,7 @@ passed false fault rest h = absurd cc
 pub chained_with_block : (config : ConfigValues) (blocks : List KeptBlock) (first second : Checkpoint) (kept : KeptBlock) → IsLinked config blocks kept.state
     → AreChained config blocks first second → AreChained config (blocks ++ kept ∷ []) first second
 chained_with_block config blocks first second kept linked chained = record {
-  linked = all_linked_more config blocks kept blocks linked chained.linked;
+  linked = all_linked_more config blocks kept blocks (some_kept blocks _ chained.justified.kept chained.justified.found) linked chained.linked;
   justified = reached_more config blocks kept _ _ chained.justified;
   best_justified = reached_more config blocks kept _ _ chained.best_justified;
 }
@@ -80,43 +84,40 @@ chained_with_best config blocks first second chained = record {
   best_justified = chained.best_justified;
 }
 
--- A linked state's justified checkpoint is reached where it is of a greater epoch than another one, and where its finalized one is
+-- A linked state's justified checkpoint is reached where it is of a greater epoch than another one that isn't before the first kept
+-- block, and where its finalized one is
 pub newer_is_reached : (config : ConfigValues) (blocks : List KeptBlock) (s : PlainState) (epoch : ℕ) → IsLinked config blocks s
-    → epoch < s.current_justified_checkpoint.epoch → IsReachedCheckpoint config blocks s.current_justified_checkpoint
-newer_is_reached config blocks s epoch linked newer = linked.justified (omega arith)
+    → first_epoch config.preset blocks ≤ epoch → epoch < s.current_justified_checkpoint.epoch → IsReachedCheckpoint config blocks s.current_justified_checkpoint
+newer_is_reached config blocks s epoch linked late newer = linked.justified (omega (arith, late, newer))
 
-pub newer_finalized_is_reached : (config : ConfigValues) (blocks : List KeptBlock) (s : PlainState) (epoch : ℕ) → IsLinked config blocks s
-    → epoch < s.finalized_checkpoint.epoch → IsReachedCheckpoint config blocks s.current_justified_checkpoint
-newer_finalized_is_reached config blocks s epoch linked newer = elim (cases_lt 0 s.current_justified_checkpoint.epoch) [
-  | inl some ↦ linked.justified some
-  | inr none ↦ absurd (let zero : s.finalized_checkpoint.epoch ≡ 0 = linked.finalized (omega arith) in omega arith)
+-- and then it isn't of an epoch before that block either
+pub newer_finalized : (config : ConfigValues) (blocks : List KeptBlock) (s : PlainState) → IsLinked config blocks s
+    → first_epoch config.preset blocks < s.finalized_checkpoint.epoch → first_epoch config.preset blocks < s.current_justified_checkpoint.epoch
+newer_finalized config blocks s linked newer = elim (cases_lt (first_epoch config.preset blocks) s.current_justified_checkpoint.epoch) [
+  | inl some ↦ some
+  | inr none ↦ absurd (let low : s.finalized_checkpoint.epoch ≤ first_epoch config.preset blocks = linked.finalized (omega (arith, none)) in omega (arith, low, newer))
 ]
 
--- ---- genesis
+pub newer_finalized_is_reached : (config : ConfigValues) (blocks : List KeptBlock) (s : PlainState) (epoch : ℕ) → IsLinked config blocks s
+    → first_epoch config.preset blocks ≤ epoch → epoch < s.finalized_checkpoint.epoch → IsReachedCheckpoint config blocks s.current_justified_checkpoint
+newer_finalized_is_reached config blocks s epoch linked late newer = linked.justified (newer_finalized config blocks s linked (omega (arith, late, newer)))
 
-zero_epoch : (c : Checkpoint) → is_zero_checkpoint c ≡ true → c.epoch ≡ 0
-zero_epoch c is = eqb-true c.epoch 0 (and_parts (c.epoch == 0) (same_root c.root zero_root) is).0
+-- ---- the first block
 
--- a genesis state tells of no slot, and has justified nothing
-genesis_linked : (config : ConfigValues) (blocks : List KeptBlock) (s : PlainState) → genesis_fault s ≡ None → length s.block_roots ≡ s.preset.slots_per_historical_root → s.preset ≡ config.preset
+-- a sound state tells of no slot from its own on, and has justified nothing of its own epoch
+first_linked : (config : ConfigValues) (blocks : List KeptBlock) (s : PlainState) → first_slot blocks ≡ s.slot → IsSound s → length s.block_roots ≡ s.preset.slots_per_historical_root → s.preset ≡ config.preset
     → IsLinked config blocks s
-unfolding genesis_fault
-genesis_linked config blocks s good is preset =
-    let slot = passed (s.slot == 0) _ _ good in
-    let header = passed (is_genesis_header s.latest_block_header) _ _ slot.1 in
-    let checkpoints = passed (is_zero_checkpoint s.previous_justified_checkpoint &&
-    (is_zero_checkpoint s.current_justified_checkpoint && is_zero_checkpoint s.finalized_checkpoint)) _ _ header.1 in
-    let first = and_parts (is_zero_checkpoint s.previous_justified_checkpoint) _ checkpoints.0 in
-    let others = and_parts (is_zero_checkpoint s.current_justified_checkpoint) _ first.1 in
-    let at : s.slot ≡ 0 = eqb-true s.slot 0 slot.0 in
-    let current : s.current_justified_checkpoint.epoch ≡ 0 = zero_epoch s.current_justified_checkpoint others.0 in
+unfolding first_epoch get_previous_epoch get_current_epoch
+first_linked config blocks s at sound is preset =
+    let epoch : ℕ = first_slot blocks / config.preset.slots_per_epoch in
+    let same : s.slot / s.preset.slots_per_epoch ≡ epoch = ap (λ (p : Preset). s.slot / p.slots_per_epoch) preset ∙ ap (λ (n : ℕ). n / config.preset.slots_per_epoch) (sym at) in
     record {
       preset = preset;
       roots = is ∙ ap (λ (p : Preset). p.slots_per_historical_root) preset;
-      history = λ k less near. absurd (omega arith);
-      justified = λ some. absurd (omega arith);
-      previous = λ none. zero_epoch s.previous_justified_checkpoint first.0;
-      finalized = λ none. zero_epoch s.finalized_checkpoint others.1;
+      history = λ k late less near. absurd (omega (arith, late, less, at));
+      justified = λ newer. absurd (omega (arith, newer, same, sound.current_justified));
+      previous = λ older. omega (arith, same, sound.previous_justified);
+      finalized = λ older. omega (arith, same, sound.finalized);
     }
 
 -- the one block is found
@@ -124,53 +125,72 @@ only_found : (kept : KeptBlock) → block_of (kept ∷ []) kept.root ≡ Some ke
 unfolding block_of
 only_found kept = ap (λ (b : Bool). if b then Some kept else None) ((bytes_decides kept.root kept.root).1 refl)
 
--- The genesis block alone
-pub genesis_chained : (config : ConfigValues) (root : List ℕ) (block : BeaconBlock) (s : PlainState) → genesis_fault s ≡ None → length s.block_roots ≡ s.preset.slots_per_historical_root
+-- The first block alone
+pub first_chained : (config : ConfigValues) (root : List ℕ) (block : BeaconBlock) (s : PlainState) → IsSound s → s.slot ≡ block.slot → length s.block_roots ≡ s.preset.slots_per_historical_root
     → s.preset ≡ config.preset
-    → AreChained config (record { root = root; block = block; state = s } ∷ []) (record { epoch = 0; root = root }) (record { epoch = 0; root = root })
-genesis_chained config root block s good is preset =
+    → AreChained config (record { root = root; block = block; state = s } ∷ []) (record { epoch = get_current_epoch s; root = root }) (record { epoch = get_current_epoch s; root = root })
+unfolding get_current_epoch first_slot
+first_chained config root block s sound at is preset =
     let kept : KeptBlock = record { root = root; block = block; state = s } in
-    let reached : IsReachedCheckpoint config (kept ∷ []) (record { epoch = 0; root = root }) = record {
+    let n : ℕ = s.preset.slots_per_epoch in
+    let same : n ≡ config.preset.slots_per_epoch = ap (λ (p : Preset). p.slots_per_epoch) preset in
+    let start : s.slot / n * n ≤ s.slot = div-mul-le_self s.slot n in
+    let starts : s.slot / n * config.preset.slots_per_epoch ≤ s.slot = subst (λ (m : ℕ). s.slot / n * m ≤ s.slot) same start in
+    let reached : IsReachedCheckpoint config (kept ∷ []) (record { epoch = s.slot / n; root = root }) = record {
       kept = kept;
       found = only_found kept;
-      passed = λ later. absurd (omega arith);
+      passed = λ later. absurd (omega (arith, later, starts));
     } in
-    record { linked = (genesis_linked config (kept ∷ []) s good is preset, tt); justified = reached; best_justified = reached }
+    record { linked = (first_linked config (kept ∷ []) s (sym at) sound is preset, tt); justified = reached; best_justified = reached }
 
-pub genesis_is_chained : (config : ConfigValues) (s : PlainState) → genesis_fault s ≡ None → length s.block_roots ≡ s.preset.slots_per_historical_root → s.preset ≡ config.preset
-    → IsChained (get_forkchoice_store config s)
+pub first_is_chained : (config : ConfigValues) (s : PlainState) (block : BeaconBlock) → IsSound s → s.slot ≡ block.slot → length s.block_roots ≡ s.preset.slots_per_historical_root → s.preset ≡ config.preset
+    → IsChained (get_forkchoice_store config s block)
 unfolding get_forkchoice_store
-genesis_is_chained config s good is preset = genesis_chained config (block_codec.hash_tree_root (genesis_block s)) (genesis_block s) s good is preset
+first_is_chained config s block sound at is preset = first_chained config (block_codec.hash_tree_root block) block s sound at is preset
 
 -- ---- a block
 
--- a chained store beside a state that is linked among its blocks
+-- a chained store, whose checkpoints aren't of epochs before the first kept block, beside a state that is linked among its blocks
 pub record IsBeside (state : PlainState) (store : Store) : Type 0 where
   pub chained : IsChained store
   pub linked : IsLinked store.config store.blocks state
+  pub justified_late : IsLate store store.justified_checkpoint
+  pub finalized_late : IsLate store store.finalized_checkpoint
 
-pub block_beside : (store : Store) (kept : KeptBlock) → IsLinked store.config store.blocks kept.state → IsChained store
+pub block_beside : (store : Store) (kept : KeptBlock) → IsStore store → IsLinked store.config store.blocks kept.state → IsChained store
     → IsBeside kept.state (with_block store kept)
 unfolding with_block
-block_beside store kept linked chained = elim (chosen (is_kept store.blocks kept.root) store (record store { blocks = store.blocks ++ kept ∷ [] }) _ refl) [
-  | inl again ↦ subst (IsBeside kept.state) again.1 (record { chained = chained; linked = linked })
-  | inr fresh ↦ subst (IsBeside kept.state) fresh.1 (record {
-    chained = chained_with_block store.config store.blocks store.justified_checkpoint store.best_justified_checkpoint kept linked chained;
-    linked = linked_more store.config store.blocks kept kept.state.slot kept.state linked;
-  })
-]
+block_beside store kept good linked chained =
+    let some : 0 < length store.blocks = some_kept store.blocks _ chained.justified.kept chained.justified.found in
+    let epoch : first_epoch store.config.preset (store.blocks ++ kept ∷ []) ≡ first_epoch store.config.preset store.blocks =
+    epoch_stays store.config.preset store.blocks (kept ∷ []) some in
+    elim (chosen (is_kept store.blocks kept.root) store (record store { blocks = store.blocks ++ kept ∷ [] }) _ refl) [
+      | inl again ↦ subst (IsBeside kept.state) again.1 (record { chained = chained; linked = linked; justified_late = good.justified_late; finalized_late = good.finalized_late })
+      | inr fresh ↦ subst (IsBeside kept.state) fresh.1 (record {
+        chained = chained_with_block store.config store.blocks store.justified_checkpoint store.best_justified_checkpoint kept linked chained;
+        linked = linked_more store.config store.blocks kept kept.state.slot kept.state some linked;
+        justified_late = omega (arith, good.justified_late, epoch);
+        finalized_late = omega (arith, good.finalized_late, epoch);
+      })
+    ]
 
 boost_beside : (state : PlainState) (store : Store) (kept : KeptBlock) → IsBeside state store → IsBeside state (with_boost store kept)
 unfolding with_boost
 boost_beside state store kept beside = elim (chosen ((get_current_slot store == kept.block.slot) && is_before_attesting_interval store)
     (record store { proposer_boost_root = kept.root }) store _ refl) [
-      | inl timely ↦ subst (IsBeside state) timely.1 (record { chained = beside.chained; linked = beside.linked })
+      | inl timely ↦ subst (IsBeside state) timely.1 (record {
+        chained = beside.chained;
+        linked = beside.linked;
+        justified_late = beside.justified_late;
+        finalized_late = beside.finalized_late;
+      })
       | inr late ↦ subst (IsBeside state) late.1 beside
     ]
 
 -- a store beside a reached checkpoint of such a state
 record IsGiven (state : PlainState) (store : Store) : Type 0 where
   beside : IsBeside state store
+  late : IsLate store state.current_justified_checkpoint
   reached : IsReachedCheckpoint store.config store.blocks state.current_justified_checkpoint
 
 best_given : (state : PlainState) (store : Store) → IsGiven state store → IsGiven state (with_best_justified store state.current_justified_checkpoint)
@@ -183,7 +203,10 @@ best_given state store given =
           chained = chained_with_best_justified store.config store.blocks store.justified_checkpoint store.best_justified_checkpoint checkpoint
               given.reached given.beside.chained;
           linked = given.beside.linked;
+          justified_late = given.beside.justified_late;
+          finalized_late = given.beside.finalized_late;
         };
+        late = given.late;
         reached = given.reached;
       })
       | inr other ↦ subst (IsGiven state) other.1 given
@@ -200,6 +223,8 @@ better_beside state store given =
         chained = chained_with_justified best.config best.blocks best.justified_checkpoint best.best_justified_checkpoint checkpoint then_given.reached
             then_given.beside.chained;
         linked = then_given.beside.linked;
+        justified_late = then_given.late;
+        finalized_late = then_given.beside.finalized_late;
       })
       | inr later ↦ subst (IsBeside state) later.1 then_given.beside
     ]
@@ -211,7 +236,8 @@ justified_beside state store beside =
     elim (chosen (nat_lt store.justified_checkpoint.epoch checkpoint.epoch) (with_better_justified store checkpoint) store _ refl) [
       | inl newer ↦ subst (IsBeside state) newer.1 (better_beside state store (record {
         beside = beside;
-        reached = newer_is_reached store.config store.blocks state store.justified_checkpoint.epoch beside.linked
+        late = let less = ltb-true store.justified_checkpoint.epoch checkpoint.epoch newer.0 in omega (arith, less, beside.justified_late);
+        reached = newer_is_reached store.config store.blocks state store.justified_checkpoint.epoch beside.linked beside.justified_late
             (ltb-true store.justified_checkpoint.epoch checkpoint.epoch newer.0);
       }))
       | inr older ↦ subst (IsBeside state) older.1 beside
@@ -223,27 +249,27 @@ finalized_chained state store beside = elim (chosen (nat_lt store.finalized_chec
     (record store { finalized_checkpoint = state.finalized_checkpoint; justified_checkpoint = state.current_justified_checkpoint }) store _ refl) [
       | inl newer ↦ subst IsChained newer.1 (chained_with_justified store.config store.blocks store.justified_checkpoint store.best_justified_checkpoint
           state.current_justified_checkpoint
-          (newer_finalized_is_reached store.config store.blocks state store.finalized_checkpoint.epoch beside.linked
+          (newer_finalized_is_reached store.config store.blocks state store.finalized_checkpoint.epoch beside.linked beside.finalized_late
           (ltb-true store.finalized_checkpoint.epoch state.finalized_checkpoint.epoch newer.0)) beside.chained)
       | inr older ↦ subst IsChained older.1 beside.chained
     ]
 
 -- A block that is accepted, whose state is linked
-pub block_stays_chained : (store : Store) (kept : KeptBlock) → IsLinked store.config store.blocks kept.state → IsChained store
+pub block_stays_chained : (store : Store) (kept : KeptBlock) → IsStore store → IsLinked store.config store.blocks kept.state → IsChained store
     → IsChained (with_accepted store kept)
 unfolding with_accepted
-block_stays_chained store kept linked chained =
-    let one = block_beside store kept linked chained in
+block_stays_chained store kept good linked chained =
+    let one = block_beside store kept good linked chained in
     let two = boost_beside kept.state (with_block store kept) kept one in
     finalized_chained kept.state (with_justified (with_boost (with_block store kept) kept) kept.state)
     (justified_beside kept.state (with_boost (with_block store kept) kept) two)
 
 -- The state behind a block of a kept parent is
 pub block_state_is_linked : (store : Store) (parent : KeptBlock) (block : SignedBeaconBlock) (t : Stepped) → IsChained store → IsPreset store.config.preset
-    → Some parent ≡ block_of store.blocks block.message.parent_root → IsKept parent
+    → Some parent ≡ block_of store.blocks block.message.parent_root → IsKept parent → block.message.slot < 2 ^ 64
     → state_transition parent.state block store.config ≡ done t → IsLinked store.config store.blocks t.state
-block_state_is_linked store parent block t chained preset is kept done_is =
-    step_is_linked store.config store.blocks parent block t (sym is) kept (preset_bounds store.config.preset preset)
+block_state_is_linked store parent block t chained preset is kept low done_is =
+    step_is_linked store.config store.blocks parent block t (sym is) kept (preset_bounds store.config.preset preset) low
     (found (λ k. IsLinked store.config store.blocks k.state) store.blocks block.message.parent_root parent chained.linked is) done_is
 
 -- ---- a tick

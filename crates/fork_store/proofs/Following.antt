@@ -49,7 +49,7 @@ module _ (store : Store) (told : Told) (array : PlainArray) where
         slots_per_epoch = fed.slots_per_epoch;
         percent = fed.percent;
         nodes = fed.nodes;
-        rooted = fed.rooted;
+        named = fed.named;
         messages = fed.messages;
         voted = fed.voted;
         balances = fed.balances;
@@ -65,7 +65,7 @@ module _ (store : Store) (told : Told) (array : PlainArray) where
     slots_per_epoch = fed.slots_per_epoch;
     percent = fed.percent;
     nodes = fed.nodes;
-    rooted = fed.rooted;
+    named = fed.named;
     messages = fed.messages;
     voted = fed.voted;
     balances = fed.balances;
@@ -85,7 +85,7 @@ module _ (store : Store) (told : Told) (array : PlainArray) where
     slots_per_epoch = fed.slots_per_epoch;
     percent = fed.percent;
     nodes = fed.nodes;
-    rooted = fed.rooted;
+    named = fed.named;
     messages = fed.messages;
     voted = fed.voted;
     balances = fed.balances;
@@ -104,7 +104,7 @@ module _ (store : Store) (told : Told) (array : PlainArray) where
     slots_per_epoch = fed.slots_per_epoch;
     percent = fed.percent;
     nodes = fed.nodes;
-    rooted = fed.rooted;
+    named = fed.named;
     messages = fed.messages;
     voted = fed.voted;
     balances = fed.balances;
@@ -213,7 +213,7 @@ module _ (store : Store) (told : Told) (array : PlainArray) where
     slots_per_epoch = a.slots_per_epoch;
     percent = a.percent;
     nodes = a.nodes;
-    rooted = a.rooted;
+    named = a.named;
     messages = a.messages;
     voted = a.voted;
     balances = balances;
@@ -230,7 +230,7 @@ module _ (store : Store) (told : Told) (array : PlainArray) where
     slots_per_epoch = a.slots_per_epoch;
     percent = a.percent;
     nodes = a.nodes;
-    rooted = a.rooted;
+    named = a.named;
     messages = a.messages;
     voted = a.voted;
     balances = balances;

@@ -23,8 +23,8 @@ use Rattle.spec_transition.specs.StateTransition.{IsLatest, state_transition}
 use Rattle.spec_fork_choice.specs.Store.{KeptBlock, Store, block_of, is_kept, slot_of}
 use Rattle.spec_fork_choice.specs.Clash.{place_of, clash_with, clash_of}
 use Rattle.spec_fork_choice.specs.Slots.{start_slot_of}
-use Rattle.spec_fork_choice.specs.GetForkchoiceStore.{genesis_block, get_forkchoice_store}
-use Rattle.spec_fork_choice.specs.OnEvent.{genesis_clash}
+use Rattle.spec_fork_choice.specs.GetForkchoiceStore.{get_forkchoice_store}
+use Rattle.spec_fork_choice.specs.OnEvent.{first_clash}
 use Rattle.spec_fork_choice.specs.StoreTargetCheckpointState.{kept_or, state_at, store_target_checkpoint_state}
 use Rattle.state_keeper.specs.Chain.{ChainBlock, Kept, HasState}
 use Rattle.fork_store.specs.ChainStep.{CanStep, chain_step}
@@ -116,15 +116,14 @@ no_clash_with : (root state_root : List ℕ) (block : BeaconBlock) → clash_wit
 unfolding block_of place_of
 no_clash_with root state_root block = clash_is [] root state_root block None 0 refl refl
 
--- that of genesis is the first one
-pub first_clash : (genesis : PlainState) (root : List ℕ) (block : BeaconBlock) (kind : Option ClashKind) → block ≡ genesis_block genesis → IsRootOf root (genesis_block genesis) → kind ≡ clash_with None 0 root block.state_root block → kind ≡ genesis_clash genesis
-unfolding genesis_clash genesis_block IsRootOf
-first_clash genesis root block kind is named at =
+-- that of the first block
+pub first_clash_is : (root : List ℕ) (block : BeaconBlock) (kind : Option ClashKind) → IsRootOf root block → kind ≡ clash_with None 0 root block.state_root block → kind ≡ first_clash block
+unfolding first_clash IsRootOf
+first_clash_is root block kind named at =
     at ∙ no_clash_with root block.state_root block
-    ∙ ap (λ (b : BeaconBlock). clash_of [] root b.state_root b) is
-    ∙ ap (λ (r : List ℕ). clash_of [] r (genesis_block genesis).state_root (genesis_block genesis)) named
+    ∙ ap (λ (r : List ℕ). clash_of [] r block.state_root block) named
 
-pub ruleset first_clashing = (first_clash)
+pub ruleset first_clashing = (first_clash_is)
 
 -- ---- the state behind a block
 
@@ -265,20 +264,20 @@ keeper_settled store new keeper slot root justified finalized is settled_is =
 
 pub ruleset keeping = (keeper_few, keeper_blocks, keeper_same, keeper_stays)
 
--- ---- at genesis
+-- ---- of the first block
 
 pub first_kept : (ks : List (ChainBlock SignedBeaconBlock)) (block : BeaconBlock) (signature : List ℕ) (root : List ℕ) (state : PlainState) → IsRootOf root block → ks ≡ record { block = record { message = block; signature = signature }; parent = 0; state = state } ∷ [] → kept_blocks ks ≡ kept_of root block state ∷ []
 unfolding kept_blocks IsRootOf
 first_kept ks block signature root state named is =
     ap kept_blocks is ∙ ap (λ (r : List ℕ). kept_of r block state ∷ []) (sym named)
 
--- the keeper whose one block is that of genesis is the store's
-pub genesis_keeper_of : (config : ConfigValues) (genesis : PlainState) (root : List ℕ) (store : Store) (keeper : Kept ConfigValues SignedBeaconBlock) → IsRootOf root (genesis_block genesis) → keeper.stepper ≡ config → kept_blocks keeper.blocks ≡ kept_of root (genesis_block genesis) genesis ∷ [] → store ≡ get_forkchoice_store config genesis → IsKeeperOf store keeper
+-- the keeper whose one block is the first one is the store's
+pub first_keeper_of : (config : ConfigValues) (state : PlainState) (block : BeaconBlock) (root : List ℕ) (store : Store) (keeper : Kept ConfigValues SignedBeaconBlock) → IsRootOf root block → keeper.stepper ≡ config → kept_blocks keeper.blocks ≡ kept_of root block state ∷ [] → store ≡ get_forkchoice_store config state block → IsKeeperOf store keeper
 unfolding IsRootOf get_forkchoice_store
-genesis_keeper_of config genesis root store keeper named stepper blocks is =
+first_keeper_of config state block root store keeper named stepper blocks is =
     subst (λ (s : Store). IsKeeperOf s keeper) (sym is) (record {
       stepper = stepper;
-      blocks = blocks ∙ ap (λ (r : List ℕ). kept_of r (genesis_block genesis) genesis ∷ []) named;
+      blocks = blocks ∙ ap (λ (r : List ℕ). kept_of r block state ∷ []) named;
       few = omega arith;
     })
 

@@ -1,6 +1,7 @@
 pub mod Finding
 pub mod Arrays
 pub mod ArraysPlaces
+pub mod FirstSlots
 pub mod ArraysNodes
 pub mod ArraysAncestors
 pub mod ArraysStates
@@ -9,7 +10,7 @@ pub mod ArraysWeights
 pub mod ArraysSteps
 pub mod ArraysHead
 pub mod ArraysMessages
-pub mod ArraysGenesis
+pub mod ArraysOpened
 pub mod ChainPrefixes
 pub mod ChainSlots
 pub mod ChainBlocks
@@ -33,7 +34,8 @@ pub mod Adding
 pub mod Settling
 pub mod Voting
 pub mod Heads
-pub mod AtGenesis
+pub mod Anchors
+pub mod Opened
 pub mod CheckpointStates
 pub mod Keepers
 pub mod Stepping

@@ -21,3 +21,9 @@ justified_is_low s preset sound is low = subst (λ (p : Preset). s.current_justi
     let e : ℕ = s.current_justified_checkpoint.epoch in
     let q : ℕ = s.slot / n in
     omega (arith, low, sound.current_justified, previous_first s, mul-div-le s.slot n, mul-le-mul_left {m = e} {n = q} n (omega (arith, sound.current_justified, previous_first s)), mul_comm n e))
+
+-- the seconds of a slot fit in 128 bits, and so does the time behind any number of them
+pub seconds_fit : (seconds slot : ℕ) → seconds < 2 ^ 32 → slot < 2 ^ 64 → seconds * slot < 2 ^ 96
+seconds_fit seconds slot few low = omega (arith, mul-le-mul_left {m = slot} {n = 2 ^ 64} seconds (omega (arith, low)), few)
+
+pub ruleset timing = (seconds_fit)

@@ -1,7 +1,8 @@
 -- The checks of a block and the step of its parent's state, one after another.
-use Rattle.std.proofs.Common.{◌≡◌, ◌∙◌, ℕ, true, false, leb, nat_lt, Option, Some, None, Result, is_some, refl, sym, ap, subst}
+use Rattle.std.proofs.Common.{◌≡◌, ◌∙◌, ◌<◌, ◌^◌, ℕ, true, false, leb, nat_lt, List, Option, Some, None, Result, Ok, Err, IfOk, is_some, refl, sym, ap, subst}
 use Rattle.bc_words.specs.Outcome.{Outcome, done, refused, bind, Stops, StopsExactly, Gives}
 use Rattle.bc_words.specs.declared.stop.Stop.{Stop}
+use Rattle.bc_words.specs.declared.store_stop.StoreStop.{StoreStop}
 use Rattle.bc_words.specs.declared.refusal.Refusal.TheVariants.{ParentUnknown, FutureBlock, BeforeFinalized, NotOnFinalized}
 use Rattle.bc_words.proofs.Outcomes.{stops_bound, stops_exactly}
 use Rattle.bc_preset.specs.Presets.{IsPreset}
@@ -11,11 +12,12 @@ use Rattle.spec_state.specs.declared.plain.PlainState.{PlainState}
 use Rattle.spec_blocks.specs.Checks.{check}
 use Rattle.spec_transition.specs.ProcessSlots.{Stepped}
 use Rattle.spec_transition.specs.StateTransition.{state_transition}
+use Rattle.transition.specs.Shown.{shown_all}
 use Rattle.spec_fork_choice.specs.Store.{KeptBlock, Store, block_of, is_kept}
 use Rattle.spec_fork_choice.specs.Slots.{get_current_slot, start_slot_of}
 use Rattle.spec_fork_choice.specs.GetAncestor.{get_ancestor}
 use Rattle.spec_fork_choice.specs.StoreTargetCheckpointState.{kept_or}
-use Rattle.spec_fork_choice.specs.OnBlock.{block_step}
+use Rattle.spec_fork_choice.specs.OnBlock.{BlockIn, block_step}
 use Rattle.fork_store.specs.Arrays.{node_number}
 use Rattle.fork_store.specs.inside.Accepted.{check_block}
 use Rattle.fork_store.specs.inside.Chains.{IsChained, IsLinked}
@@ -80,8 +82,14 @@ module _ (store : Store) (block : SignedBeaconBlock) (parent : PlainState) (step
   pub step_parent : HasParent store.blocks block.message
   step_parent = has_parent store.blocks behind.kept block store.config step (sym behind.found) behind.good (from_kept store.config store.blocks block parent step behind is)
 
-  pub step_linked : IsChained store → IsPreset store.config.preset → IsLinked store.config store.blocks step.state
-  step_linked chained preset = block_state_is_linked store behind.kept block step chained preset (sym behind.found) behind.good (from_kept store.config store.blocks block parent step behind is)
+  pub step_linked : IsChained store → IsPreset store.config.preset → block.message.slot < 2 ^ 64 → IsLinked store.config store.blocks step.state
+  step_linked chained preset low = block_state_is_linked store behind.kept block step chained preset (sym behind.found) behind.good low (from_kept store.config store.blocks block parent step behind is)
 
   pub stepped_on : IsStore store → IsStepOn store.config store.blocks block step.state
   stepped_on sound = is_step store.config store.blocks block parent step behind is sound.presets
+
+-- a visitor was shown what an accepted block leaves, where it was shown what the block's step entered
+pub shown_by : {V : Type 0} (shown : V → PlainState → V) (old new : V) (entered : List PlainState) (result : Result BlockIn StoreStop) → IfOk result (λ given. given.entered ≡ entered) → new ≡ shown_all shown old entered
+    → IfOk result (λ given. new ≡ shown_all shown old given.entered)
+shown_by shown old new entered (Ok given) same is = is ∙ ap (shown_all shown old) (sym same)
+shown_by shown old new entered (Err stop) same is = tt

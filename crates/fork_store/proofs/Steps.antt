@@ -46,7 +46,7 @@ other true first rest h = absurd cc
 other false first rest h = (refl, h)
 
 -- where nothing clashes, the state root isn't zero
-no_clash : (blocks : List KeptBlock) (root state_root : List ℕ) (block : BeaconBlock) → clash_of blocks root state_root block ≡ None → same_root state_root zero_root ≡ false
+pub no_clash : (blocks : List KeptBlock) (root state_root : List ℕ) (block : BeaconBlock) → clash_of blocks root state_root block ≡ None → same_root state_root zero_root ≡ false
 unfolding clash_of clash_with
 no_clash blocks root state_root block none = (other (same_root state_root zero_root) _ _ (other (same_root root zero_root) _ _ none).1).0
 
@@ -64,7 +64,7 @@ is_kept blocks root block state behind is low none = record {
 -- ---- at genesis
 
 -- the header of genesis is that of the genesis block
-genesis_header : (s : PlainState) → is_genesis_header s.latest_block_header ≡ true → s.latest_block_header ≡ header_of (genesis_block s)
+pub genesis_header : (s : PlainState) → is_genesis_header s.latest_block_header ≡ true → s.latest_block_header ≡ header_of (genesis_block s)
 unfolding genesis_block empty_body_root
 genesis_header s is =
     let slot = and_parts _ _ is in
@@ -84,19 +84,6 @@ filled : (s : PlainState) → s.latest_block_header ≡ header_of (genesis_block
 unfolding block_header_of
 filled s is = ap (λ (h : BeaconBlockHeader). if same_root h.state_root zero_root then record h { state_root = (state_codec s.preset).hash_tree_root s } else h) is
 
-genesis_latest : (s : PlainState) → s.latest_block_header ≡ header_of (genesis_block s) → IsLatest s (genesis_block s)
+pub genesis_latest : (s : PlainState) → s.latest_block_header ≡ header_of (genesis_block s) → IsLatest s (genesis_block s)
 unfolding IsLatest header_root_of genesis_block
 genesis_latest s is = ap block_header_codec.hash_tree_root (filled s is)
-
-pub genesis_is_kept : (s : PlainState) (root : List ℕ) → genesis_fault s ≡ None → genesis_clash s ≡ None → IsRootOf root (genesis_block s) → IsKept (record { root = root; block = genesis_block s; state = s })
-unfolding genesis_fault genesis_clash genesis_block
-genesis_is_kept s root good none is =
-    let slot = passed (s.slot == 0) _ _ good in
-    record {
-      root = is;
-      sound = genesis_sound s good;
-      slot = eqb-true _ _ slot.0;
-      latest = genesis_latest s (genesis_header s (passed (is_genesis_header s.latest_block_header) _ _ slot.1).0);
-      low = omega arith;
-      some = no_clash [] _ _ _ none;
-    }

@@ -1,5 +1,5 @@
 -- A tree of kept blocks, and one block more.
-use Rattle.std.proofs.Common.{◌≡◌, ◌<◌, ℕ, Bool, true, false, not, nat_lt, List, [], ◌∷◌, ◌++◌, Some, Result, Ok, Err, refl, sym, subst, ap, inl, inr}
+use Rattle.std.proofs.Common.{◌≡◌, ◌∙◌, ◌<◌, ℕ, Bool, true, false, not, nat_lt, List, [], ◌∷◌, ◌++◌, length, Some, Result, Ok, Err, refl, sym, subst, ap, arith, inl, inr}
 use Rattle.std.proofs.lemmas.List.{append-nil, append_assoc}
 use Rattle.std.proofs.lemmas.Bool.{ltb-true, not-false, false≢true}
 use Rattle.bc_words.specs.Outcome.{Outcome, done, refused, limited, Becomes}
@@ -8,13 +8,15 @@ use Rattle.state_parts.proofs.Within.{all_push}
 use Rattle.bc_preset.specs.declared.configuration.ConfigValues.{ConfigValues}
 use Rattle.beacon_body.specs.declared.signed_block.SignedBeaconBlock.{SignedBeaconBlock}
 use Rattle.spec_state.specs.declared.plain.PlainState.{PlainState}
+use Rattle.spec_state.specs.Misc.{compute_start_slot_at_epoch}
 use Rattle.spec_blocks.proofs.Done.{on_the_way, chosen}
 use Rattle.spec_transition.specs.ProcessSlots.{Stepped, process_slots}
 use Rattle.spec_transition.specs.StateTransition.{state_transition}
 use Rattle.beacon_body.specs.declared.block.BeaconBlock.{BeaconBlock}
 use Rattle.spec_fork_choice.specs.Store.{KeptBlock, Store, block_of, is_kept}
-use Rattle.fork_store.specs.Stores.{IsKept, HasPreset, IsStore}
+use Rattle.fork_store.specs.Stores.{IsKept, HasPreset, IsStore, first_epoch}
 use Rattle.fork_store.specs.Trees.{HasParent, Follows, IsTreeBehind, IsTree}
+use Rattle.fork_store.proofs.FirstSlots.{first_stays, epoch_stays}
 
 push_behind : (before blocks : List KeptBlock) (kept : KeptBlock) → IsTreeBehind before blocks → Follows (before ++ blocks) kept → IsTreeBehind before (blocks ++ kept ∷ [])
 unfolding IsTreeBehind
@@ -62,12 +64,18 @@ pub follows : (blocks : List KeptBlock) (root : List ℕ) (block : BeaconBlock) 
 follows blocks root block state fresh parent = record { fresh = fresh; parent = inr parent }
 
 -- the store that a block was added to, or wasn't for want of memory
-pub kept_store : {U : Type 0} (result : Result U NoMemory) (s : Store) (new : List KeptBlock) (kept : KeptBlock) → Becomes result s.blocks new (s.blocks ++ kept ∷ []) → IsStore s → kept.state.preset ≡ s.config.preset → Follows s.blocks kept → IsStore (record s { blocks = new })
-kept_store (Ok x) s new kept is good preset next = subst (λ (l : List KeptBlock). IsStore (record s { blocks = l })) (sym is) (record {
-  time = good.time;
-  presets = all_push (HasPreset s.config.preset) s.blocks kept good.presets preset;
-  tree = tree_push s.blocks kept good.tree next;
-  justified = good.justified;
-  best_justified = good.best_justified;
-})
-kept_store (Err stop) s new kept is good preset next = subst (λ (l : List KeptBlock). IsStore (record s { blocks = l })) (sym is) good
+pub kept_store : {U : Type 0} (result : Result U NoMemory) (s : Store) (new : List KeptBlock) (kept : KeptBlock) → Becomes result s.blocks new (s.blocks ++ kept ∷ []) → IsStore s → kept.state.preset ≡ s.config.preset → Follows s.blocks kept → 0 < length s.blocks → IsStore (record s { blocks = new })
+kept_store (Ok x) s new kept is good preset next some =
+    let epoch : first_epoch s.config.preset (s.blocks ++ kept ∷ []) ≡ first_epoch s.config.preset s.blocks = epoch_stays s.config.preset s.blocks (kept ∷ []) some in
+    subst (λ (l : List KeptBlock). IsStore (record s { blocks = l })) (sym is) (record {
+      time = good.time;
+      presets = all_push (HasPreset s.config.preset) s.blocks kept good.presets preset;
+      tree = tree_push s.blocks kept good.tree next;
+      justified = good.justified;
+      best_justified = good.best_justified;
+      begins = ap (compute_start_slot_at_epoch s.config.preset) epoch ∙ good.begins ∙ sym (first_stays s.blocks (kept ∷ []) some);
+      justified_late = omega (arith, good.justified_late, epoch);
+      best_justified_late = omega (arith, good.best_justified_late, epoch);
+      finalized_late = omega (arith, good.finalized_late, epoch);
+    })
+kept_store (Err stop) s new kept is good preset next some = subst (λ (l : List KeptBlock). IsStore (record s { blocks = l })) (sym is) good

@@ -6,7 +6,7 @@ use Rattle.std.proofs.lemmas.Bool.{le-ltb}
 use Rattle.block_array.specs.PlainArray.{PlainArray}
 use Rattle.block_array.specs.GetAncestor as array
 use Rattle.block_array.specs.declared.node.Node.{Node}
-use Rattle.spec_fork_choice.specs.Store.{KeptBlock, Store, slot_of, parent_of}
+use Rattle.spec_fork_choice.specs.Store.{KeptBlock, Store, first_slot, slot_of, parent_of}
 use Rattle.spec_fork_choice.specs.GetAncestor.{ancestor_within, get_ancestor}
 use Rattle.fork_store.specs.Arrays.{Balances, node_number, AreNodesOf, IsArrayOf}
 use Rattle.fork_store.specs.Roots.{roots_of}
@@ -52,10 +52,10 @@ module _ (store : Store) (nodes : List Node) (root : List ℕ) (node : ℕ) (are
       let many = ap length are.same in
       omega (arith, fits, many, length_nodes store.blocks)
 
-  module _ (sound : IsStore store) (slot ancestor : ℕ) (is : ancestor ≡ array.get_ancestor nodes node slot) where
+  module _ (sound : IsStore store) (slot ancestor : ℕ) (late : first_slot store.blocks ≤ slot) (is : ancestor ≡ array.get_ancestor nodes node slot) where
     ancestor_number : node_number store.blocks (get_ancestor store root slot) ≡ Some ancestor
     ancestor_number =
-        get_ancestor_number store sound.tree are.rooted.begins root node slot (sym at)
+        get_ancestor_number store sound.tree root node slot late (sym at)
         ∙ ap (λ (ns : List Node). Some (array.get_ancestor ns node slot)) (sym are.same)
         ∙ ap Some (sym is)
 
@@ -70,7 +70,7 @@ pub ruleset walking = (node_inside, ancestor_fits, ancestor_is, walk_nowhere)
 -- ---- the nodes of an array
 
 pub array_nodes : (store : Store) (a : PlainArray) → IsArrayOf store a → length store.blocks < 2 ^ 32 → AreNodesOf store.blocks a.nodes
-array_nodes store a is few = record { same = is.nodes; rooted = is.rooted; few = few }
+array_nodes store a is few = record { same = is.nodes; named = is.named; few = few }
 
 pub whole_nodes : (store : Store) (a : PlainArray) (ready : Option Balances) → IsWhole store a ready → AreNodesOf store.blocks a.nodes
 whole_nodes store a ready whole = array_nodes store a whole.array_of whole.few

@@ -42,24 +42,14 @@ unfoldable pub nodes_behind : List KeptBlock → List KeptBlock → List Node
 nodes_behind before [] = []
 nodes_behind before (kept ∷ later) = node_of before kept ∷ nodes_behind (before ++ kept ∷ []) later
 
--- all kept blocks as nodes. The first one has no parent
+-- all kept blocks as nodes. The first one has no parent, whatever root its block names
 unfoldable pub nodes_of : List KeptBlock → List Node
 nodes_of blocks = nodes_behind [] blocks
 
--- the first block is of slot 0 and has the zero root as its parent's
-unfoldable pub BeginsAtZero : List KeptBlock → Type 0
-BeginsAtZero [] = Unit {0}
-BeginsAtZero (first ∷ later) = (first.block.slot ≡ 0) × (first.block.parent_root ≡ zero_root)
-
--- and no block has the zero root: so the first block is no block's child
-pub record IsRooted (blocks : List KeptBlock) : Type 0 where
-  pub begins : BeginsAtZero blocks
-  pub named : is_kept blocks zero_root ≡ false
-
--- these nodes are those of the blocks, of which there are fewer than 2^32
+-- these nodes are those of the blocks, none of which has the zero root, and there are fewer than 2^32
 pub record AreNodesOf (blocks : List KeptBlock) (nodes : List Node) : Type 0 where
   pub same : nodes ≡ nodes_of blocks
-  pub rooted : IsRooted blocks
+  pub named : is_kept blocks zero_root ≡ false
   pub few : length blocks < 2 ^ 32
 
 -- the boosted node is that of the boosted block; there is none where the root is zero
@@ -115,13 +105,13 @@ balances_at array = record { list = array.balances; count = array.active_count; 
 -- ---- the array of a store
 
 -- Each field of the array by the store's: the balances are those of the justified checkpoint's state, and a message names the
--- number of the node whose root the store's message names. What was changed since weights were made, and what room there is,
+-- number of the node whose root the store's message names. No block has the zero root. What was changed since weights were made, and what room there is,
 -- is left open
 pub record IsArrayOf (store : Store) (array : PlainArray) : Type 0 where
   pub slots_per_epoch : array.slots_per_epoch ≡ store.config.preset.slots_per_epoch
   pub percent : array.proposer_score_boost ≡ store.config.proposer_score_boost
   pub nodes : array.nodes ≡ nodes_of store.blocks
-  pub rooted : IsRooted store.blocks
+  pub named : is_kept store.blocks zero_root ≡ false
   pub messages : store.latest_messages ≡ messages_at array.nodes array.latest_messages
   pub voted : AllByRecursion (IsForNode (length array.nodes)) array.latest_messages
   pub balances : balances_at array ≡ balances_of (store_target_checkpoint_state store store.justified_checkpoint)

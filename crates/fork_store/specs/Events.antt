@@ -1,8 +1,8 @@
 -- How the handler of an event meets its outcome.
 use Rattle.std.specs.Prelude.{◌≡◌, ℕ, List, [], Result, Ok, Err}
-use Rattle.spec_state.specs.declared.plain.PlainState.{PlainState}
 use Rattle.bc_words.specs.Events.{EventOutcome, accepted, StoreStops}
 use Rattle.bc_words.specs.declared.store_stop.StoreStop.{StoreStop}
+use Rattle.spec_state.specs.declared.plain.PlainState.{PlainState}
 use Rattle.spec_fork_choice.specs.OnEvent as plain
 use Rattle.fork_store.specs.declared.on_event.EventKind.{EventKind}
 use Rattle.fork_store.specs.declared.on_event.EventKind.TheVariants.{Tick, SignedBlock, WireAttestation, BlockAttestation}
@@ -21,9 +21,9 @@ abbrev pub accepted_of : Accepted → plain.Accepted
 accepted_of (Block block_in) = plain.block block_in
 accepted_of Other = plain.other
 
--- the states that were entered on the way to an accepted block
+-- the states on which epoch processing was entered by an accepted event: a block's, and none where it is no block
 abbrev pub entered_of : plain.Accepted → List PlainState
-entered_of (plain.block given) = given.entered
+entered_of (plain.block block_in) = block_in.entered
 entered_of plain.other = []
 
 -- A handler made the outcome's store of what it was lent and answers what stands beside it, seen by view, and leaves the

@@ -1,4 +1,4 @@
--- What the keeper of a store has of each kept block but that of genesis: it stands behind its parent by the step of the parent's
+-- What the keeper of a store has of each kept block but the first one: it stands behind its parent by the step of the parent's
 -- state (beacon-chain.md, "Beacon chain state transition function").
 use Rattle.std.specs.Prelude.{◌≡◌, ℕ, ◌<◌, Some, slice_get}
 use Rattle.bc_words.specs.Outcome.{done}

@@ -1,3 +1,4 @@
+pub mod Anchors
 pub mod Arrays
 pub mod ChainStep
 pub mod Done

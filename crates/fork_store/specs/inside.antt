@@ -4,10 +4,10 @@ pub mod Boosts
 pub mod Chains
 pub mod CheckpointStates
 pub mod Following
-pub mod Genesis
 pub mod Keepers
 pub mod Kept
 pub mod Messages
+pub mod Openings
 pub mod Plain
 pub mod Votes
 pub mod Weights

@@ -1,4 +1,4 @@
-//! The kept blocks in the order of their acceptance, looked up by their roots: each goes by its place, that of genesis being 0.
+//! The kept blocks in the order of their acceptance, looked up by their roots: each goes by its place, the first one being 0.
 //!
 //! Blocks come from the handlers of the store, and go with their states to the keeper; a root is looked up here.
 
@@ -67,7 +67,7 @@ impl KeptBlocks {
     ghost use Rattle.fork_store.specs.Roots.{roots_of};
 
     /// The one block of a keeper, with this root.
-    pub fn at_genesis(
+    pub fn of_first(
         alloc: Global,
         keeper: &Keeper<ChainStepper>,
         root: Root,
@@ -105,7 +105,7 @@ impl KeptBlocks {
         self.roots.as_slice()
     }
 
-    /// The number of the block of a root, that of genesis being 0. None exactly where the root isn't kept.
+    /// The number of the block of a root, the first one being 0. None exactly where the root isn't kept.
     pub fn node_number(&self, root: Root) -> Option<usize>
         ensures { result ≡ node_number self.now root }
     {

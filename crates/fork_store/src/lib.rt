@@ -5,6 +5,7 @@
 //! needed them. A file has the name of the published function that it holds, where there is one.
 #![tactic(auto)]
 
+mod anchor;
 mod array_laws;
 mod block_in;
 mod chain_stepper;
@@ -32,6 +33,7 @@ mod store_target_checkpoint_state;
 mod update_latest_messages;
 mod validate_on_attestation;
 
+pub use anchor::{AnchorStop, anchor_check};
 pub use array_laws::array_agrees;
 pub use block_in::BlockIn;
 pub use chain_stepper::ChainStepper;

@@ -17,7 +17,7 @@ ghost use Rattle.fork_store.specs.inside.Following.{may_move, AreGiven};
 ghost use Rattle.fork_store.specs.Keepers.{IsKeeperOf};
 ghost use Rattle.fork_store.specs.inside.Keepers.{IsStepOn, IsStateBehind};
 ghost use Rattle.fork_store.specs.Stays.{ArrayStays, KeeperStays};
-ghost use Rattle.fork_store.specs.Stores.{IsKept, IsRootOf, IsBehind};
+ghost use Rattle.fork_store.specs.Stores.{IsKept, IsLate, IsRootOf, IsBehind, first_epoch};
 ghost use Rattle.fork_store.specs.Trees.{HasParent};
 ghost use Rattle.spec_fork_choice.specs.Slots.{start_slot_of};
 ghost use Rattle.spec_fork_choice.specs.OnBlock.{with_block, with_accepted, block_step, accept_block, on_block};
@@ -25,6 +25,7 @@ ghost use Rattle.spec_fork_choice.specs.Clash.{clash_of};
 ghost use Rattle.fork_store.specs.Events.{Accepts};
 ghost use Rattle.fork_store.specs.Done.{IsDone};
 ghost use Rattle.fork_store.specs.Seen.{StoreStays};
+ghost use Rattle.transition.specs.Shown.{shown_all};
 
 use crate::block_in::BlockIn;
 use crate::chain_stepper::ChainStepper;
@@ -48,8 +49,8 @@ use block_array::{BlockArray, Facts};
 use hash_tree::Root;
 use state_keeper::Keeper;
 use std::alloc::Global;
-use transition::Step;
-use transition::state_transition::state_transition;
+use transition::state_transition::visit_step;
+use transition::{Seen, Step, Visitor, Watched};
 
 /// The checks of a block whose parent is the kept block of this number.
 #[tactic(auto, unfolding(crate::specs::inside::Accepted::check_block))]
@@ -78,15 +79,17 @@ pub fn check_block(
     Ok(())
 }
 
-/// The step of the state behind a block's kept parent by the block, whose checks passed.
-fn step_from(
+/// The step of the state behind a block's kept parent by the block, whose checks passed. The visitor is shown the states that it enters.
+fn step_from<V: Visitor>(
     alloc: Global,
     store: &StoreFields,
     parent: &State,
     block: &SignedBeaconBlock,
+    visitor: &mut Watched<V>,
 ) -> Result<Step, Stop>
     requires chained { IsChained store.now }
     requires parent { IsStateBehind store.now.blocks block.now.message.parent_root parent.now }
+    requires low { block.now.message.slot < 2 ^ 64 }
     requires checked { IsDone (check_block store.now block.now.message) }
     ensures step { Gives result (block_step store.now block.now) }
     ensures behind { IfOk result (λ step. IsBehind block.now.message step.state) }
@@ -94,15 +97,16 @@ fn step_from(
     ensures parent { IfOk result (λ _. HasParent store.now.blocks block.now.message) }
     ensures linked { IfOk result (λ step. IsLinked store.now.config store.now.blocks step.state) }
     ensures stepped { IfOk result (λ step. IsStepOn store.now.config store.now.blocks block.now step.state) }
+    ensures shown { IfOk result (λ step. visitor.new.visitor ≡ shown_all V.shown visitor.old.visitor step.entered) }
 {
     store.is_sound();
-    let step = state_transition(alloc, parent, block, store.config())?;
+    let step = visit_step(alloc, parent, block, store.config(), visitor)?;
     Ok(step)
 }
 
 /// The number of a block's parent. Refused where it isn't kept.
 #[tactic(auto, using(crate::proofs::Stepping::parent_unknown))]
-fn parent_of(store: &StoreFields, block: &SignedBeaconBlock) -> Result<u32, Stop>
+fn parent_number(store: &StoreFields, block: &SignedBeaconBlock) -> Result<u32, Stop>
     requires few { length store.now.blocks < 2 ^ 32 }
     ensures number { IfOk result (λ parent. Some parent ≡ node_number store.now.blocks block.now.message.parent_root) }
     ensures unknown { IfErr result (λ stop. Stops stop (block_step store.now block.now)) }
@@ -113,15 +117,17 @@ fn parent_of(store: &StoreFields, block: &SignedBeaconBlock) -> Result<u32, Stop
     }
 }
 
-/// The checks of a block whose parent's number is known, and the step of the parent's state by it. The keeper is as before.
+/// The checks of a block whose parent's number is known, and the step of the parent's state by it. The visitor is shown the states
+/// that it enters. The keeper is as before.
 #[tactic(auto, using(crate::proofs::Stepping::check_stops))]
-fn block_step(
+fn block_step<V: Visitor>(
     alloc: Global,
     store: &StoreFields,
     keeper: &mut Keeper<ChainStepper>,
     array: &BlockArray,
     parent: u32,
     block: &SignedBeaconBlock,
+    visitor: &mut Watched<V>,
 ) -> Result<Step, Stop>
     requires number { Some parent ≡ node_number store.now.blocks block.now.message.parent_root }
     requires nodes { AreNodesOf store.now.blocks array.now.nodes }
@@ -133,11 +139,13 @@ fn block_step(
     ensures parent { IfOk result (λ _. HasParent store.now.blocks block.now.message) }
     ensures linked { IfOk result (λ step. IsLinked store.now.config store.now.blocks step.state) }
     ensures stepped { IfOk result (λ step. IsStepOn store.now.config store.now.blocks block.now step.state) }
+    ensures shown { IfOk result (λ step. visitor.new.visitor ≡ shown_all V.shown visitor.old.visitor step.entered) }
     ensures same { keeper.new ≡ keeper.old }
 {
+    let _slot = block.message.slot;
     check_block(store, array, parent, &block.message)?;
     match kept_state(store.blocks(), keeper, parent) {
-        Ok(state) => step_from(alloc, store, &state, block),
+        Ok(state) => step_from(alloc, store, &state, block, visitor),
         Err(_) => Err(Stop::NoMemory),
     }
 }
@@ -146,6 +154,7 @@ fn block_step(
 #[tactic(auto, unfolding(crate::specs::inside::Accepted::finalized_by))]
 fn finalize(store: &mut StoreFields, finalized: Checkpoint, justified: Checkpoint)
     requires low { start_slot_of store.old justified < 2 ^ 64 }
+    requires late { first_epoch store.old.config.preset store.old.blocks < finalized.epoch → IsLate store.old justified }
     ensures { store.new ≡ finalized_by store.old finalized justified }
 {
     if store.finalized().epoch < finalized.epoch {
@@ -166,6 +175,7 @@ fn settle(
 )
     requires nodes { AreNodesOf store.old.blocks array.now.nodes }
     requires low { start_slot_of store.old justified < 2 ^ 64 }
+    requires late { first_epoch store.old.config.preset store.old.blocks < finalized.epoch → IsLate store.old justified }
     ensures { store.new ≡ settled store.old slot root justified finalized }
 {
     boost(store, slot, root);
@@ -317,6 +327,7 @@ fn settle_whole(
     facts: Facts,
 )
     requires low { start_slot_of store.old facts.justified < 2 ^ 64 }
+    requires late { first_epoch store.old.config.preset store.old.blocks < facts.finalized.epoch → IsLate store.old facts.justified }
     requires few { length store.old.blocks < 2 ^ 32 }
     requires array { IsArrayOf store.old array.old }
     requires ready { IsReady store.old ready.old }
@@ -364,6 +375,7 @@ fn accept(
     ensures array_stays { IfErr result (λ _. ArrayStays array.old array.new) }
     ensures keeper_stays { IfErr result (λ _. KeeperStays keeper.old keeper.new) }
 {
+    store.is_sound();
     let _slot = state.slot();
     let mut given = prepare(alloc, store, keeper, facts)?;
     keep_block(
@@ -397,6 +409,7 @@ fn accept_unless(
     requires linked { IsLinked store.old.config store.old.blocks step.state }
     requires stepped { IsStepOn store.old.config store.old.blocks block.now step.state }
     ensures exact { Accepts result store.old store.new (accept_block store.old block.now.message root step (clash_of store.old.blocks root block.now.message.state_root block.now.message)) }
+    ensures entered { IfOk result (λ given. given.entered ≡ step.entered) }
     ensures parts { AreParts store.new array.new keeper.new ready.new }
     ensures balances_set_stays { store.new.justified_checkpoint ≡ store.old.justified_checkpoint → array.new.balances_set ≡ array.old.balances_set }
     ensures array_stays { IfErr result (λ _. ArrayStays array.old array.new) }
@@ -427,26 +440,28 @@ fn accept_unless(
 ///
 /// Refused, in this order: as `ParentUnknown`, `FutureBlock`, `BeforeFinalized`, `NotOnFinalized`, and as the state transition is.
 /// Limited as that is too. A clash comes last, where the block's root or state root is zero or another block of its root is kept.
-/// Where the justified checkpoint stays, the array is given no balances.
+/// Where the justified checkpoint stays, the array is given no balances. The visitor was shown the states that an accepted block entered.
 #[tactic(auto, unfolding(spec_fork_choice::specs::OnBlock::on_block, crate::specs::Stores::IsRootOf, spec_transition::specs::StateTransition::IsLatest))]
-fn on_block(
+fn on_block<V: Visitor>(
     alloc: Global,
     store: &mut StoreFields,
     keeper: &mut Keeper<ChainStepper>,
     array: &mut BlockArray,
     ready: &mut Option<ReadyBalances>,
     block: &SignedBeaconBlock,
+    visitor: &mut Watched<V>,
 ) -> Result<BlockIn, StoreStop>
     requires parts { AreParts store.old array.old keeper.old ready.old }
     requires few { length store.old.blocks < 2 ^ 32 - 1 }
     ensures exact { Accepts result store.old store.new (on_block store.old block.now) }
+    ensures shown { IfOk result (λ given. visitor.new.visitor ≡ shown_all V.shown visitor.old.visitor given.entered) }
     ensures parts { AreParts store.new array.new keeper.new ready.new }
     ensures balances_set_stays { store.new.justified_checkpoint ≡ store.old.justified_checkpoint → array.new.balances_set ≡ array.old.balances_set }
     ensures array_stays { IfErr result (λ _. ArrayStays array.old array.new) }
     ensures keeper_stays { IfErr result (λ _. KeeperStays keeper.old keeper.new) }
 {
-    let parent = parent_of(store, block)?;
-    let step = block_step(alloc, store, keeper, array, parent, block)?;
+    let parent = parent_number(store, block)?;
+    let step = block_step(alloc, store, keeper, array, parent, block, visitor)?;
     // the header behind the block is the block's, so the body isn't hashed once more
     let root = step.state.header_root();
     accept_unless(
@@ -455,6 +470,32 @@ fn on_block(
 }
 
 impl Store {
+    /// Takes a block as `on_block` does, and shows a visitor each state on which epoch processing is entered on the way to the state
+    /// behind it: where the block is accepted, it was shown all of them, also where the block was kept already. It is shown them
+    /// as they are made, so where the block isn't accepted it may have been shown the first of them.
+    pub fn visit_block<V: Visitor>(
+        &mut self,
+        alloc: Global,
+        block: &SignedBeaconBlock,
+        visitor: &mut Watched<V>,
+    ) -> Result<BlockIn, StoreStop>
+        requires few { length self.old.plain.blocks < 2 ^ 32 - 1 }
+        ensures exact { Accepts result self.old.plain self.new.plain (on_block self.old.plain block.now) }
+        ensures shown { IfOk result (λ given. visitor.new.visitor ≡ shown_all V.shown visitor.old.visitor given.entered) }
+        ensures balances_set_stays { self.new.plain.justified_checkpoint ≡ self.old.plain.justified_checkpoint → self.new.array.balances_set ≡ self.old.array.balances_set }
+        ensures stays { IfErr result (λ _. StoreStays self.old self.new) }
+    {
+        on_block(
+            alloc,
+            &mut self.fields,
+            &mut self.keeper,
+            &mut self.array,
+            &mut self.ready,
+            block,
+            visitor,
+        )
+    }
+
     /// Takes a block (fork-choice.md, `on_block`): it is checked, its parent's state is taken through it, and it is kept. The
     /// signature isn't checked. Wherever the block isn't accepted, all is as before but for room that was made.
     ///
@@ -471,13 +512,7 @@ impl Store {
         ensures balances_set_stays { self.new.plain.justified_checkpoint ≡ self.old.plain.justified_checkpoint → self.new.array.balances_set ≡ self.old.array.balances_set }
         ensures stays { IfErr result (λ _. StoreStays self.old self.new) }
     {
-        on_block(
-            alloc,
-            &mut self.fields,
-            &mut self.keeper,
-            &mut self.array,
-            &mut self.ready,
-            block,
-        )
+        let mut visitor = Watched::new(Seen::new());
+        self.visit_block(alloc, block, &mut visitor)
     }
 }

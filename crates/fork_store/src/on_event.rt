@@ -2,14 +2,14 @@
 //!
 //! The payload's bytes come from a record; the store changes, and what an accepted block leaves goes to the event's line.
 
-ghost use Rattle.std.specs.Prelude.{◌≡◌, ◌≢◌, ◌<◌, ◌≤◌, ◌-◌, ◌^◌, Some, length, IfOk, IfErr};
-ghost use Rattle.transition.specs.Shown.{shown_all};
+ghost use Rattle.std.specs.Prelude.{◌≡◌, ◌≢◌, ◌<◌, ◌≤◌, ◌-◌, ◌^◌, Some, length, IfErr, IfOk};
 ghost use Rattle.beacon_body.specs.Containers.{signed_block_codec, attestation_codec};
 ghost use Rattle.spec_fork_choice.specs.OnTick.{on_tick};
 ghost use Rattle.spec_fork_choice.specs.OnAttestation.{on_attestation};
 ghost use Rattle.spec_fork_choice.specs.OnEvent.{without_block, handle_tick, handle_block, handle_attestation, on_event};
 ghost use Rattle.fork_store.specs.Events.{AcceptsBy, accepted_of, entered_of, number_of_kind};
 ghost use Rattle.fork_store.specs.Seen.{StoreStays};
+ghost use Rattle.transition.specs.Shown.{shown_all};
 
 use crate::block_in::BlockIn;
 use crate::store::Store;
@@ -17,7 +17,7 @@ use bc_words::{Refusal, StoreStop};
 use beacon_body::{Attestation, SignedBeaconBlock};
 use ssz_codec::{Ssz, SszFault};
 use std::alloc::Global;
-use transition::Visitor;
+use transition::{Seen, Visitor, Watched};
 
 /// The kinds of events.
 #[derive(Clone, Copy)]
@@ -62,6 +62,7 @@ pub enum Accepted {
 #[tactic(auto, using(crate::proofs::Events::ticking))]
 fn take_tick(store: &mut Store, time: u64) -> Result<Accepted, StoreStop>
     ensures exact { AcceptsBy accepted_of result store.old.plain store.new.plain (without_block (on_tick store.old.plain time)) }
+    ensures other { IfOk result (λ given. given ≡ Accepted.Other) }
     ensures balances_set_stays { store.new.plain.justified_checkpoint ≡ store.old.plain.justified_checkpoint → store.new.array.balances_set ≡ store.old.array.balances_set }
     ensures stays { IfErr result (λ _. StoreStays store.old store.new) }
 {
@@ -75,6 +76,7 @@ fn take_tick(store: &mut Store, time: u64) -> Result<Accepted, StoreStop>
 #[tactic(auto, unfolding(spec_fork_choice::specs::OnEvent::handle_tick), using(crate::proofs::StoreStays::unchanged))]
 fn handle_tick(store: &mut Store, payload: &[u8]) -> Result<Accepted, StoreStop>
     ensures exact { AcceptsBy accepted_of result store.old.plain store.new.plain (handle_tick store.old.plain payload.now) }
+    ensures other { IfOk result (λ given. given ≡ Accepted.Other) }
     ensures balances_set_stays { store.new.plain.justified_checkpoint ≡ store.old.plain.justified_checkpoint → store.new.array.balances_set ≡ store.old.array.balances_set }
     ensures stays { IfErr result (λ _. StoreStays store.old store.new) }
 {
@@ -86,31 +88,39 @@ fn handle_tick(store: &mut Store, payload: &[u8]) -> Result<Accepted, StoreStop>
     }
 }
 
-/// Takes a signed block.
+/// Takes a signed block, and shows a visitor the states that it entered.
 #[tactic(auto, unfolding(spec_fork_choice::specs::OnEvent::handle_block), using(crate::proofs::Events::blocks))]
-fn take_block(
+fn take_block<V: Visitor>(
     alloc: Global,
     store: &mut Store,
     block: &SignedBeaconBlock,
+    visitor: &mut Watched<V>,
 ) -> Result<Accepted, StoreStop>
     requires few { length store.old.plain.blocks < 2 ^ 32 - 1 }
     ensures exact { AcceptsBy accepted_of result store.old.plain store.new.plain (handle_block store.old.plain (Some block.now)) }
+    ensures shown { IfOk result (λ given. visitor.new.visitor ≡ shown_all V.shown visitor.old.visitor (entered_of (accepted_of given))) }
     ensures balances_set_stays { store.new.plain.justified_checkpoint ≡ store.old.plain.justified_checkpoint → store.new.array.balances_set ≡ store.old.array.balances_set }
     ensures stays { IfErr result (λ _. StoreStays store.old store.new) }
 {
-    Ok(Accepted::Block(store.on_block(alloc, block)?))
+    Ok(Accepted::Block(store.visit_block(alloc, block, visitor)?))
 }
 
-/// Takes a signed block, whose payload is its writing.
+/// Takes a signed block, whose payload is its writing, and shows a visitor the states that it entered.
 #[tactic(auto, unfolding(spec_fork_choice::specs::OnEvent::handle_block), using(crate::proofs::StoreStays::unchanged))]
-fn handle_block(alloc: Global, store: &mut Store, payload: &[u8]) -> Result<Accepted, StoreStop>
+fn handle_block<V: Visitor>(
+    alloc: Global,
+    store: &mut Store,
+    payload: &[u8],
+    visitor: &mut Watched<V>,
+) -> Result<Accepted, StoreStop>
     requires few { length store.old.plain.blocks < 2 ^ 32 - 1 }
     ensures exact { AcceptsBy accepted_of result store.old.plain store.new.plain (handle_block store.old.plain (signed_block_codec.deserialize payload.now)) }
+    ensures shown { IfOk result (λ given. visitor.new.visitor ≡ shown_all V.shown visitor.old.visitor (entered_of (accepted_of given))) }
     ensures balances_set_stays { store.new.plain.justified_checkpoint ≡ store.old.plain.justified_checkpoint → store.new.array.balances_set ≡ store.old.array.balances_set }
     ensures stays { IfErr result (λ _. StoreStays store.old store.new) }
 {
     match SignedBeaconBlock::read(alloc, payload) {
-        Ok(block) => take_block(alloc, store, &block),
+        Ok(block) => take_block(alloc, store, &block, visitor),
         Err(SszFault::NotAWriting) => Err(StoreStop::Refused(Refusal::Malformed)),
         Err(SszFault::NoMemory) => Err(StoreStop::NoMemory),
     }
@@ -125,6 +135,7 @@ fn take_attestation(
     from_block: bool,
 ) -> Result<Accepted, StoreStop>
     ensures exact { AcceptsBy accepted_of result store.old.plain store.new.plain (without_block (on_attestation store.old.plain attestation.now from_block)) }
+    ensures other { IfOk result (λ given. given ≡ Accepted.Other) }
     ensures balances_set_stays { store.new.plain.justified_checkpoint ≡ store.old.plain.justified_checkpoint → store.new.array.balances_set ≡ store.old.array.balances_set }
     ensures stays { IfErr result (λ _. StoreStays store.old store.new) }
 {
@@ -143,6 +154,7 @@ fn handle_attestation(
     from_block: bool,
 ) -> Result<Accepted, StoreStop>
     ensures exact { AcceptsBy accepted_of result store.old.plain store.new.plain (handle_attestation store.old.plain from_block (attestation_codec.deserialize payload.now)) }
+    ensures other { IfOk result (λ given. given ≡ Accepted.Other) }
     ensures balances_set_stays { store.new.plain.justified_checkpoint ≡ store.old.plain.justified_checkpoint → store.new.array.balances_set ≡ store.old.array.balances_set }
     ensures stays { IfErr result (λ _. StoreStays store.old store.new) }
 {
@@ -154,12 +166,58 @@ fn handle_attestation(
 }
 
 impl Store {
+    /// Takes an event of a kind as `take_event` does, and shows a visitor each state on which epoch processing is entered by a block.
+    #[tactic(auto, unfolding(spec_fork_choice::specs::OnEvent::on_event, crate::specs::Events::number_of_kind, transition::specs::Shown::shown_all))]
+    fn visit_kind<V: Visitor>(
+        &mut self,
+        alloc: Global,
+        kind: EventKind,
+        payload: &[u8],
+        visitor: &mut Watched<V>,
+    ) -> Result<Accepted, StoreStop>
+        requires few { length self.old.plain.blocks < 2 ^ 32 - 1 }
+        ensures exact { AcceptsBy accepted_of result self.old.plain self.new.plain (on_event self.old.plain (number_of_kind kind) payload.now) }
+        ensures shown { IfOk result (λ given. visitor.new.visitor ≡ shown_all V.shown visitor.old.visitor (entered_of (accepted_of given))) }
+        ensures no_block { number_of_kind kind ≢ 2 → visitor.new.visitor ≡ visitor.old.visitor }
+        ensures balances_set_stays { self.new.plain.justified_checkpoint ≡ self.old.plain.justified_checkpoint → self.new.array.balances_set ≡ self.old.array.balances_set }
+        ensures stays { IfErr result (λ _. StoreStays self.old self.new) }
+    {
+        match kind {
+            EventKind::Tick => handle_tick(self, payload),
+            EventKind::SignedBlock => handle_block(alloc, self, payload, visitor),
+            EventKind::WireAttestation => handle_attestation(alloc, self, payload, false),
+            EventKind::BlockAttestation => handle_attestation(alloc, self, payload, true),
+        }
+    }
+
+    /// Takes an event by the number of its kind as `on_event` does, and shows a visitor each state on which epoch processing is
+    /// entered on the way to the state behind a block: where the event is accepted, it was shown all of them, also where its block
+    /// was kept already, and none where the event is no block. It is shown them as they are made, so where a block isn't accepted
+    /// it may have been shown the first of them.
+    pub fn visit_event<V: Visitor>(
+        &mut self,
+        alloc: Global,
+        kind: u8,
+        payload: &[u8],
+        visitor: &mut Watched<V>,
+    ) -> Result<Accepted, StoreStop>
+        requires few { length self.old.plain.blocks < 2 ^ 32 - 1 }
+        requires first { 1 ≤ kind }
+        requires last { kind ≤ 4 }
+        ensures exact { AcceptsBy accepted_of result self.old.plain self.new.plain (on_event self.old.plain kind payload.now) }
+        ensures shown { IfOk result (λ given. visitor.new.visitor ≡ shown_all V.shown visitor.old.visitor (entered_of (accepted_of given))) }
+        ensures no_block { kind ≢ 2 → visitor.new.visitor ≡ visitor.old.visitor }
+        ensures balances_set_stays { self.new.plain.justified_checkpoint ≡ self.old.plain.justified_checkpoint → self.new.array.balances_set ≡ self.old.array.balances_set }
+        ensures stays { IfErr result (λ _. StoreStays self.old self.new) }
+    {
+        self.visit_kind(alloc, EventKind::of(kind), payload, visitor)
+    }
+
     /// Takes an event of a kind. The block of an accepted block event is answered, and nothing for the others.
     ///
     /// Refused as `Malformed` where the payload isn't the writing of such an event, and refused, limited and clashing as its
     /// handler is. After a stop all is as before but for room that was made. Where the justified checkpoint stays, the array is given no
     /// balances.
-    #[tactic(auto, unfolding(spec_fork_choice::specs::OnEvent::on_event, crate::specs::Events::number_of_kind))]
     pub fn take_event(
         &mut self,
         alloc: Global,
@@ -171,32 +229,8 @@ impl Store {
         ensures balances_set_stays { self.new.plain.justified_checkpoint ≡ self.old.plain.justified_checkpoint → self.new.array.balances_set ≡ self.old.array.balances_set }
         ensures stays { IfErr result (λ _. StoreStays self.old self.new) }
     {
-        match kind {
-            EventKind::Tick => handle_tick(self, payload),
-            EventKind::SignedBlock => handle_block(alloc, self, payload),
-            EventKind::WireAttestation => handle_attestation(alloc, self, payload, false),
-            EventKind::BlockAttestation => handle_attestation(alloc, self, payload, true),
-        }
-    }
-
-    /// Stub.
-    pub fn visit_event<V: Visitor>(
-        &mut self,
-        alloc: Global,
-        kind: u8,
-        payload: &[u8],
-        visitor: &mut V,
-    ) -> Result<Accepted, StoreStop>
-        requires few { length self.old.plain.blocks < 2 ^ 32 - 1 }
-        requires first { 1 ≤ kind }
-        requires last { kind ≤ 4 }
-        ensures exact { AcceptsBy accepted_of result self.old.plain self.new.plain (on_event self.old.plain kind payload.now) }
-        ensures shown { IfOk result (λ given. visitor.new ≡ shown_all V.shown visitor.old (entered_of (accepted_of given))) }
-        ensures no_block { kind ≢ 2 → visitor.new ≡ visitor.old }
-        ensures balances_set_stays { self.new.plain.justified_checkpoint ≡ self.old.plain.justified_checkpoint → self.new.array.balances_set ≡ self.old.array.balances_set }
-        ensures stays { IfErr result (λ _. StoreStays self.old self.new) }
-    {
-        Err(StoreStop::NoMemory)
+        let mut visitor = Watched::new(Seen::new());
+        self.visit_kind(alloc, kind, payload, &mut visitor)
     }
 
     /// Takes an event by the number of its kind in a record, 1 to 4, as `take_event` does.

@@ -5,6 +5,7 @@ ghost use Rattle.spec_fork_choice.specs.Slots.{start_slot_of};
 ghost use Rattle.std.specs.Prelude.{◌≡◌, ◌<◌, ◌^◌};
 ghost use Rattle.fork_store.specs.inside.Accepted.{boosted, justified_by};
 ghost use Rattle.fork_store.specs.Arrays.{AreNodesOf};
+ghost use Rattle.fork_store.specs.Stores.{IsLate};
 ghost use Rattle.fork_store.specs.inside.Following.{may_move};
 
 use crate::should_update_justified_checkpoint::should_update_justified_checkpoint;
@@ -62,6 +63,7 @@ pub fn boost(store: &mut StoreFields, slot: u64, root: Root)
 #[tactic(auto, unfolding(spec_fork_choice::specs::OnBlock::with_best_justified))]
 fn take_best(store: &mut StoreFields, checkpoint: Checkpoint)
     requires low { start_slot_of store.old checkpoint < 2 ^ 64 }
+    requires late { IsLate store.old checkpoint }
     ensures exact { store.new ≡ with_best_justified store.old checkpoint }
     ensures config { store.new.config ≡ store.old.config }
     ensures blocks { store.new.blocks ≡ store.old.blocks }
@@ -76,8 +78,10 @@ fn take_best(store: &mut StoreFields, checkpoint: Checkpoint)
 fn take_better(store: &mut StoreFields, array: &BlockArray, checkpoint: Checkpoint)
     requires nodes { AreNodesOf store.old.blocks array.now.nodes }
     requires low { start_slot_of store.old checkpoint < 2 ^ 64 }
+    requires late { IsLate store.old checkpoint }
     ensures exact { store.new ≡ with_better_justified store.old checkpoint }
     ensures config { store.new.config ≡ store.old.config }
+    ensures blocks { store.new.blocks ≡ store.old.blocks }
 {
     take_best(store, checkpoint);
     if should_update_justified_checkpoint(store, array, checkpoint) {
@@ -92,6 +96,7 @@ pub fn justify(store: &mut StoreFields, array: &BlockArray, checkpoint: Checkpoi
     requires low { start_slot_of store.old checkpoint < 2 ^ 64 }
     ensures exact { store.new ≡ justified_by store.old checkpoint }
     ensures config { store.new.config ≡ store.old.config }
+    ensures blocks { store.new.blocks ≡ store.old.blocks }
 {
     if store.justified().epoch < checkpoint.epoch {
         take_better(store, array, checkpoint);

@@ -93,7 +93,7 @@ impl Store {
         let _store = &self.fields;
     }
 
-    /// The law that each kept block but that of genesis is the keeper's of its number, behind its parent's, and that the state behind it is
+    /// The law that each kept block but the first one is the keeper's of its number, behind its parent's, and that the state behind it is
     /// the step of its parent's state by it. Where it comes again, the states that it leaves are those that this step entered. It does
     /// nothing when it runs.
     pub fn steps_were_taken(&self)
@@ -117,7 +117,7 @@ impl Store {
         self.fields.finalized()
     }
 
-    /// The roots of the kept blocks in the order of their acceptance, that of genesis first.
+    /// The roots of the kept blocks in the order of their acceptance, the one that the store opened at first.
     pub fn accepted(&self) -> &[Root]
         ensures { result.now ≡ roots_of self.now.plain.blocks }
     {

@@ -1,6 +1,6 @@
 //! The fields of the store of fork choice (fork-choice.md, "Store").
 //!
-//! They come from genesis, and the handlers of events change them.
+//! They come from an anchor or genesis, and the handlers of events change them.
 
 ghost use Rattle.std.specs.Prelude.{◌≡◌, ◌∷◌, ◌++◌, ◌≤◌, ◌<◌, ◌-◌, ◌^◌, [], length, Some, IfErr, IfSome};
 ghost use Rattle.bc_words.specs.Outcome.{Becomes};
@@ -10,12 +10,13 @@ ghost use Rattle.fork_store.specs.inside.Accepted.{kept_of};
 ghost use Rattle.fork_store.specs.Keepers.{IsKeeperOf};
 ghost use Rattle.fork_store.specs.inside.Keepers.{IsStepOn};
 ghost use Rattle.fork_store.specs.Stays.{KeeperStays};
-ghost use Rattle.fork_store.specs.Stores.{HasPreset, IsKept, IsStore};
+ghost use Rattle.fork_store.specs.Stores.{HasPreset, IsKept, IsLate, IsStore, first_epoch};
 ghost use Rattle.fork_store.specs.Trees.{Follows, IsTree};
-ghost use Rattle.spec_fork_choice.specs.Store.{is_kept};
+ghost use Rattle.spec_fork_choice.specs.Store.{first_slot, is_kept};
 ghost use Rattle.spec_fork_choice.specs.Slots.{start_slot_of};
+ghost use Rattle.spec_state.specs.Misc.{compute_start_slot_at_epoch};
 ghost use Rattle.fork_store.specs.Arrays.{messages_at, node_number};
-ghost use Rattle.fork_store.specs.inside.Genesis.{at_genesis};
+ghost use Rattle.fork_store.specs.inside.Openings.{as_opened};
 ghost use Rattle.fork_store.specs.inside.CheckpointStates.{IsStateOf};
 
 use crate::chain_stepper::ChainStepper;
@@ -86,24 +87,28 @@ impl Model for StoreFields {
 }
 
 impl StoreFields {
-    /// The store at genesis: its time and its three checkpoints are these, and there is no boost.
-    pub fn at_genesis(
+    /// The store as it opens: its times and its three checkpoints are these, and there is no boost.
+    pub fn as_opened(
         config: Config,
         time: u64,
+        genesis_time: u64,
         checkpoint: Checkpoint,
         blocks: KeptBlocks,
         states: CheckpointStates,
     ) -> StoreFields
         requires presets { AllByRecursion (HasPreset config.preset) blocks }
         requires tree { IsTree blocks }
-        requires first { checkpoint.epoch ≡ 0 }
+        requires later { genesis_time ≤ time }
+        requires low { compute_start_slot_at_epoch config.preset checkpoint.epoch < 2 ^ 64 }
+        requires begins { compute_start_slot_at_epoch config.preset (first_epoch config.preset blocks) ≡ first_slot blocks }
+        requires late { first_epoch config.preset blocks ≤ checkpoint.epoch }
         requires none { states ≡ [] }
-        ensures { result ≡ at_genesis config time checkpoint blocks [] }
+        ensures { result ≡ as_opened config time genesis_time checkpoint blocks [] }
     {
         StoreFields {
             config,
             time,
-            genesis_time: time,
+            genesis_time,
             justified: checkpoint,
             finalized: checkpoint,
             best_justified: checkpoint,
@@ -146,17 +151,23 @@ impl StoreFields {
         self.genesis_time
     }
 
-    /// The justified checkpoint, whose epoch begins at a slot of 64 bits.
+    /// The justified checkpoint, whose epoch begins at a slot of 64 bits, which isn't before the first kept block.
+    #[tactic(auto, using(crate::proofs::FirstSlots::late_start))]
     pub fn justified(&self) -> Checkpoint
         ensures same { result ≡ self.now.justified_checkpoint }
         ensures low { start_slot_of self.now self.now.justified_checkpoint < 2 ^ 64 }
+        ensures epoch { IsLate self.now self.now.justified_checkpoint }
+        ensures late { first_slot self.now.blocks ≤ start_slot_of self.now self.now.justified_checkpoint }
     {
         self.justified
     }
 
-    /// The finalized checkpoint.
+    /// The finalized checkpoint, whose epoch begins no earlier than the first kept block.
+    #[tactic(auto, using(crate::proofs::FirstSlots::late_start))]
     pub fn finalized(&self) -> Checkpoint
-        ensures { result ≡ self.now.finalized_checkpoint }
+        ensures same { result ≡ self.now.finalized_checkpoint }
+        ensures epoch { IsLate self.now self.now.finalized_checkpoint }
+        ensures late { first_slot self.now.blocks ≤ start_slot_of self.now self.now.finalized_checkpoint }
     {
         self.finalized
     }
@@ -165,6 +176,7 @@ impl StoreFields {
     pub fn best_justified(&self) -> Checkpoint
         ensures same { result ≡ self.now.best_justified_checkpoint }
         ensures low { start_slot_of self.now self.now.best_justified_checkpoint < 2 ^ 64 }
+        ensures epoch { IsLate self.now self.now.best_justified_checkpoint }
     {
         self.best_justified
     }
@@ -209,6 +221,7 @@ impl StoreFields {
     /// Takes another justified checkpoint.
     pub fn set_justified(&mut self, checkpoint: Checkpoint)
         requires low { start_slot_of self.old checkpoint < 2 ^ 64 }
+        requires late { IsLate self.old checkpoint }
         ensures { self.new ≡ record self.old { justified_checkpoint = checkpoint } }
     {
         self.justified = checkpoint;
@@ -216,6 +229,7 @@ impl StoreFields {
 
     /// Takes another finalized checkpoint.
     pub fn set_finalized(&mut self, checkpoint: Checkpoint)
+        requires late { IsLate self.old checkpoint }
         ensures { self.new ≡ record self.old { finalized_checkpoint = checkpoint } }
     {
         self.finalized = checkpoint;
@@ -224,6 +238,7 @@ impl StoreFields {
     /// Takes another best justified checkpoint.
     pub fn set_best_justified(&mut self, checkpoint: Checkpoint)
         requires low { start_slot_of self.old checkpoint < 2 ^ 64 }
+        requires late { IsLate self.old checkpoint }
         ensures { self.new ≡ record self.old { best_justified_checkpoint = checkpoint } }
     {
         self.best_justified = checkpoint;

@@ -1,9 +1,9 @@
 //! Whether an attestation may count now (fork-choice.md, "validate_on_attestation").
 
-ghost use Rattle.std.specs.Prelude.{◌≡◌, ◌<◌, ◌^◌, length, OnOk};
+ghost use Rattle.std.specs.Prelude.{◌≡◌, ◌<◌, ◌^◌, true, length, OnOk};
 ghost use Rattle.bc_words.specs.Outcome.{GivesExactly};
 ghost use Rattle.spec_state.specs.Misc.{compute_epoch_at_slot};
-ghost use Rattle.spec_fork_choice.specs.Store.{slot_of};
+ghost use Rattle.spec_fork_choice.specs.Store.{is_kept, slot_of};
 ghost use Rattle.spec_fork_choice.specs.ValidateOnAttestation.{validate_target_epoch_against_current_time, check_time, validate_on_attestation};
 ghost use Rattle.fork_store.specs.Arrays.{AreNodesOf};
 ghost use Rattle.fork_store.specs.Keepers.{kept_blocks};
@@ -75,8 +75,9 @@ fn check_time(
 }
 
 /// Refused where the block that is voted for is later than the vote, where the target isn't on its chain, and where the vote's
-/// slot isn't over.
-#[tactic(auto, unfolding(crate::specs::inside::Votes::check_voted))]
+/// slot isn't over. The target's epoch is that of the vote's slot, and the block is kept: so where it isn't later than the vote, the walk to
+/// the target's slot doesn't go below the first kept block.
+#[tactic(auto, unfolding(crate::specs::inside::Votes::check_voted), using(crate::proofs::FirstSlots::late_target))]
 fn check_voted(
     store: &StoreFields,
     keeper: &Keeper<ChainStepper>,
@@ -85,8 +86,11 @@ fn check_voted(
 ) -> Result<(), Stop>
     requires nodes { AreNodesOf store.now.blocks array.now.nodes }
     requires keeper { kept_blocks keeper.now.blocks ≡ store.now.blocks }
+    requires epoch { compute_epoch_at_slot store.now.config.preset content.now.slot ≡ content.now.target.epoch }
+    requires kept { is_kept store.now.blocks content.now.beacon_block_root ≡ true }
     ensures { GivesExactly result (check_voted store.now content.now) }
 {
+    store.is_sound();
     if content.slot < slot_of(store.blocks(), keeper, content.beacon_block_root) {
         return Err(Stop::Refused(Refusal::FcBlockAfter));
     }
@@ -109,6 +113,7 @@ fn check_known(
 ) -> Result<(), Stop>
     requires nodes { AreNodesOf store.now.blocks array.now.nodes }
     requires keeper { kept_blocks keeper.now.blocks ≡ store.now.blocks }
+    requires epoch { compute_epoch_at_slot store.now.config.preset content.now.slot ≡ content.now.target.epoch }
     ensures { GivesExactly result (check_known store.now content.now) }
 {
     if !store.is_kept(content.target.root) {

@@ -54,7 +54,7 @@ fn stops_by<F: Shelf>(frames: &mut Frames, shelf: &mut F, stop: FrameStop) -> bo
     }
 }
 
-/// Whether so many events come next, and then the record's end or the fault at its event.
+/// Whether so many events come next, and then the record's end or the fault at its event, which stays however often it is asked.
 fn frames_end<F: Shelf>(
     frames: &mut Frames,
     shelf: &mut F,
@@ -71,6 +71,8 @@ fn frames_end<F: Shelf>(
         None => is_at_end(frames, shelf),
         Some((fault, event)) => {
             stops_by(frames, shelf, FrameStop::Fault(fault))
+                & stops_by(frames, shelf, FrameStop::Fault(fault))
+                & stops_by(frames, shelf, FrameStop::Fault(fault))
                 & stops_by(frames, shelf, FrameStop::Fault(fault))
                 & (frames.event_of(fault) == event)
         }

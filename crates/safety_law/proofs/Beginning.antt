@@ -3,6 +3,7 @@ use Rattle.std.proofs.Common.{◌≡◌, Bool, true, false, not, ◌&&◌, ◌==
 use Rattle.std.specs.List.{list_all}
 use Rattle.std.specs.Cmp.Lexicographic.{bytes_decides}
 use Rattle.std.proofs.lemmas.Bool.{and_parts, eqb-true}
+use Rattle.bc_preset.specs.Presets.{IsPreset}
 use Rattle.bc_preset.proofs.Bounds.{preset_bounds}
 use Rattle.beacon_types.specs.Equality.{same_root}
 use Rattle.beacon_types.specs.Containers.{block_header_codec}
@@ -79,9 +80,10 @@ latest_is : (s : PlainState) → is_genesis_header s.latest_block_header ≡ tru
 unfolding header_root_of genesis_block
 latest_is s is = ap block_header_codec.hash_tree_root (filled s (header_is s is))
 
-pub genesis_begins : (s : PlainState) → genesis_fault s ≡ None → IsState s → IsInRange s → same_root ((state_codec s.preset).hash_tree_root s) zero_root ≡ false → Begins s
+pub begins_by : (s : PlainState) → genesis_fault s ≡ None → IsPreset s.preset → length s.block_roots ≡ s.preset.slots_per_historical_root → length s.justification_bits ≡ 4
+    → same_root ((state_codec s.preset).hash_tree_root s) zero_root ≡ false → Begins s
 unfolding genesis_fault justification_of
-genesis_begins s good is range some =
+begins_by s good preset roots few some =
     let slot = passed (s.slot == 0) _ _ good in
     let header = passed (is_genesis_header s.latest_block_header) _ _ slot.1 in
     let checkpoints = passed (is_zero_checkpoint s.previous_justified_checkpoint && (is_zero_checkpoint s.current_justified_checkpoint && is_zero_checkpoint s.finalized_checkpoint)) _ _ header.1 in
@@ -90,17 +92,20 @@ genesis_begins s good is range some =
     let lists = passed ((length s.previous_epoch_attestations == 0) && ((length s.current_epoch_attestations == 0) && ((length s.eth1_data_votes == 0) && (length s.historical_roots == 0)))) _ _ slashings.1 in
     let three = and_parts _ _ checkpoints.0 in
     let two = and_parts _ _ three.1 in
-    let clear : s.justification_bits ≡ false ∷ false ∷ false ∷ false ∷ [] = four_clear s.justification_bits range.justification_bits bits.0 in
+    let clear : s.justification_bits ≡ false ∷ false ∷ false ∷ false ∷ [] = four_clear s.justification_bits few bits.0 in
     let previous : s.previous_justified_checkpoint ≡ genesis_checkpoint = zero_is s.previous_justified_checkpoint three.0 in
     let current : s.current_justified_checkpoint ≡ genesis_checkpoint = zero_is s.current_justified_checkpoint two.0 in
     let finalized : s.finalized_checkpoint ≡ genesis_checkpoint = zero_is s.finalized_checkpoint two.1 in
     record {
-      bounds = preset_bounds s.preset is.preset_is;
+      bounds = preset_bounds s.preset preset;
       slot = eqb-true s.slot 0 slot.0;
-      roots = is.block_roots_len;
+      roots = roots;
       nothing = λ i. record { bits = clear i; previous = previous i; current = current i; finalized = finalized i };
       previous = empty_is s.previous_epoch_attestations (eqb-true _ _ (and_parts _ _ lists.0).0);
       current = empty_is s.current_epoch_attestations (eqb-true _ _ (and_parts _ _ (and_parts _ _ lists.0).1).0);
       latest = latest_is s header.0;
       state_root_is_set = some;
     }
+
+pub genesis_begins : (s : PlainState) → genesis_fault s ≡ None → IsState s → IsInRange s → same_root ((state_codec s.preset).hash_tree_root s) zero_root ≡ false → Begins s
+genesis_begins s good is range some = begins_by s good is.preset_is is.block_roots_len range.justification_bits some

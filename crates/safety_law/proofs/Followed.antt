@@ -1,9 +1,10 @@
 -- A store follows its history from genesis on, over each event that it accepts; an accepted block is a step of the history.
-use Rattle.std.proofs.Common.{◌≡◌, ◌∙◌, ◌<◌, ◌^◌, inl, inr, ℕ, Bool, true, false, if◌then◌else◌, List, [], ◌∷◌, ◌++◌, map, Option, Some, None, is_some, refl, sym, ap, subst}
+use Rattle.std.proofs.Common.{◌≡◌, ◌∙◌, ◌<◌, ◌^◌, inl, inr, ℕ, Bool, true, false, if◌then◌else◌, List, [], ◌∷◌, ◌++◌, map, Option, Some, None, is_some, refl, sym, ap, subst, ◌/◌}
 use Rattle.std.specs.List.{Contains}
 use Rattle.std.specs.Option.{option_map, option_map_or}
 use Rattle.std.specs.Cmp.Lexicographic.{bytes_decides}
 use Rattle.std.proofs.lemmas.Bool.{false≢true}
+use Rattle.std.proofs.Math.Nat.{zero-div}
 use Rattle.bc_words.specs.Outcome.{done}
 use Rattle.bc_words.specs.Events.{accepted}
 use Rattle.bc_words.specs.declared.refusal.Refusal.TheVariants.{StateRoot}
@@ -15,6 +16,7 @@ use Rattle.beacon_body.specs.Containers.{block_codec}
 use Rattle.beacon_body.specs.declared.block.BeaconBlock.{BeaconBlock}
 use Rattle.beacon_body.specs.declared.signed_block.SignedBeaconBlock.{SignedBeaconBlock}
 use Rattle.spec_state.specs.declared.plain.PlainState.{PlainState}
+use Rattle.spec_state.specs.Accessors.{get_current_epoch}
 use Rattle.spec_state.specs.Genesis.{zero_root}
 use Rattle.spec_state.specs.States.{state_codec}
 use Rattle.spec_blocks.specs.Checks.{check}
@@ -23,7 +25,7 @@ use Rattle.spec_blocks.proofs.Done.{on_the_way, check_holds, chosen, same_value}
 use Rattle.spec_transition.specs.ProcessSlots.{Stepped, process_slots}
 use Rattle.spec_transition.specs.StateTransition.{state_transition}
 use Rattle.spec_fork_choice.specs.Store.{KeptBlock, Store, block_of, is_kept}
-use Rattle.spec_fork_choice.specs.GetForkchoiceStore.{get_forkchoice_store, genesis_block}
+use Rattle.spec_fork_choice.specs.GetForkchoiceStore.{get_forkchoice_store, genesis_block, genesis_store}
 use Rattle.spec_fork_choice.specs.Clash.{clash_of, clash_with, is_another}
 use Rattle.spec_fork_choice.specs.OnBlock.{BlockIn, with_block, with_accepted}
 use Rattle.spec_fork_choice.specs.OnEvent.{Accepted, block, other, on_event}
@@ -43,8 +45,12 @@ use Rattle.safety_law.proofs.Events.{event_is, slot_fits}
 
 -- ---- at genesis
 
-pub begins_followed : (config : ConfigValues) (genesis : PlainState) → Begins genesis → Follows config genesis [] (get_forkchoice_store config genesis)
-unfolding get_forkchoice_store first_accepted
+first_epoch : (genesis : PlainState) → Begins genesis → get_current_epoch genesis ≡ 0
+unfolding get_current_epoch
+first_epoch genesis begins = ap (λ (slot : ℕ). slot / genesis.preset.slots_per_epoch) begins.slot ∙ zero-div genesis.preset.slots_per_epoch
+
+pub begins_followed : (config : ConfigValues) (genesis : PlainState) → Begins genesis → Follows config genesis [] (genesis_store config genesis)
+unfolding genesis_store get_forkchoice_store first_accepted
 begins_followed config genesis begins = record {
   config_is = refl;
   blocks = ap (λ (root : List ℕ). record { root = root; block = genesis_block genesis; state = genesis } ∷ []) (sym begins.latest);
@@ -52,7 +58,8 @@ begins_followed config genesis begins = record {
   is_history = tt;
   content = λ a b one other same. absurd (none_of_none a one);
   others = λ b one is. none_of_none b one;
-  finalized = inl (ap (λ (root : List ℕ). record { epoch = 0; root = root }) (sym begins.latest));
+  finalized = inl (ap (λ (epoch : ℕ). record { epoch = epoch; root = block_codec.hash_tree_root (genesis_block genesis) }) (first_epoch genesis begins)
+      ∙ ap (λ (root : List ℕ). record { epoch = 0; root = root }) (sym begins.latest));
 }
 
 -- ---- an accepted block

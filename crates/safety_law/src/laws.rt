@@ -13,7 +13,7 @@ ghost use Rattle.spec_state.specs.Genesis.{genesis_fault, zero_root};
 ghost use Rattle.spec_state.specs.Limits.{IsState, IsInRange};
 ghost use Rattle.spec_state.specs.States.{state_codec};
 ghost use Rattle.spec_fork_choice.specs.Store.{Store};
-ghost use Rattle.spec_fork_choice.specs.GetForkchoiceStore.{get_forkchoice_store};
+ghost use Rattle.spec_fork_choice.specs.GetForkchoiceStore.{genesis_store};
 ghost use Rattle.spec_fork_choice.specs.OnBlock.{BlockIn};
 ghost use Rattle.spec_fork_choice.specs.OnEvent.{Accepted, block, on_event};
 ghost use Rattle.spec_forensics.specs.declared.verdict.Verdict.TheVariants.{Conflict};
@@ -36,7 +36,7 @@ pub fn genesis_begins_histories()
 /// the history, and its root is no name for another block of it.
 #[tactic(auto, using(crate::proofs::Followed::begins_followed))]
 pub fn store_follows_its_history()
-    ensures begins { (config : ConfigValues) (genesis : PlainState) → Begins genesis → Follows config genesis [] (get_forkchoice_store config genesis) }
+    ensures begins { (config : ConfigValues) (genesis : PlainState) → Begins genesis → Follows config genesis [] (genesis_store config genesis) }
     ensures follows { (config : ConfigValues) (genesis : PlainState) (history : List AcceptedBlock) (store new : Store) (kind : ℕ) (payload : List ℕ) (given : Accepted) (event : ℕ)
         → Follows config genesis history store → IsBytes payload → on_event store kind payload ≡ accepted (new, given)
         → Follows config genesis (with_event event history new given) new }

@@ -1,5 +1,5 @@
 -- The maker's genesis: it passes the genesis check, is calm, and a store opens on it.
-use Rattle.std.proofs.Common.{◌≡◌, ◌∙◌, ℕ, zero, suc, ◌+◌, ◌*◌, ◌/◌, ◌≤◌, Bool, true, false, ◌==◌, not, List, [], ◌∷◌, map, replicate, Option, Some, None, if◌then◌else◌, refl, sym, ap, inl, inr, arith}
+use Rattle.std.proofs.Common.{◌≡◌, ◌∙◌, ℕ, zero, suc, ◌+◌, ◌*◌, ◌/◌, ◌≤◌, Bool, true, false, ◌==◌, not, List, [], ◌∷◌, map, replicate, Option, Some, None, if◌then◌else◌, refl, sym, ap, subst, inl, inr, arith}
 use Rattle.spec_drill.specs.Plan.{Plan, IsPlan, last_slot, epochs_of}
 use Rattle.spec_drill.specs.MakeGenesis.{made_validator, made_genesis, genesis_of_plan}
 use Rattle.spec_drill.specs.Make.{EndsWell, made, time_of}
@@ -29,9 +29,10 @@ use Rattle.spec_blocks.proofs.Done.{chosen}
 use Rattle.spec_epochs.specs.WeighJustificationAndFinalization.{justification_of}
 use Rattle.spec_transition.proofs.HeaderChecks.{Filled, header_fills}
 use Rattle.spec_fork_choice.specs.Store.{KeptBlock, block_of}
-use Rattle.spec_fork_choice.specs.GetForkchoiceStore.{genesis_block, get_forkchoice_store}
+use Rattle.spec_fork_choice.specs.GetForkchoiceStore.{genesis_block, genesis_store}
 use Rattle.spec_fork_choice.specs.Clash.{clash_with, clash_of}
-use Rattle.spec_fork_choice.specs.OnEvent.{genesis_clash}
+use Rattle.spec_fork_choice.proofs.Genesis.{genesis_store_is}
+use Rattle.spec_fork_choice.specs.OnEvent.{first_clash, genesis_clash}
 use Rattle.spec_drill.proofs.AsWritten.{taken_as_written}
 use Rattle.spec_drill.proofs.Committees.{length_replicate}
 use Rattle.spec_drill.proofs.Block.{root_is_same}
@@ -116,7 +117,7 @@ unfolding header_root_of block_header_of genesis_block made_genesis empty_body_r
 latest_at_genesis preset number = refl
 
 no_clash : (s : PlainState) → genesis_clash s ≡ None → same_root ((state_codec s.preset).hash_tree_root s) zero_root ≡ false
-unfolding genesis_clash clash_of clash_with
+unfolding genesis_clash first_clash genesis_block clash_of clash_with
 no_clash s none = elim (chosen (same_root (block_codec.hash_tree_root (genesis_block s)) zero_root) (Some ZeroBlock) _ _ none) [
   | inl zeros ↦ absurd (let e = zeros.1 in cc)
   | inr other ↦ elim (chosen (same_root ((state_codec s.preset).hash_tree_root s) zero_root) (Some ZeroState) _ _ other.1) [
@@ -189,8 +190,8 @@ module _ (plan : Plan) (ok : IsPlan plan) where
     unfolding genesis_of_plan
     no_clash_here = none
 
-    opens : IsDrilling plan ok (genesis_kept s) [] 0 (get_forkchoice_store plan.config s)
-    unfolding get_forkchoice_store time_of
+    opens : IsDrilling plan ok (genesis_kept s) [] 0 (genesis_store plan.config s)
+    unfolding time_of
     opens =
         let is = ok.config.preset in
         let k : KeptBlock = genesis_kept s in
@@ -199,7 +200,7 @@ module _ (plan : Plan) (ok : IsPlan plan) where
         let begins : s.genesis_time ≡ 1000 = zeros.1 in
         let low = block_zero s in
         let calm = made_genesis_calm plan.config.preset plan.number is in
-        record {
+        subst (IsDrilling plan ok k [] 0) (sym (genesis_store_is plan.config s at)) (record {
           on = record {
             has = record { config_is = refl; few = omega arith; found = (found_itself k, tt); joined = low; calm = (record { root = block_root_within (genesis_block s); calm = calm; slot = at ∙ sym low; preset = zeros.2 }, tt) };
             only = λ root j e. let h = ap (λ (k : KeptBlock). k.block.slot) (found_only k j root e) in omega arith;
@@ -209,13 +210,13 @@ module _ (plan : Plan) (ok : IsPlan plan) where
             linked = told_nothing (stands_on (k ∷ [])) k.root plan.config.preset plan.number is (latest_at_genesis plan.config.preset plan.number) (header_fills s (no_clash s no_clash_here));
           };
           time = begins ∙ (let e : 1000 ≡ 1000 + 0 * plan.config.seconds_per_slot = omega arith in e);
-        }
+        })
 
     -- each event of a plan is accepted behind those before it, until one clashes
-    pub made_is_accepted : AreTaken (get_forkchoice_store plan.config (genesis_of_plan plan)) (made plan).events
+    pub made_is_accepted : AreTaken (genesis_store plan.config (genesis_of_plan plan)) (made plan).events
     unfolding made genesis_of_plan
-    made_is_accepted = made_taken plan ok (last_slot plan) 0 (genesis_kept s) [] (get_forkchoice_store plan.config s) opens (let e = block_zero s in omega arith) (let l = last_low in omega arith)
+    made_is_accepted = made_taken plan ok (last_slot plan) 0 (genesis_kept s) [] (genesis_store plan.config s) opens (let e = block_zero s in omega arith) (let l = last_low in omega arith)
 
     -- the same of what is written
-    pub made_is_accepted_as_written : AreTakenAsWritten (get_forkchoice_store plan.config (genesis_of_plan plan)) (made plan).events
-    made_is_accepted_as_written = taken_as_written (made plan).events (get_forkchoice_store plan.config (genesis_of_plan plan)) made_is_accepted
+    pub made_is_accepted_as_written : AreTakenAsWritten (genesis_store plan.config (genesis_of_plan plan)) (made plan).events
+    made_is_accepted_as_written = taken_as_written (made plan).events (genesis_store plan.config (genesis_of_plan plan)) made_is_accepted

@@ -2,7 +2,7 @@
 use Rattle.std.proofs.Common.{◌≡◌, ◌∙◌, ◌-◌, List, [], ◌∷◌, ◌++◌, Option, Some, None, ap, subst, arith}
 use Rattle.bc_words.specs.Events.{EventOutcome, accepted, event_refused, event_limited, event_clashes}
 use Rattle.spec_fork_choice.specs.Store.{Store}
-use Rattle.spec_fork_choice.specs.GetForkchoiceStore.{get_forkchoice_store}
+use Rattle.spec_fork_choice.specs.GetForkchoiceStore.{genesis_store}
 use Rattle.spec_fork_choice.specs.OnEvent.{Accepted, on_event, genesis_clash}
 use Rattle.spec_drill.specs.Plan.{Plan, IsPlan, last_slot}
 use Rattle.spec_drill.specs.MakeGenesis.{genesis_of_plan}
@@ -38,7 +38,7 @@ next_taken (first ∷ given) later event store s taken e =
 
 -- what next_event's contract cites
 pub next_is_accepted : (maker : PlainMaker) (given : List MadeEvent) (event : MadeEvent) (later : Made) (s : Store) → IsPlan maker.plan → genesis_clash (genesis_of_plan maker.plan) ≡ None → HasGiven given maker → to_come maker ≡ before (event ∷ []) later
-    → store_after (get_forkchoice_store maker.plan.config (genesis_of_plan maker.plan)) given ≡ Some s → IsTakenBy s event
+    → store_after (genesis_store maker.plan.config (genesis_of_plan maker.plan)) given ≡ Some s → IsTakenBy s event
 next_is_accepted maker given event later s ok none has next e =
-    next_taken given later.events event (get_forkchoice_store maker.plan.config (genesis_of_plan maker.plan)) s
-    (subst (AreTakenAsWritten (get_forkchoice_store maker.plan.config (genesis_of_plan maker.plan))) (ap (λ (m : Made). m.events) (has ∙ ap (before given) next)) (made_is_accepted_as_written maker.plan ok none)) e
+    next_taken given later.events event (genesis_store maker.plan.config (genesis_of_plan maker.plan)) s
+    (subst (AreTakenAsWritten (genesis_store maker.plan.config (genesis_of_plan maker.plan))) (ap (λ (m : Made). m.events) (has ∙ ap (before given) next)) (made_is_accepted_as_written maker.plan ok none)) e

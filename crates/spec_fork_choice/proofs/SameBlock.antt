@@ -74,7 +74,7 @@ indexed_attestation_decides a b =
     (λ h i. record { attesting_indices = h.0 i; content = h.1.0 i; signature = h.1.1 i })
     (λ e. (λ i. (e i).attesting_indices, (λ i. (e i).content, λ i. (e i).signature)))
 
-attester_slashing_decides : (a b : AttesterSlashing) → Decides (same_attester_slashing a b) (a ≡ b)
+pub attester_slashing_decides : (a b : AttesterSlashing) → Decides (same_attester_slashing a b) (a ≡ b)
 unfolding same_attester_slashing
 attester_slashing_decides a b =
     like

@@ -1,13 +1,18 @@
 -- filter_block_tree and get_filtered_block_tree (fork-choice.md, "filter_block_tree" and "get_filtered_block_tree"): the
 -- blocks from which a leaf can be reached whose state agrees with the store.
-use Rattle.std.specs.Prelude.{Bool, List, [], ◌∷◌, ◌||◌, ◌&&◌, ◌==◌, if◌then◌else◌}
+use Rattle.std.specs.Prelude.{ℕ, Bool, List, [], ◌∷◌, ◌||◌, ◌&&◌, ◌==◌, nat_lt, if◌then◌else◌}
 use Rattle.std.specs.List.{list_any}
 use Rattle.beacon_types.specs.Equality.{same_root, same_checkpoint}
 use Rattle.spec_fork_choice.specs.Store.{KeptBlock, Store}
 
+-- Whether a block is a child of the block of this root and slot: that is its parent, and stands before it. So the first kept block
+-- is nobody's child, whatever root it names as its parent's
+unfoldable pub is_child : List ℕ → ℕ → KeptBlock → Bool
+is_child root slot other = same_root other.block.parent_root root && nat_lt slot other.block.slot
+
 -- whether a block has a child among others
 unfoldable pub has_child : KeptBlock → List KeptBlock → Bool
-has_child kept others = list_any (λ other. same_root other.block.parent_root kept.root) others
+has_child kept others = list_any (is_child kept.root kept.block.slot) others
 
 -- whether the state behind a block agrees with the store on the justified and on the finalized checkpoint
 unfoldable pub agrees : Store → KeptBlock → Bool

@@ -8,6 +8,7 @@ ancestor_within zero blocks root slot = root
 ancestor_within (suc steps) blocks root slot =
     if nat_lt slot (slot_of blocks root) then ancestor_within steps blocks (parent_of blocks root) slot else root
 
--- get_ancestor(store, root, slot). Each step goes to another kept block, so as many steps as there are blocks are enough
+-- get_ancestor(store, root, slot). It is asked of slots that aren't before the first kept block's alone, so that no walk goes below
+-- that. Each step goes to another kept block, so as many steps as there are blocks are enough
 unfoldable pub get_ancestor : Store → List ℕ → ℕ → List ℕ
 get_ancestor store root slot = ancestor_within (length store.blocks) store.blocks root slot

@@ -2,9 +2,8 @@
 use Rattle.std.specs.Prelude.{ℕ, zero, suc, Bool, List, [], ◌∷◌, ◌||◌, ◌&&◌, length, filter, nat_lt, ◌==◌, if◌then◌else◌}
 use Rattle.std.specs.Ordering.{is_gt, nat_cmp}
 use Rattle.std.specs.Cmp.Lexicographic.{slice_cmp}
-use Rattle.beacon_types.specs.Equality.{same_root}
-use Rattle.spec_fork_choice.specs.Store.{KeptBlock, Store}
-use Rattle.spec_fork_choice.specs.FilterBlockTree.{get_filtered_block_tree}
+use Rattle.spec_fork_choice.specs.Store.{KeptBlock, Store, slot_of}
+use Rattle.spec_fork_choice.specs.FilterBlockTree.{is_child, get_filtered_block_tree}
 use Rattle.spec_fork_choice.specs.GetLatestAttestingBalance.{get_latest_attesting_balance}
 
 -- whether a root is greater than another one, byte by byte from the first
@@ -23,9 +22,9 @@ unfoldable pub best_of : Store → KeptBlock → List KeptBlock → KeptBlock
 best_of store best [] = best
 best_of store best (other ∷ others) = if goes_before store other best then best_of store other others else best_of store best others
 
--- the blocks of a tree whose parent has a root, in order
-unfoldable pub children_of : List KeptBlock → List ℕ → List KeptBlock
-children_of tree root = filter (λ kept. same_root kept.block.parent_root root) tree
+-- the children of a block in a tree, in order
+unfoldable pub children_of : Store → List KeptBlock → List ℕ → List KeptBlock
+children_of store tree root = filter (is_child root (slot_of store.blocks root)) tree
 
 -- the best of the children, or the block itself where there is none
 unfoldable pub next_head : Store → List ℕ → List KeptBlock → List ℕ
@@ -35,7 +34,7 @@ next_head store root (child ∷ others) = (best_of store child others).root
 -- the walk from a block to the best of its children, in at most so many steps. Behind the last block it stays where it is
 unfoldable pub head_within : ℕ → Store → List KeptBlock → List ℕ → List ℕ
 head_within zero store tree root = root
-head_within (suc steps) store tree root = head_within steps store tree (next_head store root (children_of tree root))
+head_within (suc steps) store tree root = head_within steps store tree (next_head store root (children_of store tree root))
 
 -- get_head(store). Each step goes to another kept block, so as many steps as there are blocks are enough
 unfoldable pub get_head : Store → List ℕ

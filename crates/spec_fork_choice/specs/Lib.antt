@@ -1,3 +1,4 @@
+pub mod Anchor
 pub mod Clash
 pub mod FilterBlockTree
 pub mod GetAncestor
@@ -11,6 +12,7 @@ pub mod OnTick
 pub mod SameBlock
 pub mod ShouldUpdateJustifiedCheckpoint
 pub mod Slots
+pub mod Soundness
 pub mod Store
 pub mod StoreTargetCheckpointState
 pub mod UpdateLatestMessages

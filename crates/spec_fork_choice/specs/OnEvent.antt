@@ -6,13 +6,13 @@ use Rattle.bc_words.specs.Outcome.{Outcome}
 use Rattle.bc_words.specs.declared.refusal.Refusal.TheVariants.{Malformed}
 use Rattle.bc_words.specs.declared.store_stop.ClashKind.{ClashKind}
 use Rattle.beacon_body.specs.declared.attestation.Attestation.{Attestation}
+use Rattle.beacon_body.specs.declared.block.BeaconBlock.{BeaconBlock}
 use Rattle.beacon_body.specs.declared.signed_block.SignedBeaconBlock.{SignedBeaconBlock}
 use Rattle.beacon_body.specs.Containers.{block_codec, signed_block_codec, attestation_codec}
 use Rattle.spec_state.specs.declared.plain.PlainState.{PlainState}
-use Rattle.spec_state.specs.States.{state_codec}
 use Rattle.bc_preset.specs.declared.configuration.ConfigValues.{ConfigValues}
 use Rattle.spec_fork_choice.specs.Store.{Store}
-use Rattle.spec_fork_choice.specs.GetForkchoiceStore.{get_forkchoice_store, genesis_block}
+use Rattle.spec_fork_choice.specs.GetForkchoiceStore.{get_forkchoice_store, genesis_block, genesis_store}
 use Rattle.spec_fork_choice.specs.Clash.{clash_of}
 use Rattle.spec_fork_choice.specs.OnTick.{on_tick}
 use Rattle.spec_fork_choice.specs.OnBlock.{BlockIn, on_block}
@@ -50,15 +50,22 @@ on_event store kind payload =
     else if kind == 2 then handle_block store (signed_block_codec.deserialize payload)
     else handle_attestation store (kind == 4) (attestation_codec.deserialize payload)
 
--- how the genesis block clashes, if it does: its root is zero, or else its state's root is
-unfoldable pub genesis_clash : PlainState → Option ClashKind
-genesis_clash genesis =
-    clash_of [] (block_codec.hash_tree_root (genesis_block genesis)) ((state_codec genesis.preset).hash_tree_root genesis) (genesis_block genesis)
+-- how the first kept block clashes, if it does: its root is zero, or else its state root is
+unfoldable pub first_clash : BeaconBlock → Option ClashKind
+first_clash first = clash_of [] (block_codec.hash_tree_root first) first.state_root first
 
--- the store at genesis, unless the genesis block clashes
+-- a store that opens, unless its first block clashes
 unfoldable pub open_unless : Option ClashKind → Store → EventOutcome Store
 open_unless (Some kind) store = event_clashes kind
 open_unless None store = accepted store
 
+-- the store at an anchor
+unfoldable pub open_at : ConfigValues → PlainState → BeaconBlock → EventOutcome Store
+open_at config anchor_state anchor_block = open_unless (first_clash anchor_block) (get_forkchoice_store config anchor_state anchor_block)
+
+-- the same at genesis
+unfoldable pub genesis_clash : PlainState → Option ClashKind
+genesis_clash genesis = first_clash (genesis_block genesis)
+
 unfoldable pub open_store : ConfigValues → PlainState → EventOutcome Store
-open_store config genesis = open_unless (genesis_clash genesis) (get_forkchoice_store config genesis)
+open_store config genesis = open_unless (genesis_clash genesis) (genesis_store config genesis)

@@ -1,6 +1,6 @@
 -- The store of fork choice (fork-choice.md, "LatestMessage" and "Store"). Where our profile differs from the published text
 -- a comment says so.
-use Rattle.std.specs.Prelude.{ℕ, List, Bool, Option, None, is_some, slice_index_or}
+use Rattle.std.specs.Prelude.{ℕ, List, [], ◌∷◌, Bool, Option, None, is_some, slice_index_or}
 use Rattle.std.specs.List.{find}
 use Rattle.std.specs.Option.{option_map_or}
 use Rattle.bc_preset.specs.declared.configuration.ConfigValues.{ConfigValues}
@@ -50,6 +50,11 @@ slot_of blocks root = option_map_or (λ kept. kept.block.slot) (block_of blocks 
 
 unfoldable pub parent_of : List KeptBlock → List ℕ → List ℕ
 parent_of blocks root = option_map_or (λ kept. kept.block.parent_root) (block_of blocks root) zero_root
+
+-- the slot of the first kept block. All others are behind it
+unfoldable pub first_slot : List KeptBlock → ℕ
+first_slot [] = 0
+first_slot (first ∷ later) = first.block.slot
 
 -- the latest message of a validator, if it has one
 unfoldable pub message_of : Store → ℕ → Option LatestMessage

@@ -16,7 +16,7 @@ use Rattle.record_file.specs.declared.event.Event.{Event}
 use Rattle.spec_state.specs.declared.plain.PlainState.{PlainState}
 use Rattle.spec_fork_choice.specs.Store.{Store}
 use Rattle.spec_fork_choice.specs.GetHead.{get_head}
-use Rattle.spec_fork_choice.specs.GetForkchoiceStore.{get_forkchoice_store}
+use Rattle.spec_fork_choice.specs.GetForkchoiceStore.{genesis_store}
 use Rattle.spec_fork_choice.specs.OnEvent.{Accepted, on_event, genesis_clash}
 use Rattle.spec_drill.specs.Plan.{Plan}
 use Rattle.spec_drill.specs.MakeGenesis.{genesis_of_plan}
@@ -114,7 +114,7 @@ chains_of plan = record {
 }
 
 unfoldable pub drill_plan : Plan → Run
-drill_plan plan = drill_store (genesis_clash (genesis_of_plan plan)) (genesis_of_plan plan) (get_forkchoice_store plan.config (genesis_of_plan plan)) (chains_of plan)
+drill_plan plan = drill_store (genesis_clash (genesis_of_plan plan)) (genesis_of_plan plan) (genesis_store plan.config (genesis_of_plan plan)) (chains_of plan)
 
 -- the configuration, or its first fault; and then it must not eject a validator with the full balance
 unfoldable pub drill_config : ℕ → Result ConfigValues ConfigFault → Run

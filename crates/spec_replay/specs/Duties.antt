@@ -14,7 +14,7 @@ use Rattle.duties.specs.declared.proposers.ProposerDuty.{ProposerDuty}
 use Rattle.spec_state.specs.declared.plain.PlainState.{PlainState}
 use Rattle.spec_state.specs.States.{state_codec}
 use Rattle.spec_replay.specs.Run.{Run, done, bad_config, bad_duties, limited, over, missing, after_file, after_lines}
-use Rattle.spec_replay.specs.Soundness.{is_sound}
+use Rattle.spec_fork_choice.specs.Soundness.{is_sound}
 
 -- how many bytes a state's file may have: 2 ^ 30
 abbrev pub max_state_len : ℕ

@@ -15,7 +15,7 @@ use Rattle.record_file.specs.Record.{Events, events_of}
 use Rattle.record_file.specs.Record as record_file
 use Rattle.record_file.specs.declared.event.Event.{Event}
 use Rattle.spec_fork_choice.specs.Store.{KeptBlock, Store, block_of}
-use Rattle.spec_fork_choice.specs.GetForkchoiceStore.{get_forkchoice_store}
+use Rattle.spec_fork_choice.specs.GetForkchoiceStore.{genesis_store}
 use Rattle.spec_fork_choice.specs.OnEvent.{Accepted, block, other, on_event, genesis_clash}
 use Rattle.spec_forensics.specs.declared.verdict.Verdict.{Verdict}
 use Rattle.spec_forensics.specs.declared.verdict.Verdict.TheVariants.{Agree, Small, Moved, Conflict}
@@ -114,7 +114,7 @@ with_store None genesis store first second = with_first genesis store first seco
 -- the genesis state, or its first fault
 unfoldable pub with_state : ConfigValues → Result PlainState GenesisFault → Option (List ℕ) → Option (List ℕ) → Run
 with_state config (Err part) first second = over (bad_genesis part)
-with_state config (Ok genesis) first second = with_store (genesis_clash genesis) genesis (get_forkchoice_store config genesis) first second
+with_state config (Ok genesis) first second = with_store (genesis_clash genesis) genesis (genesis_store config genesis) first second
 
 -- the genesis file, if it is there
 unfoldable pub with_genesis : ConfigValues → Option (List ℕ) → Option (List ℕ) → Option (List ℕ) → Run

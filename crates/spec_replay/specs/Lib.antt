@@ -1,3 +1,4 @@
+pub mod Anchor
 pub mod Commands
 pub mod Drill
 pub mod Duties
@@ -6,4 +7,3 @@ pub mod Genesis
 pub mod Lines
 pub mod OffenceLines
 pub mod Run
-pub mod Soundness

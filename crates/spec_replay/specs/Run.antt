@@ -16,14 +16,15 @@ use Rattle.bc_words.specs.Events.{EventOutcome, accepted, event_refused, event_l
 use Rattle.bc_words.specs.declared.stop.Limit.{Limit}
 use Rattle.bc_words.specs.declared.store_stop.ClashKind.{ClashKind}
 use Rattle.spec_fork_choice.specs.Store.{Store}
-use Rattle.spec_fork_choice.specs.GetForkchoiceStore.{get_forkchoice_store}
+use Rattle.spec_fork_choice.specs.declared.fault.AnchorFault.{AnchorFault}
+use Rattle.spec_fork_choice.specs.GetForkchoiceStore.{genesis_store}
 use Rattle.spec_fork_choice.specs.OnEvent.{Accepted, on_event, genesis_clash}
 use Rattle.spec_replay.specs.Lines.{event_line, accepted_text, refusal_text}
 
 -- How a run ends: all was done; the words are no command; the first fault of the configuration, of the genesis state, or of
 -- a record, with which record it is and its event; an event that meets a bound of this program; one that clashes, with which
--- record the kept block is of; or the first fault of a file of deposits, or of what duties are asked of. Records count from
--- 0, and event 0 is genesis.
+-- record the kept block is of; or the first fault of a file of deposits, of what duties are asked of, or of an anchor. Records
+-- count from 0, and event 0 is the first kept block.
 pub data End : Type 0 where
   done : End
   no_command : End
@@ -34,6 +35,7 @@ pub data End : Type 0 where
   clash : ℕ → ℕ → ClashKind → ℕ → End
   bad_deposits : DepositsFault → End
   bad_duties : DutiesFault → End
+  bad_anchor : AnchorFault → End
 
 -- What a run writes, how it ends, and how many of its files it asks for, in their order. A file that it asks for and
 -- that isn't there leaves it no end.
@@ -83,12 +85,12 @@ record_end which (record_file.limited event bound) = limited which event bound
 abbrev pub with_events : ℕ → Store → Events → Run
 with_events number store rest = replay_events number store rest.events (record_end 0 rest.end)
 
--- the record, if it is there, on the store at genesis
+-- the record, if it is there, on a store that opened
 unfoldable pub with_record : Store → Option (List ℕ) → Run
 with_record store None = missing
 with_record store (Some bytes) = after_file (with_events 1 store (events_of bytes))
 
--- the store at genesis, unless the genesis block clashes
+-- the record on a store, unless its first block clashes
 unfoldable pub with_store : Option ClashKind → Store → Option (List ℕ) → Run
 with_store (Some kind) store events = over (clash 0 0 kind 0)
 with_store None store events = with_record store events
@@ -96,7 +98,7 @@ with_store None store events = with_record store events
 -- the genesis state, or its first fault
 unfoldable pub with_state : ConfigValues → Result PlainState GenesisFault → Option (List ℕ) → Run
 with_state config (Err part) events = over (bad_genesis part)
-with_state config (Ok state) events = with_store (genesis_clash state) (get_forkchoice_store config state) events
+with_state config (Ok state) events = with_store (genesis_clash state) (genesis_store config state) events
 
 -- the genesis file, if it is there
 unfoldable pub with_genesis : ConfigValues → Option (List ℕ) → Option (List ℕ) → Run

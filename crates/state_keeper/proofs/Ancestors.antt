@@ -27,14 +27,14 @@ module _ {B : Type 0} where
   unfolding kept_of
   kept_there e whole is = is ∙ ap (λ b. cond b (Some e.state.value) None) (eq-eqb (e.distance % kept_every) 0 whole)
 
-  -- An entry so many parents before another one, which is so far from genesis
+  -- An entry so many parents before another one, which is so far from the first block
   record Ancestor (entries : List (Entry B PlainState)) (n back distance : ℕ) : Type 0 where
     entry : Entry B PlainState
     there : slice_get entries (ancestor_at entries n back) ≡ Some entry
     far : entry.distance + back ≡ distance
 
   module _ (can : PlainState → B → Type 0) (step : PlainState → B → Outcome PlainState) (entries : List (Entry B PlainState)) (each : AreEntries can step entries) where
-    -- a block that is some steps from genesis has a parent
+    -- a block that is some steps from the first block has a parent
     behind_of : (n : ℕ) (e : Entry B PlainState) → slice_get entries n ≡ Some e → 0 < e.distance → IsBehind can step entries n e
     behind_of zero e there some = let none = (each zero e there).distance in absurd (omega arith)
     behind_of (suc n) e there some = each (suc n) e there

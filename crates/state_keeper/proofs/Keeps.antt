@@ -99,7 +99,7 @@ module _ {B : Type 0} (can : PlainState → B → Type 0) (step : PlainState →
   pub kept_stands : (entries : List (Entry B PlainState)) → AreEntries can step entries → (n : ℕ) (e : Entry B PlainState) (state : PlainState) → slice_get entries n ≡ Some e → e.kept ≡ Some state → StandsFor entries n state
   kept_stands entries each n e state there kept = ap (λ (o : Option (Entry B PlainState)). option_map (λ e. e.state.value) o) there ∙ ap (λ s. Some s) (kept_is entries n e state (each n e there) kept)
 
-  -- a block is at most as far from genesis as its number says
+  -- a block is at most as far from the first block as its number says
   pub near_at : (entries : List (Entry B PlainState)) → AreEntries can step entries → (n : ℕ) → n < length (map plain_of entries) → distance_at entries n ≤ n
   near_at entries each n inside =
       let (e, there) = item_at entries n (omega (arith, length-map entries plain_of)) in

@@ -1,4 +1,4 @@
--- Each block but that of genesis was added by a step from its parent's state.
+-- Each block but the first one was added by a step from its parent's state.
 use Rattle.std.proofs.Common.{◌≡◌, ◌∙◌, ℕ, zero, suc, ◌<◌, List, length, map, Option, Some, option_map, slice_get, ap, arith}
 use Rattle.std.proofs.lemmas.List.{length-map}
 use Rattle.std.proofs.lemmas.Option.{slice_get-map}

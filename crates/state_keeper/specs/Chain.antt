@@ -9,13 +9,13 @@ pub record ChainBlock (B : Type 0) : Type 0 where
   pub parent : ℕ
   pub state : PlainState
 
--- What a keeper holds: what takes its steps, its blocks, that of genesis first, and for how many more there is room
+-- What a keeper holds: what takes its steps, its blocks, the first one first, and for how many more there is room
 pub record Kept (P B : Type 0) : Type 0 where
   pub stepper : P
   pub blocks : List (ChainBlock B)
   pub spare : ℕ
 
--- every how many steps from genesis a state is kept
+-- every how many steps from the first block a state is kept
 abbrev pub kept_every : ℕ
 kept_every = 8
 
@@ -34,16 +34,16 @@ module _ {B : Type 0} where
   -- the states behind blocks: of each the plain step from its parent's, and of the first the one that it came with
   unfoldable pub states_of : (PlainState → B → Outcome PlainState) → List (ChainBlock B) → List (Outcome PlainState)
   states_of step [] = []
-  states_of step (genesis ∷ blocks) = along (λ before block. before >>= λ state. step state block) (done genesis.state) (done genesis.state ∷ []) blocks
+  states_of step (first ∷ blocks) = along (λ before block. before >>= λ state. step state block) (done first.state) (done first.state ∷ []) blocks
 
-  -- the state behind the block of a number, by the chain of plain steps from genesis to it
+  -- the state behind the block of a number, by the chain of plain steps from the first block to it
   unfoldable pub state_at : (PlainState → B → Outcome PlainState) → List (ChainBlock B) → ℕ → Option (Outcome PlainState)
   state_at step blocks number = slice_get (states_of step blocks) number
 
-  -- how many steps each block is from genesis
+  -- how many steps each block is from the first block
   unfoldable pub distances_of : List (ChainBlock B) → List ℕ
   distances_of [] = []
-  distances_of (genesis ∷ blocks) = along (λ before block. before + 1) 0 (0 ∷ []) blocks
+  distances_of (first ∷ blocks) = along (λ before block. before + 1) 0 (0 ∷ []) blocks
 
   unfoldable pub distance_of : List (ChainBlock B) → ℕ → ℕ
   distance_of blocks number = unwrap_or (slice_get (distances_of blocks) number) 0

@@ -8,10 +8,10 @@ ghost use Rattle.state_keeper.specs.inside.Entries.{kept_of};
 use bc_words::NoMemory;
 use std::snapshot::Snapshot;
 
-/// Every how many steps from genesis a state is kept.
+/// Every how many steps from the first block a state is kept.
 pub(crate) const KEPT_EVERY: u32 = 8;
 
-/// A block with its parent's number, how far it is from genesis, and its state where that is kept.
+/// A block with its parent's number, how far it is from the first block, and its state where that is kept.
 #[derive(Drop)]
 pub(crate) struct Entry<B: Drop, S: Drop> {
     pub(crate) block: B,
@@ -22,7 +22,7 @@ pub(crate) struct Entry<B: Drop, S: Drop> {
     pub(crate) state: Snapshot<S>,
 }
 
-/// The state to keep of a block so far from genesis, and else the one for the cache.
+/// The state to keep of a block so far from the first block, and else the one for the cache.
 #[tactic(auto, unfolding(crate::specs::inside::Entries::kept_of))]
 fn kept_or_cached<S: Drop>(distance: u32, state: S) -> (Option<S>, Option<S>)
     ensures kept { result.0 ≡ kept_of distance state }

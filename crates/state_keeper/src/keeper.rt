@@ -1,6 +1,6 @@
 //! The keeper of states.
 //!
-//! Blocks come with the states behind them. Where a block is some multiple of eight steps from genesis its state is kept; the
+//! Blocks come with the states behind them. Where a block is some multiple of eight steps from the first block its state is kept; the
 //! cache has the states that were used last, and what neither has is made again.
 
 ghost use Rattle.std.specs.Prelude.{◌≡◌, ℕ, ◌+◌, ◌-◌, ◌%◌, ◌<◌, ◌≤◌, ◌^◌, [], ◌∷◌, ◌++◌, Some, length, option_map, slice_get, IfOk, IfSome, OnOk, IsOk};
@@ -138,8 +138,8 @@ impl<P: Stepper> Keeper<P> {
         &self.entries[n as usize].block
     }
 
-    /// The state behind the block of a number, whichever states were dropped: it is that of the chain of plain steps from genesis. It
-    /// takes one counted step for each block behind the nearest ancestor at a multiple of eight steps from genesis, never more, so at
+    /// The state behind the block of a number, whichever states were dropped: it is that of the chain of plain steps from the first block. It
+    /// takes one counted step for each block behind the nearest ancestor at a multiple of eight steps from the first block, never more, so at
     /// most seven. Whether memory is refused or not, the keeper is as before.
     pub fn state_of<L: Ledger>(&mut self, n: u32, steps: &mut Steps<L>) -> Result<State, NoMemory>
         requires { n < length self.old.blocks }
@@ -156,14 +156,14 @@ impl<P: Stepper> Keeper<P> {
         }
     }
 
-    /// The law that each block stands for the state of the chain of plain steps from genesis. It does nothing when it runs.
+    /// The law that each block stands for the state of the chain of plain steps from the first block. It does nothing when it runs.
     pub fn states_are_of_the_chain(&self)
         ensures { (n : ℕ) (state : PlainState) → HasState self.now.blocks n state → state_at (P.plain_step self.now.stepper) self.now.blocks n ≡ Some (done state) }
     {
         let _entries = &self.entries;
     }
 
-    /// The law that each block but that of genesis was added by a done step from the state of its parent. It does nothing when it
+    /// The law that each block but the first one was added by a done step from the state of its parent. It does nothing when it
     /// runs.
     pub fn steps_were_taken(&self)
         ensures { (n : ℕ) → 0 < n → n < length self.now.blocks → WasStep (P.can_step self.now.stepper) (P.plain_step self.now.stepper) self.now.blocks n }

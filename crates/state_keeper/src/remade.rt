@@ -21,7 +21,7 @@ fn parent_at<B: Drop>(entries: &[Entry<B, State>], n: u32) -> u32
     }
 }
 
-/// How many steps a block is from genesis.
+/// How many steps a block is from the first block.
 pub(crate) fn distance_at<B: Drop>(entries: &[Entry<B, State>], n: u32) -> u32
     ensures { result ≡ distance_at entries.now n }
 {

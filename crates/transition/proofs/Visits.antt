@@ -219,3 +219,44 @@ gives_step s before entered o none is =
     let same = same_value (beside (λ xs x. xs ++ x ∷ []) before way.value) (s, entered) way.then_done in
     let all : way.value.entered ≡ entered = ap (λ (xs : List PlainState). xs ++ way.value.entered) (sym none) ∙ sym (all_kept before way.value.entered) ∙ ap (λ (p : PlainState × List PlainState). p.1) same in
     way.first ∙ ap₂ (λ (t : PlainState) (xs : List PlainState). done (record { state = t; entered = xs })) (ap (λ (p : PlainState × List PlainState). p.0) same) all
+
+-- ---- a part of a visitor
+
+-- a part of what a visitor becomes is what becomes of the part
+shown_through : {W V : Type 0} (part : W → V) (whole : W → PlainState → W) (shown : V → PlainState → V) → ((w : W) (s : PlainState) → part (whole w s) ≡ shown (part w) s) → (w : W) (states : List PlainState)
+    → part (shown_all whole w states) ≡ shown_all shown (part w) states
+unfolding shown_all
+shown_through part whole shown same w [] = refl
+shown_through part whole shown same w (state ∷ states) = shown_through part whole shown same (whole w state) states ∙ ap (λ v. shown_all shown v states) (same w state)
+
+-- the part that lists what was shown has the states entered
+pub step_through : {W : Type 0} (part : W → List PlainState) (whole : W → PlainState → W) → ((w : W) (s : PlainState) → part (whole w s) ≡ part w ++ s ∷ []) → (w x : W) (state : PlainState) (o : Outcome Stepped)
+    → part w ≡ [] → showing whole w o ≡ done (state, x) → o ≡ done (record { state = state; entered = part x })
+unfolding showing
+step_through part whole same w x state o none is =
+    let way = on_the_way o (λ t. done (beside whole w t)) (state, x) is in
+    let seen = same_value (beside whole w way.value) (state, x) way.then_done in
+    let all : part x ≡ way.value.entered =
+    ap (λ p. part p.1) (sym seen) ∙ (shown_through part whole (λ xs s. xs ++ s ∷ []) same w way.value.entered ∙ (all_kept (part w) way.value.entered ∙ ap (λ xs. xs ++ way.value.entered) none)) in
+    way.first ∙ ap₂ (λ (t : PlainState) (xs : List PlainState). done (record { state = t; entered = xs })) (ap (λ p. p.0) seen) (sym all)
+
+-- and the visitor in it was shown the states of that list
+pub visitor_through : {W V : Type 0} (part : W → V) (whole : W → PlainState → W) (shown : V → PlainState → V) → ((w : W) (s : PlainState) → part (whole w s) ≡ shown (part w) s) → (w x : W) (state : PlainState) (entered : List PlainState) (o : Outcome Stepped)
+    → o ≡ done (record { state = state; entered = entered }) → showing whole w o ≡ done (state, x) → part x ≡ shown_all shown (part w) entered
+unfolding showing
+visitor_through part whole shown same w x state entered o o_is is =
+    let seen = same_value (beside whole w (record { state = state; entered = entered })) (state, x) (ap (λ o. bind o (λ t. done (beside whole w t))) (sym o_is) ∙ is) in
+    ap (λ p. part p.1) (sym seen) ∙ shown_through part whole shown same w entered
+
+pub was_through : {W V : Type 0} (part : W → V) (whole : W → PlainState → W) (shown : V → PlainState → V) → ((w : W) (s : PlainState) → part (whole w s) ≡ shown (part w) s) → (config : ConfigValues) (state : PlainState) (slot : ℕ) (w x : W)
+    → WasShown whole config state slot w x → WasShown shown config state slot (part w) (part x)
+was_through part whole shown same config state slot w x was = record {
+  count = was.count;
+  within = was.within;
+  step = was.step;
+  first = was.first;
+  left = elim was.left [
+    | inl all ↦ inl (ap part all ∙ shown_through part whole shown same w was.step.entered)
+    | inr one ↦ inr (ap part one ∙ shown_through part whole shown same w (was.step.entered ++ process_slot was.step.state ∷ []))
+  ];
+}

@@ -47,14 +47,21 @@ impl Seen {
             memory: Memory::Empty,
         }
     }
+
+    /// Adds a state behind the others.
+    #[tactic(auto, unfolding(crate::specs::inside::Memories::remembered))]
+    pub fn add(&mut self, state: &State)
+        ensures { self.new ≡ self.old ++ state.now ∷ [] }
+    {
+        self.memory = Memory::More(Snapshot::of(&self.memory), Snapshot::of(state));
+    }
 }
 
 impl Visitor for Seen {
     ghost shown = { λ states state. states ++ state ∷ [] };
 
-    #[tactic(auto, unfolding(crate::specs::inside::Memories::remembered))]
     fn enter(&mut self, _alloc: Global, state: &State) -> Result<(), NoMemory> {
-        self.memory = Memory::More(Snapshot::of(&self.memory), Snapshot::of(state));
+        self.add(state);
         Ok(())
     }
 }

@@ -13,7 +13,7 @@ ghost use Rattle.spec_state.specs.Soundness.{IsSound};
 ghost use Rattle.spec_blocks.specs.Checks.{check};
 ghost use Rattle.spec_transition.specs.StateTransition.{IsLatest, IsNext, state_transition};
 ghost use Rattle.spec_transition.specs.ProcessSlots.{Stepped, process_slots};
-ghost use Rattle.transition.specs.Shown.{showing, WasShown};
+ghost use Rattle.transition.specs.Shown.{showing, shown_all, WasShown};
 ghost use Rattle.transition.specs.inside.Visits.{transition_visited};
 
 use crate::process_block::process_block;
@@ -21,12 +21,14 @@ use crate::process_slots::visit_slots;
 use crate::seen::Seen;
 use crate::step::Step;
 use crate::visitor::Visitor;
+use crate::watched::Watched;
 use bc_preset::Config;
 use bc_words::{Refusal, Stop};
 use beacon_body::SignedBeaconBlock;
 use beacon_state::State;
 use hash_tree::Root;
 use std::alloc::Global;
+use std::mem;
 
 /// Refused where a root isn't that of the state, which keeps its own.
 fn check_state_root(root: &Root, state: &mut State) -> Result<(), Stop>
@@ -85,6 +87,31 @@ pub fn visit_transition<V: Visitor>(
     ensures seen { WasShown V.shown config.now state.now block.now.message.slot visitor.old visitor.new }
 {
     take_block(alloc, state, block, config, visitor)
+}
+
+/// Takes the sound state through the slots up to the block's, and then through the block (beacon-chain.md, `state_transition`), as
+/// `visit_transition` does. The step tells clauses the states that the visitor was shown; none is kept.
+#[tactic(auto, using(crate::proofs::Visits::stops_shown))]
+pub fn visit_step<V: Visitor>(
+    alloc: Global,
+    state: &State,
+    block: &SignedBeaconBlock,
+    config: &Config,
+    watched: &mut Watched<V>,
+) -> Result<Step, Stop>
+    requires sound { IsSound state.now }
+    ensures sound { IfOk result (λ step. IsSound step.state) }
+    ensures slot { IfOk result (λ step. step.state.slot ≡ block.now.message.slot) }
+    ensures preset { IfOk result (λ step. step.state.preset ≡ state.now.preset) }
+    ensures latest { IfOk result (λ step. IsLatest step.state block.now.message) }
+    ensures step { Gives result (state_transition state.now block.now config.now) }
+    ensures shown { IfOk result (λ step. watched.new.visitor ≡ shown_all V.shown watched.old.visitor step.entered) }
+    ensures seen { WasShown V.shown config.now state.now block.now.message.slot watched.old.visitor watched.new.visitor }
+{
+    watched.seen = Seen::new();
+    let state = visit_transition(alloc, state, block, config, watched)?;
+    let entered = mem::replace(&mut watched.seen, Seen::new());
+    Ok(Step { state, entered })
 }
 
 /// Takes the sound state through the slots up to the block's, and then through the block (beacon-chain.md, `state_transition`), as

@@ -9,6 +9,7 @@ use bc_preset::{Config, Preset};
 use beacon_body::SignedBeaconBlock;
 use beacon_state::State;
 use chain_book::ChainBook;
+use forensics::Watch;
 use ssz_codec::Ssz;
 use std::alloc::Global;
 use std::fs;
@@ -35,8 +36,10 @@ fn add_block(
     event: u32,
     block: &SignedBeaconBlock,
 ) -> Result<()> {
-    match chain.step(alloc, block) {
-        Ok(step) => Ok(chain.add(alloc, event, block, step)?),
+    let genesis = chain.genesis()?;
+    let mut watch = Watch::new(&genesis);
+    match chain.step(alloc, block, &mut watch) {
+        Ok(state) => Ok(chain.add(alloc, event, block, state, &watch)?),
         Err(stop) => Err(stop.into()),
     }
 }

@@ -1,5 +1,5 @@
 -- The offence of a validator among the votes that are held is what its spans name.
-use Rattle.std.proofs.Common.{◌≡◌, ◌∙◌, ℕ, zero, suc, ◌+◌, ◌<◌, ◌≤◌, ◌==◌, nat_lt, Bool, true, false, cond, List, [], ◌∷◌, ◌++◌, map, length, get_or, Option, Some, None, refl, sym, ap, subst, arith, add-one}
+use Rattle.std.proofs.Common.{◌≡◌, ◌∙◌, ℕ, zero, suc, ◌+◌, ◌<◌, ◌≤◌, ◌==◌, nat_lt, Bool, true, false, cond, List, [], ◌∷◌, ◌++◌, map, length, get_or, Option, Some, None, is_some, refl, sym, ap, subst, arith, add-one}
 use Rattle.std.specs.List.{All, filter, flat_map}
 use Rattle.std.specs.Option.{option_map}
 use Rattle.std.proofs.lemmas.Bool.{eqb-true, lt-ltb}
@@ -12,9 +12,9 @@ use Rattle.spec_forensics.specs.FirstPair.{first_pair}
 use Rattle.spec_forensics.specs.Offences.{are_slashable, slashable_pair, offence_by, offence_of, listed, offences_below}
 use Rattle.spec_forensics.proofs.Pairs.{pair_of_images, is_pair}
 use Rattle.vote_spans.specs.Pairs.{content_at, no_content, are_slashable_at, first_slashable}
-use Rattle.vote_spans.specs.AllSpans.{AreSpansOf, votes_in, votes_from, votes_of}
+use Rattle.vote_spans.specs.AllSpans.{AreSpansOf, nothing_held, offence_in, votes_in, votes_from, votes_of}
 use Rattle.vote_spans.specs.declared.place.Place.{Place}
-use Rattle.vote_spans.specs.Carried.{Carried, Held, Holds, IsHeld, place_of, vote_by, votes_by, all_votes_by, vote_at, no_place}
+use Rattle.vote_spans.specs.Carried.{Carried, Held, Holds, IsHeld, place_of, vote_by, votes_by, all_votes_by, vote_at, has_offence, no_place}
 
 module _ (count validator : ℕ) (low : validator < count) (make : ℕ → Vote) where
   abbrev by : Vote → Bool
@@ -140,3 +140,22 @@ listed_more votes i before after was put = put ∙ ap (λ xs. xs ++ listed (offe
 
 pub places_len : (held : Held) → IsHeld held → length held.places ≡ length held.spans.contents
 places_len held are = ap length are.holds.places ∙ length-map are.carried place_of ∙ sym (ap length are.holds.contents ∙ length-map are.carried (λ (c : Carried). c.content))
+
+-- ---- who has an offence
+
+some_mapped : {A B : Type 0} (f : A → B) (o : Option A) → is_some (option_map f o) ≡ is_some o
+some_mapped f None = refl
+some_mapped f (Some x) = refl
+
+-- what the spans keep is what the votes say
+pub offends_is : (held : Held) (validator : ℕ) → validator < length held.spans.spans → (carried : List Carried) → Holds held carried
+    → has_offence held validator ≡ is_some (offence_of (all_votes_by (length held.spans.spans) carried) validator)
+unfolding has_offence offence_in
+offends_is held validator low carried holds =
+    ap is_some ((holds.stand.all.stands validator nothing_held low).offence)
+    ∙ sym (some_mapped (λ (o : ℕ × ℕ). offence_by validator (vote_at held validator o.0) (vote_at held validator o.1)) (first_slashable held.spans.contents [] (votes_of validator (map (λ (c : Carried). c.attesters) carried))))
+    ∙ sym (ap is_some (offence_is held carried holds (length held.spans.spans) validator low))
+
+pub offends_kept : (own held : Held) (validator : ℕ) (o : Option (ℕ × ℕ)) (result : Bool) → own ≡ held → result ≡ is_some o → o ≡ offence_in own.spans validator → result ≡ has_offence held validator
+unfolding has_offence
+offends_kept own held validator o result same is keeps = is ∙ ap is_some keeps ∙ ap (λ (h : Held). is_some (offence_in h.spans validator)) same

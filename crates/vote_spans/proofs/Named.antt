@@ -1,13 +1,14 @@
 -- Spans without votes, and what the spans of a validator name.
 use Rattle.std.proofs.Common.{◌≡◌, ◌∙◌, ℕ, ◌<◌, List, [], ◌∷◌, ◌++◌, length, get_or, None, refl, sym, ap, subst}
 use Rattle.std.specs.List.{All}
+use Rattle.std.proofs.lemmas.List.{get_or_default}
 use Rattle.std.proofs.lemmas.List.Elements.{All-push, All-nil}
 use Rattle.beacon_types.specs.declared.attestation_data.AttestationData.{AttestationData}
 use Rattle.vote_spans.specs.Pairs.{first_slashable}
 use Rattle.vote_spans.specs.Spans.{HeldSpans, PlainSpans}
 use Rattle.vote_spans.specs.Standing.{StandsFor}
 use Rattle.vote_spans.proofs.Standing.{stands_first}
-use Rattle.vote_spans.specs.AllSpans.{PlainAllSpans, votes_of, votes_from, AreSpansOf, AreSorted}
+use Rattle.vote_spans.specs.AllSpans.{PlainAllSpans, nothing_held, offence_in, votes_of, votes_from, AreSpansOf, AreSorted}
 
 abbrev pub nothing_yet : PlainSpans
 nothing_yet = record { votes = []; offence = None }
@@ -41,6 +42,11 @@ names all_spans spans validator own held inside e attested are =
     let low : validator < length all_spans.spans = subst (λ (hs : List HeldSpans). validator < length hs) held inside in
     ap (λ (h : HeldSpans). h.spans.offence) at ∙ (are.all.stands validator own low).offence
 
-pub ruleset naming = (names)
+pub keeps : (all_spans : PlainAllSpans) (spans : List HeldSpans) (validator : ℕ) (own : HeldSpans) → spans ≡ all_spans.spans → validator < length spans → own ≡ get_or spans validator own → own.spans.offence ≡ offence_in all_spans validator
+unfolding offence_in
+keeps all_spans spans validator own held inside e =
+    ap (λ (h : HeldSpans). h.spans.offence) (e ∙ get_or_default spans validator own nothing_held inside ∙ ap (λ (hs : List HeldSpans). get_or hs validator nothing_held) held)
+
+pub ruleset naming = (names, keeps)
 
 pub ruleset beginning = (fresh_none, fresh_more, fresh_sorted_all, fresh_all_spans)

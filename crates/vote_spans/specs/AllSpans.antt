@@ -1,5 +1,5 @@
 -- The votes of all validators. An attestation is known by its place, and its attesters stand in a list at that place.
-use Rattle.std.specs.Prelude.{◌≡◌, ℕ, ◌<◌, ◌≤◌, ◌==◌, List, [], ◌∷◌, ◌++◌, length, slice_index_or, map, filter, All, suc, None}
+use Rattle.std.specs.Prelude.{◌≡◌, ℕ, ◌<◌, ◌≤◌, ◌==◌, List, [], ◌∷◌, ◌++◌, length, slice_index_or, map, filter, All, suc, Option, None}
 use Rattle.beacon_types.specs.declared.attestation_data.AttestationData.{AttestationData}
 use Rattle.vote_spans.specs.Spans.{HeldSpans, IsSorted, spans_after}
 use Rattle.vote_spans.specs.Standing.{StandsFor}
@@ -24,6 +24,10 @@ votes_of validator attested = votes_from validator 0 attested
 -- what stands for spans that aren't there
 unfoldable pub nothing_held : HeldSpans
 nothing_held = record { spans = record { votes = []; offence = None }; room = 0 }
+
+-- the pair of slashable votes that a validator's spans keep
+unfoldable pub offence_in : PlainAllSpans → ℕ → Option (ℕ × ℕ)
+offence_in all_spans validator = (slice_index_or all_spans.spans validator nothing_held).spans.offence
 
 -- each validator's spans stand for its votes
 pub record AllStand (contents : List AttestationData) (spans : List HeldSpans) (votes : ℕ → List ℕ) : Type 0 where

@@ -1,10 +1,10 @@
 -- The attestations of blocks with their attesters, and the places and spans that hold them.
-use Rattle.std.specs.Prelude.{◌≡◌, ℕ, ◌+◌, ◌≤◌, ◌^◌, List, [], map, filter, length, nat_lt, slice_index_or}
+use Rattle.std.specs.Prelude.{◌≡◌, ℕ, ◌+◌, ◌≤◌, ◌^◌, Bool, is_some, List, [], map, filter, length, nat_lt, slice_index_or}
 use Rattle.std.specs.List.{flat_map}
 use Rattle.beacon_types.specs.declared.attestation_data.AttestationData.{AttestationData}
 use Rattle.spec_forensics.specs.declared.vote.Vote.{Vote}
 use Rattle.vote_spans.specs.Pairs.{content_at}
-use Rattle.vote_spans.specs.AllSpans.{PlainAllSpans, AreSpansOf}
+use Rattle.vote_spans.specs.AllSpans.{PlainAllSpans, AreSpansOf, offence_in}
 use Rattle.vote_spans.specs.Room.{HasRoom, all_in}
 use Rattle.vote_spans.specs.declared.place.Place.{Place}
 
@@ -61,3 +61,7 @@ unfoldable pub vote_at : Held → ℕ → ℕ → Vote
 vote_at held validator number =
     let place : Place = slice_index_or held.places number no_place in
     record { which = place.which; event = place.event; position = place.position; block_root = place.block_root; validator = validator; content = content_at held.spans.contents number }
+
+-- whether the spans keep slashable votes of a validator
+unfoldable pub has_offence : Held → ℕ → Bool
+has_offence held validator = is_some (offence_in held.spans validator)

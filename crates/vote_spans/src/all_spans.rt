@@ -5,7 +5,7 @@
 
 ghost use Rattle.std.specs.Prelude.{◌≡◌, ◌+◌, ◌<◌, ◌≤◌, ◌^◌, ◌∷◌, ◌++◌, [], ℕ, List, length, slice_index_or, map, All, IfOk, IsOk, OnOk};
 ghost use Rattle.vote_spans.specs.Pairs.{content_at, first_slashable};
-ghost use Rattle.vote_spans.specs.AllSpans.{AreSpansOf, nothing_held, votes_of};
+ghost use Rattle.vote_spans.specs.AllSpans.{AreSpansOf, nothing_held, offence_in, votes_of};
 ghost use Rattle.vote_spans.specs.Room.{all_of, AreReserved, HasRoom, Grows, IsSame};
 
 use crate::all::take_all;
@@ -112,7 +112,8 @@ impl AllSpans {
     #[tactic(auto, using(crate::proofs::Named::naming))]
     pub fn slashable(&self, validator: usize) -> Option<(u32, u32)>
         requires { validator < length self.now.spans }
-        ensures { (attested : List (List ℕ)) → AreSpansOf self.now attested → result ≡ first_slashable self.now.contents [] (votes_of validator attested) }
+        ensures exact { (attested : List (List ℕ)) → AreSpansOf self.now attested → result ≡ first_slashable self.now.contents [] (votes_of validator attested) }
+        ensures kept { result ≡ offence_in self.now validator }
     {
         self.spans[validator].offence()
     }

@@ -2,11 +2,11 @@
 //!
 //! An attestation has a number, by which spans know it. All room for those of a block is made before any is added.
 
-ghost use Rattle.std.specs.Prelude.{◌≡◌, ℕ, ◌<◌, ◌≤◌, ◌^◌, ◌++◌, ◌∷◌, [], List, length, map, IfOk, IsOk, OnOk};
+ghost use Rattle.std.specs.Prelude.{◌≡◌, ℕ, ◌<◌, ◌≤◌, ◌^◌, ◌++◌, ◌∷◌, [], List, length, map, is_some, IfOk, IsOk, OnOk};
 ghost use Rattle.spec_forensics.specs.Offences.{listed, offence_of, offences_below};
 ghost use Rattle.vote_spans.specs.AllSpans.{AreSpansOf};
 ghost use Rattle.vote_spans.specs.Room.{all_of, Grows, HasRoom, StandOnce};
-ghost use Rattle.vote_spans.specs.Carried.{Carried, Held, Holds, HasRoomFor, place_of, all_votes_by, vote_at};
+ghost use Rattle.vote_spans.specs.Carried.{Carried, Held, Holds, HasRoomFor, has_offence, place_of, all_votes_by, vote_at};
 
 use crate::all_spans::AllSpans;
 use crate::offences::offence_by;
@@ -132,6 +132,16 @@ impl CarriedVotes {
         let index = validator as u64;
         list.push(offence_by(index, self.vote(index, earlier), self.vote(index, later)))?;
         Ok(())
+    }
+
+    /// Whether a validator has an offence. It takes no memory.
+    #[tactic(auto, unfolding(crate::specs::Carried::has_offence))]
+    pub fn offends(&self, validator: usize) -> bool
+        requires { validator < length self.now.spans.spans }
+        ensures kept { result ≡ has_offence self.now validator }
+        ensures exact { (carried : List Carried) → Holds self.now carried → result ≡ is_some (offence_of (all_votes_by (length self.now.spans.spans) carried) validator) }
+    {
+        self.spans.slashable(validator).is_some()
     }
 
     /// The offences of all validators, in order of validator.

@@ -1,7 +1,7 @@
 -- How an answer of reading a genesis meets its definition.
 use Rattle.std.specs.Prelude.{◌≡◌, ℕ, List, Option, Result, Ok, Err}
 use Rattle.bc_preset.specs.declared.configuration.ConfigValues.{ConfigValues}
-use Rattle.spec_fork_choice.specs.GetForkchoiceStore.{get_forkchoice_store}
+use Rattle.spec_fork_choice.specs.GetForkchoiceStore.{genesis_store}
 use Rattle.spec_fork_choice.specs.OnEvent.{genesis_clash}
 use Rattle.spec_replay.specs.Run.{Run, with_store}
 use Rattle.spec_state.specs.declared.plain.PlainState.{PlainState}
@@ -39,4 +39,4 @@ no_store _ = statuses.NoMemory
 
 -- the run of a genesis state and of the record, if it is there
 abbrev pub run_from : ConfigValues → PlainState → Option (List ℕ) → Run
-run_from config genesis events = with_store (genesis_clash genesis) (get_forkchoice_store config genesis) events
+run_from config genesis events = with_store (genesis_clash genesis) (genesis_store config genesis) events

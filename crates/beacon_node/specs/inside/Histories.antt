@@ -6,7 +6,7 @@ use Rattle.spec_state.specs.Genesis.{genesis_fault}
 use Rattle.spec_state.specs.Limits.{IsState, IsInRange}
 use Rattle.spec_state.specs.declared.plain.PlainState.{PlainState}
 use Rattle.spec_fork_choice.specs.Store.{Store}
-use Rattle.spec_fork_choice.specs.GetForkchoiceStore.{get_forkchoice_store}
+use Rattle.spec_fork_choice.specs.GetForkchoiceStore.{genesis_store}
 use Rattle.spec_fork_choice.specs.OnEvent.{genesis_clash}
 use Rattle.spec_forensics.specs.CarriedVotes.{all_votes}
 use Rattle.spec_forensics.specs.Histories.{AcceptedBlock}
@@ -35,7 +35,7 @@ pub record IsGenesis (config : ConfigValues) (genesis : PlainState) : Type 0 whe
 -- A store opened at genesis.
 pub record IsOpened (config : ConfigValues) (genesis : PlainState) (store : Store) : Type 0 where
   pub none : genesis_clash genesis ≡ None
-  pub is : store ≡ get_forkchoice_store config genesis
+  pub is : store ≡ genesis_store config genesis
 
 -- The genesis clashes, or memory ran out.
 pub record OpeningEnds (status : Status) (clash : Option ClashKind) : Type 0 where
@@ -46,14 +46,14 @@ pub record OpeningEnds (status : Status) (clash : Option ClashKind) : Type 0 whe
 pub record AreOpened (config : ConfigValues) (genesis : PlainState) (histories : Histories) : Type 0 where
   pub genesis_is : histories.genesis ≡ genesis
   pub none : genesis_clash genesis ≡ None
-  pub first : histories.first.plain ≡ get_forkchoice_store config genesis
-  pub second : histories.second.plain ≡ get_forkchoice_store config genesis
+  pub first : histories.first.plain ≡ genesis_store config genesis
+  pub second : histories.second.plain ≡ genesis_store config genesis
   pub book : histories.book ≡ begun config genesis
   pub begins : Begins genesis
 
 -- the run of two records on a genesis
 abbrev pub run_of_records : ConfigValues → PlainState → Option (List ℕ) → Option (List ℕ) → Run
-run_of_records config genesis first second = with_store (genesis_clash genesis) genesis (get_forkchoice_store config genesis) first second
+run_of_records config genesis first second = with_store (genesis_clash genesis) genesis (genesis_store config genesis) first second
 
 -- What a book finds: the offences and the verdict of both histories. Both votes of each offence are carried, and a conflict convicts.
 pub record HasFound (genesis : PlainState) (first second : List AcceptedBlock) (first_store second_store : Store) (findings : Findings) : Type 0 where

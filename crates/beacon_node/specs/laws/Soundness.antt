@@ -2,7 +2,7 @@
 use Rattle.std.specs.Prelude.{◌≡◌, ◌↔◌, true}
 use Rattle.spec_state.specs.declared.plain.PlainState.{PlainState}
 use Rattle.spec_state.specs.Soundness.{IsSound}
-use Rattle.spec_replay.specs.Soundness.{is_sound}
+use Rattle.spec_fork_choice.specs.Soundness.{is_sound}
 
 -- It is true exactly of the sound states.
 abbrev pub SoundnessIsTested : Type 0

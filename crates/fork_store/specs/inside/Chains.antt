@@ -11,8 +11,9 @@ use Rattle.spec_state.specs.declared.plain.PlainState.{PlainState}
 use Rattle.spec_state.specs.Misc.{compute_start_slot_at_epoch}
 use Rattle.spec_state.specs.Accessors.{get_block_root_at_slot}
 use Rattle.spec_transition.specs.ProcessSlots.{process_slots}
-use Rattle.spec_fork_choice.specs.Store.{KeptBlock, Store, block_of}
+use Rattle.spec_fork_choice.specs.Store.{KeptBlock, Store, block_of, first_slot}
 use Rattle.fork_store.specs.Done.{IsDone}
+use Rattle.fork_store.specs.Stores.{first_epoch}
 
 -- a root is a kept block's, and the state behind the block can be taken on to a slot
 pub record IsReached (config : ConfigValues) (blocks : List KeptBlock) (root : List ℕ) (slot : ℕ) : Type 0 where
@@ -25,16 +26,20 @@ abbrev pub IsReachedCheckpoint : ConfigValues → List KeptBlock → Checkpoint 
 IsReachedCheckpoint config blocks checkpoint =
     IsReached config blocks checkpoint.root (compute_start_slot_at_epoch config.preset checkpoint.epoch)
 
--- A state whose slots before one are told by its latest block roots: each of these is reached at its slot, and so is its
--- justified checkpoint at the first slot of its epoch, if that isn't epoch 0. Where it is, nothing is justified or finalized
+-- A state whose slots before one are told by its latest block roots: from the first kept block on each of these is reached at its
+-- slot, and so is its justified checkpoint at the first slot of its epoch, if that is behind the first kept block's. Where it isn't,
+-- nothing behind that epoch is justified or finalized
 pub record IsLinkedTo (config : ConfigValues) (blocks : List KeptBlock) (end : ℕ) (state : PlainState) : Type 0 where
   pub preset : state.preset ≡ config.preset
   pub roots : length state.block_roots ≡ config.preset.slots_per_historical_root
-  pub history : (slot : ℕ) → slot < end → end ≤ slot + config.preset.slots_per_historical_root
+  pub history : (slot : ℕ) → first_slot blocks ≤ slot → slot < end → end ≤ slot + config.preset.slots_per_historical_root
       → IsReached config blocks (get_block_root_at_slot state slot) slot
-  pub justified : 0 < state.current_justified_checkpoint.epoch → IsReachedCheckpoint config blocks state.current_justified_checkpoint
-  pub previous : state.current_justified_checkpoint.epoch ≡ 0 → state.previous_justified_checkpoint.epoch ≡ 0
-  pub finalized : state.current_justified_checkpoint.epoch ≡ 0 → state.finalized_checkpoint.epoch ≡ 0
+  pub justified : first_epoch config.preset blocks < state.current_justified_checkpoint.epoch
+      → IsReachedCheckpoint config blocks state.current_justified_checkpoint
+  pub previous : state.current_justified_checkpoint.epoch ≤ first_epoch config.preset blocks
+      → state.previous_justified_checkpoint.epoch ≤ first_epoch config.preset blocks
+  pub finalized : state.current_justified_checkpoint.epoch ≤ first_epoch config.preset blocks
+      → state.finalized_checkpoint.epoch ≤ first_epoch config.preset blocks
 
 -- all slots before its own are
 abbrev pub IsLinked : ConfigValues → List KeptBlock → PlainState → Type 0

@@ -8,7 +8,7 @@ use Rattle.spec_state.specs.Soundness.{IsSound}
 use Rattle.spec_fork_choice.specs.Store.{KeptBlock, Store}
 use Rattle.spec_fork_choice.specs.StoreTargetCheckpointState.{store_target_checkpoint_state}
 use Rattle.fork_store.specs.inside.Kept.{CheckpointState}
-use Rattle.fork_store.specs.inside.Genesis.{at_genesis}
+use Rattle.fork_store.specs.inside.Openings.{as_opened}
 
 -- A state is the one of its checkpoint in a store, sound and of the store's preset
 pub record IsStateOf (store : Store) (kept : CheckpointState) : Type 0 where
@@ -18,7 +18,7 @@ pub record IsStateOf (store : Store) (kept : CheckpointState) : Type 0 where
 
 -- a store of a configuration with some blocks: the state of a checkpoint is made of nothing else that a store has
 abbrev pub store_with : ConfigValues → List KeptBlock → Store
-store_with config blocks = at_genesis config 0 (record { epoch = 0; root = zero_root }) blocks []
+store_with config blocks = as_opened config 0 0 (record { epoch = 0; root = zero_root }) blocks []
 
 -- all kept states are those of their checkpoints
 abbrev pub AreStatesOf : ConfigValues → List KeptBlock → List CheckpointState → Type 0

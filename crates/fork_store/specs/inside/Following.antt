@@ -4,9 +4,10 @@ use Rattle.std.specs.List.{AllByRecursion}
 use Rattle.beacon_types.specs.Equality.{same_checkpoint}
 use Rattle.beacon_types.specs.declared.checkpoint.Checkpoint.{Checkpoint}
 use Rattle.block_array.specs.PlainArray.{PlainArray}
+use Rattle.spec_state.specs.Genesis.{zero_root}
 use Rattle.spec_fork_choice.specs.Store.{Store, is_kept}
 use Rattle.fork_store.specs.declared.follow.Told.{Told}
-use Rattle.fork_store.specs.Arrays.{Balances, balances_at, nodes_of, node_number, IsRooted, IsBoostedNode, IsForNode, messages_at}
+use Rattle.fork_store.specs.Arrays.{Balances, balances_at, nodes_of, node_number, IsBoostedNode, IsForNode, messages_at}
 use Rattle.fork_store.specs.inside.Boosts.{IsZeroOrKept}
 use Rattle.fork_store.specs.inside.Wholes.{balances_for, AreReady}
 
@@ -33,7 +34,7 @@ pub record IsFed (store : Store) (told : Told) (array : PlainArray) : Type 0 whe
   pub slots_per_epoch : array.slots_per_epoch ≡ store.config.preset.slots_per_epoch
   pub percent : array.proposer_score_boost ≡ store.config.proposer_score_boost
   pub nodes : array.nodes ≡ nodes_of store.blocks
-  pub rooted : IsRooted store.blocks
+  pub named : is_kept store.blocks zero_root ≡ false
   pub messages : store.latest_messages ≡ messages_at array.nodes array.latest_messages
   pub voted : AllByRecursion (IsForNode (length array.nodes)) array.latest_messages
   pub balances : balances_at array ≡ balances_for store store.justified_checkpoint

@@ -5,7 +5,7 @@ use Rattle.spec_state.specs.declared.plain.PlainState.{PlainState}
 use Rattle.state_keeper.specs.declared.entry.Entry.{Entry}
 use Rattle.state_keeper.specs.Chain.{ChainBlock, kept_every}
 
--- what is kept of the state of a block so far from genesis
+-- what is kept of the state of a block so far from the first block
 unfoldable pub kept_of : {S : Type 0} → ℕ → S → Option S
 kept_of distance state = if distance % kept_every == 0 then Some state else None
 
@@ -18,7 +18,7 @@ module _ {B : Type 0} where
   abbrev pub StandsFor : List (Entry B PlainState) → ℕ → PlainState → Type 0
   StandsFor entries n state = option_map (λ e. e.state.value) (slice_get entries n) ≡ Some state
 
-  -- how far the block of a number is from genesis
+  -- how far the block of a number is from the first block
   abbrev pub distance_at : List (Entry B PlainState) → ℕ → ℕ
   distance_at entries n = unwrap_or (option_map (λ e. e.distance) (slice_get entries n)) 0
 
@@ -36,7 +36,7 @@ module _ {B : Type 0} where
     pub there : slice_get entries n ≡ Some entry
     pub kept : entry.kept ≡ Some entry.state.value
 
-  -- The entry of genesis
+  -- The entry of the first block
   pub record IsFirst (e : Entry B PlainState) : Type 0 where
     pub distance : e.distance ≡ 0
     pub kept : e.kept ≡ Some e.state.value

@@ -5,6 +5,7 @@ use bc_words::{ClashKind, Limit};
 use beacon_node::Status;
 use duties::DutiesFault;
 use record_file::RecordFault;
+use spec_fork_choice::AnchorFault;
 use spec_genesis::DepositsFault;
 use spec_state::GenesisFault;
 use std::alloc::{AllocError, Global};
@@ -87,6 +88,22 @@ fn duties_text(alloc: Global, fault: DutiesFault) -> Result<String, AllocError> 
     }
 }
 
+/// Why a state and a block are no anchor, as the cases name it.
+fn anchor_text(alloc: Global, fault: AnchorFault) -> Result<String, AllocError> {
+    match fault {
+        AnchorFault::StateTooLong => format!(in alloc; "StateTooLong"),
+        AnchorFault::StateNotAWriting => format!(in alloc; "StateNotAWriting"),
+        AnchorFault::BlockTooLong => format!(in alloc; "BlockTooLong"),
+        AnchorFault::BlockNotAWriting => format!(in alloc; "BlockNotAWriting"),
+        AnchorFault::EpochStart(_) => format!(in alloc; "EpochStart"),
+        AnchorFault::BlockSlot(_, _) => format!(in alloc; "BlockSlot"),
+        AnchorFault::Unsound => format!(in alloc; "Unsound"),
+        AnchorFault::StateRoot(_, _) => format!(in alloc; "StateRoot"),
+        AnchorFault::Header(_, _) => format!(in alloc; "Header"),
+        AnchorFault::Time(_, _) => format!(in alloc; "Time"),
+    }
+}
+
 /// The status as the cases write it.
 pub fn status_text(alloc: Global, status: &Status) -> Result<String, AllocError> {
     let number = status.number();
@@ -133,6 +150,10 @@ pub fn status_text(alloc: Global, status: &Status) -> Result<String, AllocError>
         }
         Status::Duties(fault) => {
             let fault = duties_text(alloc, *fault)?;
+            format!(in alloc; "{number} {name} fault={fault}")
+        }
+        Status::Anchor(fault) => {
+            let fault = anchor_text(alloc, *fault)?;
             format!(in alloc; "{number} {name} fault={fault}")
         }
         _ => format!(in alloc; "{number} {name}"),

@@ -1,5 +1,5 @@
 -- The law as it stands.
-use Rattle.beacon_node.proofs.Soundness as proofs
+use Rattle.spec_fork_choice.proofs.Soundness as proofs
 use Rattle.beacon_node.proofs.law.soundness_is_tested.Goals as goal
 
 pub returns : goal.returns

@@ -14,4 +14,4 @@ pub from_items-requires : goal.from_items-requires
 from_items-requires c =
     let many = length-map-range_with_len (vote_of c.args.state.now c.args.root.now c.args.slot) 0 c.loop-index.index in
     let same = ap length c.loop-index.invariant in
-    omega (arith, many, same, c.per_slot-index-end.ensures.most, c.loop-index.auto.index-end)
+    omega (arith, many, same, c.committee_count_per_slot-per_slot.ensures.most, c.loop-index.auto.index-end)

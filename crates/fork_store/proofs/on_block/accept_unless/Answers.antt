@@ -16,7 +16,7 @@ use Rattle.fork_store.specs.Stores.{IsBehind}
 use Rattle.fork_store.specs.Trees.{HasParent}
 use Rattle.fork_store.specs.inside.Wholes.{IsWhole}
 use Rattle.fork_store.proofs.Keepers.{keeper_same}
-use Rattle.fork_store.proofs.ArraysGenesis.{unclashed_root}
+use Rattle.fork_store.proofs.ArraysOpened.{unclashed_root}
 use Rattle.fork_store.proofs.Stays.{keeper_behind, keeper_unchanged, stop_leaves}
 use Rattle.fork_store.proofs.on_block.accept_unless.Goals as goal
 
@@ -131,3 +131,6 @@ returns-in_ok-accept-in-None-clause-parts c = c.in_ok-accept-in-None.ensures.par
 
 pub returns-in-Some-clause-parts : goal.returns-in-Some-clause-parts
 returns-in-Some-clause-parts c = c.requires.parts
+
+pub returns-in_ok-accept-in-None-clause-entered : goal.returns-in_ok-accept-in-None-clause-entered
+returns-in_ok-accept-in-None-clause-entered c = ap (λ (step : Stepped). step.entered) c.step.view_is

@@ -12,22 +12,22 @@ use Rattle.fork_store.proofs.Stepping.{check_stops}
 use Rattle.fork_store.proofs.on_block.block_step.Goals as goal
 
 pub kept_state-requires-clause-keeper : goal.kept_state-requires-clause-keeper
-kept_state-requires-clause-keeper c = c.requires.keeper.blocks ∙ sym c.blocks-2.ensures
+kept_state-requires-clause-keeper g c = c.requires.keeper.blocks ∙ sym c.blocks-2.ensures
 
 pub kept_state-requires-clause-inside : goal.kept_state-requires-clause-inside
-kept_state-requires-clause-inside c =
+kept_state-requires-clause-inside g c =
     subst (λ (b : List KeptBlock). c.args.parent < length b) (sym c.blocks-2.ensures) (inside c.args.store.now.blocks c.args.block.now.message.parent_root c.args.parent c.requires.number)
 
 pub step_from-requires-clause-parent : goal.step_from-requires-clause-parent
-step_from-requires-clause-parent c =
+step_from-requires-clause-parent g c =
     subst (λ (b : List KeptBlock). (root : List ℕ) → Some c.args.parent ≡ node_number b root → IsStateBehind b root c.in-Ok.state) c.blocks-2.ensures c.in-Ok.ensures.state
     c.args.block.now.message.parent_root c.requires.number
 
 pub step_from-requires-clause-checked : goal.step_from-requires-clause-checked
-step_from-requires-clause-checked c = record { value = c.in_ok-check_block.field-0; is = c.in_ok-check_block.ensures }
+step_from-requires-clause-checked g c = record { value = c.in_ok-check_block.field-0; is = c.in_ok-check_block.ensures }
 
 pub returns-in_err-check_block-clause-step : goal.returns-in_err-check_block-clause-step
-returns-in_err-check_block-clause-step c =
+returns-in_err-check_block-clause-step g c =
     let stops : (stop : Stop) → StopsExactly stop (check_block c.args.store.now c.args.block.now.message) → Stops stop (block_step c.args.store.now c.args.block.now) = λ stop is.
     check_stops c.args.store.now c.args.block.now stop c.args.parent c.requires.number is in
     search (rules, stops)

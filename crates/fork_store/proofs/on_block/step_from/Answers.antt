@@ -5,19 +5,19 @@ use Rattle.fork_store.proofs.Steps.{state_root_is}
 use Rattle.fork_store.proofs.Stepping.{step_gives, step_done, step_parent, step_linked, stepped_on}
 use Rattle.fork_store.proofs.on_block.step_from.Goals as goal
 
-pub state_transition-requires : goal.state_transition-requires
-state_transition-requires c = record { sound = behind_sound c.args.store.now.blocks c.args.block.now.message.parent_root c.args.parent.now c.requires.parent }
+pub visit_step-requires : goal.visit_step-requires
+visit_step-requires g c = record { sound = behind_sound c.args.store.now.blocks c.args.block.now.message.parent_root c.args.parent.now c.requires.parent }
 
 pub returns-in_err-step-clause-step : goal.returns-in_err-step-clause-step
-returns-in_err-step-clause-step c =
+returns-in_err-step-clause-step g c =
     step_gives c.args.store.now c.args.block.now c.args.parent.now c.requires.parent c.requires.checked.value c.requires.checked.is c.from_residual.result (search rules)
 
 pub returns-clause-step : goal.returns-clause-step
-returns-clause-step c =
+returns-clause-step g c =
     step_done c.args.store.now c.args.block.now c.args.parent.now c.requires.parent c.requires.checked.value c.requires.checked.is c.in_ok-step.step (rw (← c.config.ensures) c.in_ok-step.ensures.step)
 
 pub returns-clause-behind : goal.returns-clause-behind
-returns-clause-behind c = record {
+returns-clause-behind g c = record {
   sound = c.in_ok-step.ensures.sound;
   slot = c.in_ok-step.ensures.slot;
   latest = c.in_ok-step.ensures.latest;
@@ -25,17 +25,17 @@ returns-clause-behind c = record {
 }
 
 pub returns-clause-preset : goal.returns-clause-preset
-returns-clause-preset c =
+returns-clause-preset g c =
     c.in_ok-step.ensures.preset
     ∙ behind_preset c.args.store.now.blocks c.args.block.now.message.parent_root c.args.parent.now c.requires.parent c.args.store.now.config.preset c.is_sound.ensures.store.presets
 
 pub returns-clause-parent : goal.returns-clause-parent
-returns-clause-parent c = step_parent c.args.store.now c.args.block.now c.args.parent.now c.in_ok-step.step c.requires.parent (rw (← c.config.ensures) c.in_ok-step.ensures.step)
+returns-clause-parent g c = step_parent c.args.store.now c.args.block.now c.args.parent.now c.in_ok-step.step c.requires.parent (rw (← c.config.ensures) c.in_ok-step.ensures.step)
 
 pub returns-clause-linked : goal.returns-clause-linked
-returns-clause-linked c =
-    step_linked c.args.store.now c.args.block.now c.args.parent.now c.in_ok-step.step c.requires.parent (rw (← c.config.ensures) c.in_ok-step.ensures.step) c.requires.chained c.is_sound.ensures.preset
+returns-clause-linked g c =
+    step_linked c.args.store.now c.args.block.now c.args.parent.now c.in_ok-step.step c.requires.parent (rw (← c.config.ensures) c.in_ok-step.ensures.step) c.requires.chained c.is_sound.ensures.preset c.requires.low
 
 pub returns-clause-stepped : goal.returns-clause-stepped
-returns-clause-stepped c =
+returns-clause-stepped g c =
     stepped_on c.args.store.now c.args.block.now c.args.parent.now c.in_ok-step.step c.requires.parent (rw (← c.config.ensures) c.in_ok-step.ensures.step) c.is_sound.ensures.store

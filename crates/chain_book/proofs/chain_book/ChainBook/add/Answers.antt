@@ -8,10 +8,10 @@ use Rattle.chain_book.proofs.chain_book.ChainBook.add.Goals as goal
 
 pub add-requires-clause-step : goal.add-requires-clause-step
 add-requires-clause-step c =
-    is_step (record { book = c.self.inside.book; which = c.self.inside.which; root = c.self.inside.root; state = c.self.inside.state }) c.args.event c.root-root.result c.args.block.now (record { state = c.step.inside.state; entered = c.step.inside.entered })
-    c.self.invariant.0 (c.is_same.ensures (search rules)) c.root-root.ensures (omega arith) (c.is_set.ensures (search rules)) (subst (λ (r : List ℕ). same_root r zero_root ≡ false) c.root.ensures (c.is_set-else-not-is_set.ensures (search rules))) (goes_on c.args.self.now _ c.args.block.now c.args.step _ c.self.view_is c.step.view_is c.requires.step)
+    is_step (record { book = c.self.inside.book; which = c.self.inside.which; root = c.self.inside.root; state = c.self.inside.state }) c.args.event c.root-root.result c.args.block.now (record { state = c.args.state; entered = c.args.watch.now.entered })
+    c.self.invariant.0 (c.is_same.ensures (search rules)) c.root-root.ensures (omega arith) (c.is_set.ensures (search rules)) (subst (λ (r : List ℕ). same_root r zero_root ≡ false) c.root.ensures (c.is_set-else-not-is_set.ensures (search rules))) (goes_on c.args.self.now _ c.args.block.now _ c.self.view_is c.requires.step)
 
 pub invariant_of-self-2 : goal.invariant_of-self-2
 invariant_of-self-2 c =
     next_of (record { book = c.self.inside.book; which = c.self.inside.which; root = c.self.inside.root; state = c.self.inside.state }) c.self.inside.count _ _ _ _ c.self.invariant.0 c.self.invariant.1 c.self.invariant.2 c.self.invariant.3
-    (subst (λ (s : Stepped). IsSound s.state) (sym c.step.view_is) c.requires.sound) c.in_ok-add.ensures.0
+    c.requires.sound c.in_ok-add.ensures.0

@@ -13,7 +13,7 @@ invariant_of-result c =
     let ok : IsPlan c.args.plan = subst IsPlan c.plan.view_is c.plan.invariant in
     let begins : c.in_ok-state.state ≡ made_genesis c.args.plan.config.preset c.args.plan.number =
     c.in_ok-state.ensures.state ∙ (ap (λ (p : Preset). made_genesis p c.plan.inside.number) c.preset.ensures.exact ∙ ap (λ (p : Plan). made_genesis p.config.preset p.number) c.plan.view_is) in
-    subst IsMaker (sym (new_is c.args.plan c.in_ok-state.state c.new.result begins c.new.ensures)) (new_maker_stands c.args.plan ok)
+    record { is = subst IsMaker (sym (new_is c.args.plan c.in_ok-state.state c.new.result begins c.new.ensures)) (new_maker_stands c.args.plan ok); reached = tt }
 
 pub returns : goal.returns
 returns c =

@@ -1,6 +1,5 @@
 -- What is given is accepted.
-use Rattle.chain_maker.proofs.Steps.{accepted_next}
 use Rattle.chain_maker.proofs.maker.Maker.next_event.Goals as goal
 
-pub returns-clause-accepted : goal.returns-clause-accepted
-returns-clause-accepted c given store none has e = accepted_next c.args.self.now c.give.new.self c.give.result given store c.give.ensures.ok c.give.ensures.gives none has e
+pub returns-in-Ok-Some-clause-accepted : goal.returns-in-Ok-Some-clause-accepted
+returns-in-Ok-Some-clause-accepted c given store none has e = rw c.in-Ok-Some.field-0-is at (c.in-Ok-Some.ensures.accepted given store none has e)

@@ -1,22 +1,14 @@
--- What the maker gives, counted.
-use Rattle.chain_maker.proofs.Sourced.{given_next, given_kind, none_next, stop_next}
+-- What the maker gives, without a block's step.
 use Rattle.chain_maker.proofs.source.MadeEventsEventSource.next_event.Goals as goal
 
 pub returns-in-Ok-Some-clause-next : goal.returns-in-Ok-Some-clause-next
-returns-in-Ok-Some-clause-next g c =
-    let next = rw c.in-Ok-Some.field-0-is at c.in-Ok-Some.ensures.gives in
-    rw (← c.self.view_is) (given_next c.self.inside.maker c.next_event.new.self c.self.inside.given c.in-Ok-Some.event next _)
-
-pub returns-in-Ok-Some-clause-kind : goal.returns-in-Ok-Some-clause-kind
-returns-in-Ok-Some-clause-kind g c =
-    let next = rw c.in-Ok-Some.field-0-is at c.in-Ok-Some.ensures.gives in
-    given_kind c.self.inside.maker c.next_event.new.self c.self.inside.given c.in-Ok-Some.event next
+returns-in-Ok-Some-clause-next g c = rw c.in-Ok-Some.field-0-is at (c.in-Ok-Some.ensures.next (g.F.Shelf.told c.args._shelf.now))
 
 pub returns-in-Ok-None-clause-next : goal.returns-in-Ok-None-clause-next
-returns-in-Ok-None-clause-next g c =
-    let next = rw c.in-Ok-None.field-0-is at c.in-Ok-None.ensures.gives in
-    rw (← c.self.view_is) (none_next c.self.inside.maker c.next_event.new.self c.self.inside.given _ next)
+returns-in-Ok-None-clause-next g c = rw c.in-Ok-None.field-0-is at (c.in-Ok-None.ensures.next (g.F.Shelf.told c.args._shelf.now))
 
 pub returns-in-Err-clause-next : goal.returns-in-Err-clause-next
-returns-in-Err-clause-next g c =
-    rw (c.stop_of.ensures, ← c.self.view_is) (stop_next c.self.inside.maker c.next_event.new.self c.self.inside.given c.in-Err.stop _ c.in-Err.ensures.gives)
+returns-in-Err-clause-next g c = c.in-Err.ensures.next _
+
+pub returns-in-Err-clause-causes : goal.returns-in-Err-clause-causes
+returns-in-Err-clause-causes g c = c.in-Err.ensures.causes _

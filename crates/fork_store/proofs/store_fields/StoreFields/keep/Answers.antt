@@ -9,6 +9,7 @@ use Rattle.fork_store.specs.Trees.{Follows}
 use Rattle.fork_store.proofs.Keepers.{becomes_store, few_after}
 use Rattle.fork_store.proofs.Stays.{keeper_spared}
 use Rattle.fork_store.proofs.Trees.{kept_store}
+use Rattle.fork_store.proofs.ArraysPlaces.{some_numbered}
 use Rattle.fork_store.proofs.CheckpointStates.{states_stay}
 use Rattle.fork_store.proofs.store_fields.StoreFields.keep.Goals as goal
 
@@ -16,7 +17,8 @@ pub invariant_of-self : goal.invariant_of-self
 invariant_of-self c = (
   kept_store c.push.result (plain_of c.self.inside) c.push.new.self (kept_of c.args.root c.args.block.message c.args.state) c.push.ensures.blocks c.self.invariant.0
       (subst (λ (s : Store). c.args.state.preset ≡ s.config.preset) (sym c.self.view_is) c.requires.preset)
-      (subst (λ (s : Store). Follows s.blocks (kept_of c.args.root c.args.block.message c.args.state)) (sym c.self.view_is) c.requires.follows),
+      (subst (λ (s : Store). Follows s.blocks (kept_of c.args.root c.args.block.message c.args.state)) (sym c.self.view_is) c.requires.follows)
+      (subst (λ (s : Store). 0 < length s.blocks) (sym c.self.view_is) (some_numbered c.args.self.now.blocks c.args.block.message.parent_root c.args.parent (sym c.requires.parent))),
   states_stay c.push.result c.self.inside.config c.self.inside.blocks c.push.new.self (kept_of c.args.root c.args.block.message c.args.state) c.self.inside.states c.push.ensures.blocks c.self.invariant.1,
 )
 

@@ -1,0 +1,14 @@
+pub mod Lists
+pub mod Named
+pub mod Offences
+pub mod Operations
+pub mod Accepts
+pub mod Nobody
+pub mod Processed
+pub mod Stands
+pub mod Held
+pub mod Written
+pub mod One
+pub mod Sorted
+pub mod Events
+pub mod Evidence

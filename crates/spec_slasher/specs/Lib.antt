@@ -1,0 +1,5 @@
+pub mod GetIndexedAttestation
+pub mod AttestationOf
+pub mod Operations
+pub mod Accepts
+pub mod Written
