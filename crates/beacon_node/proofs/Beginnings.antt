@@ -18,6 +18,7 @@ use Rattle.ssz_codec.specs.Layout.{OffsetsFit}
 use Rattle.spec_state.specs.declared.plain.PlainState.{PlainState}
 use Rattle.spec_state.specs.declared.fault.GenesisFault.{GenesisFault}
 use Rattle.spec_state.specs.declared.fault.ValidatorFault.{ValidatorFault}
+use Rattle.spec_state.specs.Constants.{far_future_epoch}
 use Rattle.spec_state.specs.Accessors.{get_active_validator_indices, get_current_epoch, get_total_active_balance, get_total_balance, indices_from}
 use Rattle.spec_state.specs.Genesis.{genesis_fault, header_root_of, is_genesis_header, is_zero_checkpoint, or_later, validator_fault, validators_fault, zero_root}
 use Rattle.spec_state.specs.Limits.{IsState, IsInRange}
@@ -39,7 +40,7 @@ pub few_validators : (s : PlainState) → IsInRange s → HasWriting s → lengt
 unfolding state_fields OffsetsFit
 few_validators s range written =
     let long : length (flat_map validator_codec.serialize s.validators) ≡ length s.validators * 121 = sized 121 validator_codec s.validators (λ v w. validator_lawful.size v w) range.validators in
-    omega (arith, long, written.whole.3)
+    omega (arith, long, written.whole.1.1.1.0)
 
 -- ---- what a validator has
 
@@ -51,9 +52,9 @@ low_balance : (most : ℕ) (v : Validator) → validator_fault most v ≡ None �
 unfolding validator_fault
 low_balance most v none =
     let slashed = passed v.slashed _ _ none in
-    let exit = passed _ _ _ slashed.1 in
-    let withdrawable = passed _ _ _ exit.1 in
-    let activation = passed _ _ _ withdrawable.1 in
+    let exit = passed (not (v.exit_epoch == far_future_epoch)) _ _ slashed.1 in
+    let withdrawable = passed (not (v.withdrawable_epoch == far_future_epoch)) _ _ exit.1 in
+    let activation = passed (not (v.activation_epoch == 0) && not (v.activation_epoch == far_future_epoch)) _ _ withdrawable.1 in
     let effective = passed (nat_lt most v.effective_balance) _ _ activation.1 in
     not_more most v.effective_balance effective.0
   where
@@ -76,13 +77,14 @@ low_balances most i (v ∷ vs) (suc n) none = low_balances most (i + 1) vs n (no
 no_fault_of_validators : (s : PlainState) → genesis_fault s ≡ None → validators_fault s.preset.max_effective_balance 0 s.validators ≡ None
 unfolding genesis_fault
 no_fault_of_validators s none =
-    let slot = passed _ _ _ none in
-    let header = passed _ _ _ slot.1 in
-    let checkpoints = passed _ _ _ header.1 in
-    let bits = passed _ _ _ checkpoints.1 in
-    let slashings = passed _ _ _ bits.1 in
-    let lists = passed _ _ _ slashings.1 in
-    (passed _ _ _ lists.1).1
+    let slot = passed (not (s.slot == 0)) _ _ none in
+    let header = passed (not (is_genesis_header s.latest_block_header)) _ _ slot.1 in
+    let checkpoints = passed (not (is_zero_checkpoint s.previous_justified_checkpoint && (is_zero_checkpoint s.current_justified_checkpoint && is_zero_checkpoint s.finalized_checkpoint))) _ _ header.1 in
+    let bits = passed (not (list_all not s.justification_bits)) _ _ checkpoints.1 in
+    let slashings = passed (not (list_all (λ n. n == 0) s.slashings)) _ _ bits.1 in
+    let lists =
+    passed (not ((length s.previous_epoch_attestations == 0) && ((length s.current_epoch_attestations == 0) && ((length s.eth1_data_votes == 0) && (length s.historical_roots == 0))))) _ _ slashings.1 in
+    (passed (not (length s.balances == length s.validators)) _ _ lists.1).1
 
 -- ---- what all have
 

@@ -1,5 +1,5 @@
 -- The command words as the first step of a run.
-use Rattle.std.proofs.Common.{◌≡◌, ℕ, List, [], Option, Some, None, Err, true, false, refl, sym, append-nil, arith}
+use Rattle.std.proofs.Common.{◌≡◌, ℕ, List, [], Option, Some, None, Err, true, false, refl, sym, ◌∙◌, append-nil, arith}
 use Rattle.bc_outside.specs.Told.{FileHanded, ShelfTold}
 use Rattle.command_words.specs.Commands.{AnchorFiles, Command, DrillWords, DutiesWords, ForensicFiles, GenesisFiles, ReplayFiles, anchor, command_of, drill, duties, forensic, genesis, names_of, replay}
 use Rattle.command_words.specs.inside.Reading.{ReadsCommand}

@@ -209,8 +209,8 @@ module _ (genesis : PlainState) (store : Store) (first second : Events) where
   first_told left h = rw h refl
 
 -- the genesis doesn't clash, so that its stores open unless memory runs out
-pub opening_breaks : (status : Status) (clash : Option ClashKind) (split : Result (List ℕ) End) → clash ≡ None → OpeningEnds status clash → SplitEnds status split
-opening_breaks status clash split none h = λ on. let e = h.clashes on in absurd (let no = sym none ∙ e.1 in cc)
+pub opening_breaks : (status : Status) (found : Option ClashKind) (split : Result (List ℕ) End) → found ≡ None → OpeningEnds status found → SplitEnds status split
+opening_breaks status found split none h = λ on. let e = h.clashes on in absurd (let no = sym none ∙ e.1 in cc)
 
 -- ---- all chains
 
@@ -316,6 +316,7 @@ makers_still plan makers are = subst (λ (p : Plan). AreMakers p makers) (sym (p
 
 -- what they give are the plan's chains
 given_by : (plan : Plan) (maker : PlainMaker) → maker ≡ new_maker plan → events_to_come 0 (to_come maker) ≡ events_to_come 0 (made plan)
+unfolding new_maker
 given_by plan maker is = ap (events_to_come 0) (ap to_come is ∙ sym (new_has_given plan))
 
 pub makers_give : (plan : Plan) (makers : Makers) → AreMakers plan makers → chains_to_come makers ≡ chains_of plan

@@ -247,6 +247,10 @@ begins_with_genesis : (genesis : PlainState) (history : List AcceptedBlock) (roo
 begins_with_genesis genesis [] root k found = found
 begins_with_genesis genesis (b ∷ earlier) root k found = kept_on genesis b earlier root k (is_kept (first_accepted genesis earlier) b.root) refl (begins_with_genesis genesis earlier root k found)
 
+nothing_else : (b : BeaconBlock) → is_another None b ≡ false
+unfolding is_another
+nothing_else b = refl
+
 genesis_clear_by : (genesis : PlainState) (history : List AcceptedBlock) (root : List ℕ) (b : BeaconBlock) (found : Option KeptBlock) → block_of (first_accepted genesis []) root ≡ found → clash_among (first_accepted genesis history) root b ≡ None
     → clash_among (first_accepted genesis []) root b ≡ None
 genesis_clear_by genesis history root b (Some k) is none =
@@ -255,10 +259,6 @@ genesis_clear_by genesis history root b (Some k) is none =
     ap (λ (o : Option KeptBlock). is_another (option_map (λ (k : KeptBlock). k.block) o) b) (is ∙ sym here) in
     no_clash (first_accepted genesis []) root b (same ∙ none_another (first_accepted genesis history) root b _ refl none)
 genesis_clear_by genesis history root b None is none = no_clash (first_accepted genesis []) root b (rw is (nothing_else b))
-  where
-    nothing_else : (b : BeaconBlock) → is_another None b ≡ false
-    unfolding is_another
-    nothing_else b = refl
 
 clear_of_both : (genesis : PlainState) (first second : List AcceptedBlock) (root : List ℕ) (b : BeaconBlock) → clash_among (first_accepted genesis first) root b ≡ None → clash_among (first_accepted genesis second) root b ≡ None
     → clash_with genesis first second root b ≡ None

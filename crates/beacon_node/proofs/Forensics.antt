@@ -198,5 +198,5 @@ pub follows_outside : (names more : List (List ℕ)) (status : Status) {T : Type
 follows_outside names more status h = ends_here names more (only_shelf h.shelf) (record { read = h.read; write = λ is. absurd (h.others.1 is) })
 
 -- the stores don't open
-pub opening_outside : (names : List (List ℕ)) (status : Status) (clash : Option ClashKind) (s : ShelfTold) (p : SinkTold) → OpeningEnds status clash → OutsideKeeps names (Some status) s s p p
-opening_outside names status clash s p h = ends_here [] names (untouched s p) (no_fault status h.inside.read h.inside.write)
+pub opening_outside : (names : List (List ℕ)) (status : Status) (found : Option ClashKind) (s : ShelfTold) (p : SinkTold) → OpeningEnds status found → OutsideKeeps names (Some status) s s p p
+opening_outside names status found s p h = ends_here [] names (untouched s p) (no_fault status h.inside.read h.inside.write)

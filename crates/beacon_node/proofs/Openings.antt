@@ -62,7 +62,6 @@ module _ (config : ConfigValues) (genesis : PlainState) (histories : Histories) 
   nothing_in which less = nothing which less (ap (λ (book : PlainBook). history_of book which) are.book)
     where
       nothing : (which : ℕ) → which < 2 → history_of histories.book which ≡ history_of (begun config genesis) which → history_of histories.book which ≡ []
-      unfolding history_of begun
       nothing 0 less is = is
       nothing 1 less is = is
       nothing (suc (suc n)) less is = absurd (omega (arith, less))

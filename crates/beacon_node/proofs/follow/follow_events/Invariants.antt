@@ -8,7 +8,7 @@ use Rattle.beacon_node.proofs.follow.follow_events.Given as goal
 abbrev pub invariant-events : goal.invariant-events
 invariant-events g l = record {
   progress : FollowedSoFar l.side (followed_by l.side l.initial.store.plain l.initial.book) (g.S.EventSource.seen l.initial.source) (g.F.Shelf.told l.initial.shelf) (followed_by l.side l.store.plain l.book) (g.S.EventSource.seen l.source) (g.F.Shelf.told l.shelf);
-  following : IsFollowing l.side l.genesis.now l.store.plain l.book;
+  following : IsFollowing l.side l.genesis l.store.plain l.book;
   same : SameBeside l.side l.initial.book l.book;
   shelf : ShelfKeeps [] (g.F.Shelf.told l.initial.shelf) (g.F.Shelf.told l.shelf);
   few : length l.store.plain.blocks ≤ (g.S.EventSource.seen l.source).events + 1;
