@@ -1,6 +1,6 @@
 -- The events of a record that is followed, one after the other.
-use Rattle.std.proofs.Common.{◌≡◌, ◌≢◌, ◌∙◌, ℕ, ◌+◌, ◌<◌, Bool, true, false, List, [], ◌∷◌, ◌++◌, Option, Some, None, Result, Ok, Err, IfErr, if◌then◌else◌, refl, sym, ap, ap₂, subst, append_assoc, inl, inr, arith}
-use Rattle.std.specs.Option.{option_map}
+use Rattle.std.proofs.Common.{◌≡◌, ◌≢◌, ◌∙◌, ℕ, ◌+◌, ◌<◌, Bool, true, false, List, [], ◌∷◌, ◌++◌, Option, Some, None, Result, Ok, Err, IfErr, IfOk, if◌then◌else◌, refl, sym, ap, ap₂, subst, append_assoc, inl, inr, arith}
+use Rattle.std.specs.Option.{option_map, option_and_then}
 use Rattle.std.proofs.lemmas.Bool.{cases_Bool}
 use Rattle.bc_outside.specs.Told.{ShelfTold}
 use Rattle.bc_outside.specs.Calls.{FailsOnlyBy, ShelfKeeps}
@@ -13,6 +13,7 @@ use Rattle.bc_words.specs.declared.store_stop.ClashKind.{ClashKind}
 use Rattle.bc_words.specs.declared.store_stop.ClashKind.TheVariants as kinds
 use Rattle.bc_words.specs.declared.refusal.Refusal.{Refusal}
 use Rattle.beacon_body.specs.declared.block.BeaconBlock.{BeaconBlock}
+use Rattle.ssz_codec.specs.Lawful.{IsBytes}
 use Rattle.record_file.specs.Record as record_file
 use Rattle.record_file.specs.Record.{Events, with_event}
 use Rattle.record_file.specs.Frames.{CanFollow}
@@ -27,13 +28,17 @@ use Rattle.spec_state.specs.declared.plain.PlainState.{PlainState}
 use Rattle.spec_fork_choice.specs.Store.{KeptBlock, Store, block_of, is_kept}
 use Rattle.spec_fork_choice.specs.Clash.{clash_among, is_another, place_of}
 use Rattle.spec_fork_choice.specs.OnBlock.{BlockIn}
-use Rattle.spec_fork_choice.specs.OnEvent.{Accepted, block, other}
+use Rattle.spec_fork_choice.specs.OnEvent.{Accepted, block, other, on_event}
 use Rattle.fork_store.proofs.ArraysPlaces.{block_more}
 use Rattle.spec_forensics.specs.Histories as histories
 use Rattle.spec_forensics.specs.Histories.{AcceptedBlock}
 use Rattle.spec_forensics.specs.Clash.{clash_with, first_accepted, first_or_second, kept_block}
-use Rattle.safety_law.specs.Follows.{Follows}
+use Rattle.safety_law.specs.Follows.{Follows, IsAdded}
+use Rattle.safety_law.proofs.Followed.{added_event, block_is_added, event_followed}
+use Rattle.transition.specs.Shown.{shown_all}
 use Rattle.forensics.specs.Books.{PlainBook, clash_in, history_of, with_block}
+use Rattle.forensics.specs.Watches.{PlainWatch, with_entered}
+use Rattle.forensics.proofs.Watches.{watched}
 use Rattle.spec_replay.specs.Run.{End, bad_record, limited, clash}
 use Rattle.spec_replay.specs.Forensic.{Followed, clash_of_accepted, follow_events, follow_then, unless_clash}
 use Rattle.beacon_node.specs.declared.follow.Side.{Side}
@@ -237,6 +242,9 @@ pub none_among : (root : List ℕ) (b : BeaconBlock) → None ≡ clash_among []
 unfolding clash_among block_of is_another
 none_among root b = refl
 
+pub none_beside : (side : Side) (root : List ℕ) (b : BeaconBlock) → side ≡ First → None ≡ clash_among (others_of side) root b
+none_beside side root b is = rw is (none_among root b)
+
 kept_on : (genesis : PlainState) (b : AcceptedBlock) (earlier : List AcceptedBlock) (root : List ℕ) (k : KeptBlock) (test : Bool) → is_kept (first_accepted genesis earlier) b.root ≡ test → block_of (first_accepted genesis earlier) root ≡ Some k
     → block_of (first_accepted genesis (b ∷ earlier)) root ≡ Some k
 unfolding first_accepted
@@ -316,6 +324,90 @@ unopened_outside names troubles.NoMemory h keeps = record { shelf = keeps; read 
 pub still_following : (side : Side) (genesis : PlainState) (old_store new_store : Store) (old new : PlainBook) → IsFollowing side genesis old_store old → SameBeside side old new → Follows old.config old.genesis (history_of new (which_of side)) new_store → IsFollowing side genesis new_store new
 still_following side genesis old_store new_store old new is same follows = record {
   genesis_is = same.genesis ∙ is.genesis_is;
-  follows = rw (same.config, same.genesis) follows;
+  follows = rw (same.config, ← is.genesis_is) follows;
   beside = still_beside side old new same is.beside;
 }
+
+-- ---- an accepted block
+
+-- the block and the state that the store keeps of its root are those of the added one
+kept_parts : (blocks : List KeptBlock) (root : List ℕ) (kept : KeptBlock) (b : BeaconBlock) (state : PlainState) → block_of blocks root ≡ Some kept → Some b ≡ option_map (λ (k : KeptBlock). k.block) (block_of blocks root)
+    → Some state ≡ option_map (λ (k : KeptBlock). k.state) (block_of blocks root) → (b ≡ kept.block) × (state ≡ kept.state)
+kept_parts blocks root kept b state found b_is state_is =
+    let of_block : Some b ≡ Some kept.block = b_is ∙ ap (option_map (λ (k : KeptBlock). k.block)) found in
+    let of_state : Some state ≡ Some kept.state = state_is ∙ ap (option_map (λ (k : KeptBlock). k.state)) found in
+    (cc, cc)
+
+module _ (side : Side) (number : ℕ) (store : Store) (given : BlockIn) (old : PlainBook) (added : IsAdded old.config old.genesis (history_of old (which_of side)) store number given) (b : BeaconBlock) (state : PlainState) (root : List ℕ)
+    (root_is : root ≡ given.root) (block_is : Some b ≡ option_map (λ (k : KeptBlock). k.block) (block_of store.blocks given.root)) (state_is : Some state ≡ option_map (λ (k : KeptBlock). k.state) (block_of store.blocks given.root)) where
+  parts : (b ≡ added.kept.block) × (state ≡ added.kept.state)
+  parts = kept_parts store.blocks given.root added.kept b state added.found block_is state_is
+
+  -- it is compared with the others
+  pub compared : (found : Option ℕ) → found ≡ clash_among (others_of side) root b → clash_of_accepted (others_of side) store (block given) ≡ found
+  unfolding clash_of_accepted
+  compared found is =
+      ap (option_and_then (λ (kept : KeptBlock). clash_among (others_of side) given.root kept.block)) added.found ∙ sym (is ∙ ap₂ (clash_among (others_of side)) root_is parts.0)
+
+  -- and then it may go to the book
+  pub is_clear : IsBeside side old → None ≡ clash_among (others_of side) root b → clash_in old root b ≡ None
+  is_clear beside none = clear_in side old root b beside (ap₂ (clash_among (first_accepted old.genesis (history_of old (which_of side)))) root_is parts.0 ∙ added.clear) (sym none)
+
+  module _ (new : PlainBook) (entered : List PlainState) (entered_is : entered ≡ given.entered) (is : new ≡ with_block old (which_of side) (record { event = number; root = root; block = b; state = state; entered = entered })) where
+    abbrev one_more : AcceptedBlock
+    one_more = record { event = number; root = root; block = b; state = state; entered = entered }
+
+    abbrev one_added : AcceptedBlock
+    one_added = record { event = number; root = given.root; block = added.kept.block; state = added.kept.state; entered = given.entered }
+
+    same_added : one_more ≡ one_added
+    same_added = rw (root_is, parts.0, parts.1, entered_is) refl
+
+    -- where it is the latest one
+    pub block_added : None ≡ clash_among (others_of side) root b → BlockFollowed side number store given old new
+    block_added none = record {
+      clear = compared None none;
+      history = added_history side old new one_more is ∙ ap (λ (x : AcceptedBlock). x ∷ history_of old (which_of side)) same_added ∙ sym (added_event old.config old.genesis (history_of old (which_of side)) store given number added);
+    }
+
+-- ---- an event that the store accepted
+
+-- the watch was shown the states of the block
+pub watch_saw : (genesis : PlainState) (book : PlainBook) (new seen : PlainWatch) (states : List PlainState) → book.genesis ≡ genesis → new ≡ record { genesis = genesis; entered = [] } → seen ≡ shown_all with_entered new states
+    → seen ≡ record { genesis = book.genesis; entered = states }
+watch_saw genesis book new seen states same begins saw =
+    saw ∙ ap (λ (w : PlainWatch). shown_all with_entered w states) begins ∙ watched genesis states ∙ ap (λ (g : PlainState). record { genesis = g; entered = states }) (sym same)
+
+module _ (side : Side) (genesis : PlainState) (number kind : ℕ) (payload : List ℕ) (old_store store : Store) (old : PlainBook) (is : IsFollowing side genesis old_store old) (bytes : IsBytes payload) where
+  pub block_to_add : (given : BlockIn) → on_event old_store kind payload ≡ accepted (store, block given) → IsAdded old.config old.genesis (history_of old (which_of side)) store number given
+  block_to_add given took = rw is.genesis_is (block_is_added old.config genesis (history_of old (which_of side)) old_store store kind payload given number is.follows bytes took)
+
+  pub other_follows : on_event old_store kind payload ≡ accepted (store, other) → IsFollowing side genesis store old
+  unfolding histories.with_event
+  other_follows took = record {
+    genesis_is = is.genesis_is;
+    follows = event_followed old.config genesis (history_of old (which_of side)) old_store store kind payload other number is.follows bytes took;
+    beside = is.beside;
+  }
+
+  module _ (given : BlockIn) (took : on_event old_store kind payload ≡ accepted (store, block given)) (new_store : Store) (new : PlainBook) (same_store : new_store ≡ store) where
+    pub block_follows : (result : Result (Unit {0}) Status) → SameBeside side old new → IfOk result (λ _. BlockFollowed side number store given old new) → IfOk result (λ _. IsFollowing side genesis new_store new)
+    block_follows (Ok v) same followed =
+        still_following side genesis old_store new_store old new is same
+        (rw (same_store, followed.history, is.genesis_is) (event_followed old.config genesis (history_of old (which_of side)) old_store store kind payload (block given) number is.follows bytes took))
+    block_follows (Err status) same followed = tt
+
+    pub block_goes_on : (result : Result (Unit {0}) Status) → IfOk result (λ _. BlockFollowed side number store given old new)
+        → IfOk result (λ _. EventFollowed (which_of side) (others_of side) number (followed_by side old_store old) (on_event old_store kind payload) (followed_by side new_store new))
+    block_goes_on (Ok v) followed =
+        rw same_store (block_followed (which_of side) (others_of side) number (followed_by side old_store old) (on_event old_store kind payload) store given (history_of new (which_of side)) took followed.clear followed.history)
+    block_goes_on (Err status) followed = tt
+
+    pub block_stops : (result : Result (Unit {0}) Status) → IfErr result (λ status. ClashesBy status (which_of side) number (clash_of_accepted (others_of side) store (block given)))
+        → IfErr result (λ status. EventEnds status (which_of side) (others_of side) number (followed_by side old_store old) (on_event old_store kind payload))
+    block_stops (Ok v) h = tt
+    block_stops (Err status) h = block_ends (which_of side) (others_of side) number (followed_by side old_store old) (on_event old_store kind payload) status store given took h
+
+    pub block_stops_inside : (result : Result (Unit {0}) Status) → IfErr result (λ status. ClashesBy status (which_of side) number (clash_of_accepted (others_of side) store (block given))) → IfErr result (λ status. IsInside status)
+    block_stops_inside (Ok v) h = tt
+    block_stops_inside (Err status) h = clash_is_inside status (which_of side) number (clash_of_accepted (others_of side) store (block given)) h

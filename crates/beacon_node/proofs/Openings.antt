@@ -71,7 +71,7 @@ module _ (config : ConfigValues) (genesis : PlainState) (histories : Histories) 
   unfolding begun history_of
   first_begins =
       let follows : Follows config genesis [] histories.first.plain = rw are.first (begins_followed config genesis are.begins) in
-      record { genesis_is = ap (λ (book : PlainBook). book.genesis) are.book ∙ sym are.genesis_is; follows = rw are.book follows; beside = ap (λ (book : PlainBook). book.second) are.book }
+      record { genesis_is = ap (λ (book : PlainBook). book.genesis) are.book ∙ sym are.genesis_is; follows = rw (are.book, are.genesis_is) follows; beside = ap (λ (book : PlainBook). book.second) are.book }
 
   -- and so is the second one
   pub second_begins : Follows histories.book.config histories.book.genesis [] histories.second.plain
@@ -80,7 +80,7 @@ module _ (config : ConfigValues) (genesis : PlainState) (histories : Histories) 
 
 -- the second record is followed behind the first one, from the beginning
 pub second_follows : (side : Side) (genesis : PlainState) (store : Store) (book : PlainBook) → which_of side ≡ 1 → book.genesis ≡ genesis → history_of book 1 ≡ [] → Follows book.config book.genesis [] store → IsBeside side book → IsFollowing side genesis store book
-second_follows side genesis store book second is none follows beside = record { genesis_is = is; follows = rw (second, none) follows; beside = beside }
+second_follows side genesis store book second is none follows beside = record { genesis_is = is; follows = rw (second, none, ← is) follows; beside = beside }
 
 -- once the first record was followed, the book is as the second one begins with
 pub then_second : (genesis : PlainState) (store second : Store) (old new : PlainBook) → SameBeside First old new → history_of old 1 ≡ [] → Follows old.config old.genesis [] second

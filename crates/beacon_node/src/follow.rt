@@ -25,6 +25,7 @@ use fork_store::{Accepted, BlockIn, Store};
 use hash_tree::Root;
 use record_file::{Event, EventSource, Frames, SourceStop};
 use std::alloc::Global;
+use transition::Watched;
 
 /// Which record is followed.
 #[derive(Clone, Copy)]
@@ -48,7 +49,6 @@ impl<'a> Side<'a> {
     }
 
     /// The place of the other record's block that has this root and another content. None exactly where there is none.
-    #[tactic(auto, using(crate::proofs::Following::none_among))]
     fn clash(&self, root: Root, block: &BeaconBlock) -> Option<u32>
         requires { length (others_of self.now) < 2 ^ 32 }
         ensures { result ≡ clash_among (others_of self.now) root block.now }
@@ -136,10 +136,10 @@ fn follow_event(
     ensures inside { IfErr result (λ status. IsInside status) }
 {
     are_bytes(event.payload.as_slice());
-    let mut watch = Watch::new(genesis);
-    match store.visit_event(alloc, event.kind, event.payload.as_slice(), &mut watch) {
+    let mut watched = Watched::new(Watch::new(genesis));
+    match store.visit_event(alloc, event.kind, event.payload.as_slice(), &mut watched) {
         Ok(Accepted::Block(given)) => {
-            follow_block(alloc, side, number, &given, &watch, store, book)
+            follow_block(alloc, side, number, &given, &watched.visitor, store, book)
         }
         Ok(Accepted::Other) => Ok(()),
         Err(StoreStop::Refused(_)) => Ok(()),

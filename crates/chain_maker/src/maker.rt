@@ -205,7 +205,7 @@ impl Maker {
         ensures plan { self.new.plan ≡ self.old.plan }
         ensures stepped { IfOk result (λ next. IfSome next (λ given. StepIs given.stepped self.old self.new)) }
         ensures accepted { (given : List MadeEvent) (store : Store) → genesis_clash (genesis_of_plan self.old.plan) ≡ None → HasGiven given self.old
-            → store_after (get_forkchoice_store self.old.plan.config (genesis_of_plan self.old.plan)) given ≡ Some store → IsAcceptedBy store (all_given result) }
+            → store_after (genesis_store self.old.plan.config (genesis_of_plan self.old.plan)) given ≡ Some store → IsAcceptedBy store (all_given result) }
     {
         self.give(alloc)
     }

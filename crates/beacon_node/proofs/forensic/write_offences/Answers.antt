@@ -24,6 +24,7 @@ one_more : (offences : List Offence) (i : ℕ) → i < length offences → flat_
 one_more offences i less = ap (flat_map offence_line) (drop-cons offences i no_offence less)
 
 pub returns-in_err-write_offence : goal.returns-in_err-write_offence
+unfolding no_offence no_vote no_content
 returns-in_err-write_offence g c =
     let p = err_from_is_err_and c.from_residual.result c.from_residual.ensures.1 in
     rw (p.1, p.2) (written_partly (flat_map offence_line c.args.offences.now) (offence_line (get_or c.args.offences.now c.loop-offence.offence-index no_offence)) (flat_map offence_line (drop (suc c.loop-offence.offence-index) c.args.offences.now)) c.in_err-write_offence.field-0.0
