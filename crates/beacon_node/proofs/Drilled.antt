@@ -187,6 +187,10 @@ made_followed side maker result store history left s t new h =
     let k : FollowedToEnd side result (record { store = store; history = [] }) (made_source (begun maker)) s t left = rw new at h in
     k.leaves [] (λ _. refl)
 
+-- it reads no file
+pub made_untouched : {side : Side} {result : Result (Unit {0}) Status} {followed left : Followed} {maker : PlainMaker} {s t : ShelfTold} → FollowedToEnd side result followed (made_source (begun maker)) s t left → t ≡ s
+made_untouched h = h.taken.1
+
 module _ (genesis : PlainState) (store : Store) (left : Followed) (side : Side) (second : which_of side ≡ 1) (same : others_of side ≡ first_accepted genesis left.history) (rest : Events) where
   pub second_over : (status : Status) (left_then : Followed) → Leaves (Err status) (follow (which_of side) (others_of side) store rest) left_then → SplitEnds status (behind_first genesis store (Ok left) rest)
   unfolding behind_first behind_second

@@ -1,6 +1,7 @@
 -- What a book finds, and what is written of it.
 use Rattle.std.proofs.Common.{◌≡◌, ◌∙◌, ℕ, ◌*◌, ◌≤◌, Bool, true, false, List, [], ◌∷◌, ◌++◌, Option, Some, None, Result, Ok, Err, if◌then◌else◌, refl, sym, ap, ap₂, subst}
-use Rattle.std.specs.Prelude.{All, flat_map, length, nat_lt}
+use Rattle.std.specs.Prelude.{All, codes, flat_map, length, nat_lt}
+use Rattle.std.specs.Fmt.{decimal}
 use Rattle.bc_outside.specs.Told.{SinkTold}
 use Rattle.bc_outside.specs.declared.trouble.Trouble.{Trouble}
 use Rattle.bc_outside.specs.declared.trouble.Trouble.TheVariants as troubles
@@ -20,6 +21,7 @@ use Rattle.spec_forensics.specs.declared.verdict.Verdict.TheVariants.{Agree, Sma
 use Rattle.spec_replay.specs.Run.{Run, after_lines, done, over}
 use Rattle.spec_replay.specs.Forensic.{Followed, forensic_lines, judge, verdict_line}
 use Rattle.spec_replay.specs.OffenceLines.{offence_line}
+use Rattle.spec_replay.specs.Drill.{line_of, two_lines}
 use Rattle.safety_law.specs.Finals.{IsFinalOf}
 use Rattle.safety_law.specs.Follows.{Follows}
 use Rattle.forensics.specs.Books.{PlainBook, history_of, verdict_on, votes_of, with_finalized}
@@ -35,7 +37,7 @@ use Rattle.beacon_node.specs.inside.GenesisAnswers.{no_genesis}
 use Rattle.beacon_node.specs.inside.Histories.{HasFound}
 use Rattle.beacon_node.specs.inside.Statuses.{unread}
 use Rattle.beacon_node.specs.inside.Texts.{WritesText}
-use Rattle.beacon_node.proofs.Whole.{text_concludes}
+use Rattle.beacon_node.proofs.Whole.{out_of_memory, text_concludes}
 
 -- ---- a book that is closed
 
@@ -104,6 +106,18 @@ module _ (genesis : PlainState) (first second : Followed) (findings : code.Findi
   pub findings_conclude : (result : Result (Unit {0}) Trouble) (p q : SinkTold) → WritesText text result p q → Concludes (written result) (judge genesis first (Ok second)) p q
   unfolding judge
   findings_conclude result p q writes = text_concludes (forensic_lines genesis first second) result (rw lines_are at writes)
+
+-- memory ran out before that
+pub nothing_concludes : (genesis : PlainState) (first second : Followed) (p : SinkTold) → Concludes statuses.NoMemory (judge genesis first (Ok second)) p p
+unfolding judge
+nothing_concludes genesis first second p = out_of_memory (judge genesis first (Ok second)) p refl
+
+-- the two lines of a made split
+pub two_are : (genesis : PlainState) (first second : Followed) (findings : code.Findings) → HasFound genesis first.history second.history first.store second.store findings
+    → line_of (codes "offenders") (decimal (length findings.offences.items)) ++ verdict_line findings.verdict ≡ two_lines genesis first second
+unfolding two_lines
+two_are genesis first second findings found =
+    ap₂ (λ (offences : List Offence) (verdict : Verdict). line_of (codes "offenders") (decimal (length offences)) ++ verdict_line verdict) found.offences found.verdict
 
 -- all of it was written
 wrote_all : (result : Result (Unit {0}) Trouble) (text : List ℕ) (p q : SinkTold) → written result ≡ statuses.Done → WritesText text result p q → q.taken ≡ p.taken ++ text

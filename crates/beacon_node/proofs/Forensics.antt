@@ -4,7 +4,7 @@ use Rattle.std.specs.Prelude.{All, flat_map}
 use Rattle.bc_outside.specs.Told.{FileHanded, ShelfTold, SinkTold, FileAgrees}
 use Rattle.bc_outside.specs.Calls.{Opened, Takes}
 use Rattle.bc_outside.specs.declared.trouble.Trouble.{Trouble}
-use Rattle.bc_outside.proofs.Keeping.{sink_keeps_none}
+use Rattle.bc_outside.proofs.Keeping.{keeps_none, sink_keeps_none}
 use Rattle.bc_preset.specs.Configs.{config_of}
 use Rattle.bc_preset.specs.declared.configuration.ConfigValues.{ConfigValues}
 use Rattle.bc_preset.specs.declared.faults.ConfigFault.{ConfigFault}
@@ -200,3 +200,19 @@ follows_outside names more status h = ends_here names more (only_shelf h.shelf) 
 -- the stores don't open
 pub opening_outside : (names : List (List ℕ)) (status : Status) (found : Option ClashKind) (s : ShelfTold) (p : SinkTold) → OpeningEnds status found → OutsideKeeps names (Some status) s s p p
 opening_outside names status found s p h = ends_here [] names (untouched s p) (no_fault status h.inside.read h.inside.write)
+
+-- all was well so far, and a value came of it
+pub made_outside : {T U : Type 0} (names : List (List ℕ)) (value : T) (made : U) {s t : ShelfTold} → FollowsOutside names (Ok value) s t → FollowsOutside names (Ok made) s t
+made_outside names value made h = record { shelf = h.shelf; read = tt; others = tt }
+
+-- memory ran out behind it
+pub memory_outside : {T U : Type 0} (names : List (List ℕ)) (result : Result T Status) {s t : ShelfTold} → FollowsOutside names result s t → FollowsOutside {T = U} names (Err statuses.NoMemory) s t
+memory_outside names result h = record { shelf = h.shelf; read = λ is. cc; others = (λ is. cc, λ is. cc, λ is. cc) }
+
+-- the run ended with the same status
+pub ended_outside : {T U : Type 0} (names : List (List ℕ)) (status : Status) {s t : ShelfTold} → FollowsOutside {T = T} names (Err status) s t → FollowsOutside {T = U} names (Err status) s t
+ended_outside names status h = record { shelf = h.shelf; read = h.read; others = h.others }
+
+-- the stores don't open
+pub opening_follows : {T : Type 0} (status : Status) (found : Option ClashKind) (s : ShelfTold) → OpeningEnds status found → FollowsOutside {T = T} [] (Err status) s s
+opening_follows status found s h = record { shelf = keeps_none s; read = λ is. absurd (h.inside.read is); others = (h.inside.words, h.inside.write, h.inside.done) }

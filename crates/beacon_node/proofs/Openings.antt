@@ -1,5 +1,5 @@
 -- How two stores and a book open at genesis.
-use Rattle.std.proofs.Common.{◌≡◌, ◌∙◌, ℕ, suc, ◌≤◌, ◌+◌, ◌<◌, ◌^◌, List, [], length, Option, Some, None, refl, sym, ap, subst, arith}
+use Rattle.std.proofs.Common.{◌≡◌, ◌∙◌, ℕ, suc, ◌≤◌, ◌+◌, ◌<◌, ◌^◌, List, [], length, Option, Some, None, Ok, refl, sym, ap, subst, arith}
 use Rattle.bc_preset.specs.declared.configuration.ConfigValues.{ConfigValues}
 use Rattle.bc_words.specs.Events.{StoreStops, accepted}
 use Rattle.bc_words.specs.declared.store_stop.ClashKind.{ClashKind}
@@ -12,6 +12,8 @@ use Rattle.spec_fork_choice.specs.OnEvent.{genesis_clash, open_store}
 use Rattle.spec_forensics.specs.Histories.{AcceptedBlock}
 use Rattle.safety_law.specs.Follows.{Follows}
 use Rattle.safety_law.proofs.Followed.{begins_followed}
+use Rattle.spec_replay.specs.Drill.{two_lines}
+use Rattle.spec_replay.specs.Forensic.{judge}
 use Rattle.forensics.specs.Books.{PlainBook, begun, history_of}
 use Rattle.beacon_node.specs.declared.follow.Side.{Side}
 use Rattle.beacon_node.specs.declared.follow.Side.TheVariants.{First, Second}
@@ -87,3 +89,31 @@ pub then_second : (genesis : PlainState) (store second : Store) (old new : Plain
     → (history_of new 1 ≡ []) × Follows new.config new.genesis [] second
 unfolding history_of
 then_second genesis store second old new same none follows = (same.other ∙ none, rw (same.config, same.genesis) follows)
+
+-- the first store behind which the second record is followed
+pub beside_first : (side : Side) (first : Store) (book : PlainBook) → which_of side ≡ 1 → others_of side ≡ first.blocks → Follows book.config book.genesis (history_of book 0) first → length first.blocks < 2 ^ 32 → IsBeside side book
+unfolding history_of
+beside_first First first book second same follows few = absurd (omega (arith, second))
+beside_first (Second other) first book second same follows few = (same ∙ follows.blocks, rw same few)
+
+-- the first history stays while the second one is followed
+module _ (side : Side) (old new : PlainBook) (second : which_of side ≡ 1) (same : SameBeside side old new) where
+  first_stays_by : (side : Side) → which_of side ≡ 1 → SameBeside side old new → history_of new 0 ≡ history_of old 0
+  unfolding history_of
+  first_stays_by First second same = absurd (omega (arith, second))
+  first_stays_by (Second other) second same = same.other
+
+  first_stays : history_of new 0 ≡ history_of old 0
+  first_stays = first_stays_by side second same
+
+  pub still_first : (first : Store) → Follows old.config old.genesis (history_of old 0) first → Follows new.config new.genesis (history_of new 0) first
+  still_first first follows = rw (same.config, same.genesis, first_stays) follows
+
+  -- what is found is in words of the book of before
+  pub two_of : (genesis : PlainState) (first last : Store) → old.genesis ≡ genesis
+      → two_lines new.genesis (record { store = first; history = history_of new 0 }) (record { store = last; history = history_of new 1 }) ≡ two_lines genesis (record { store = first; history = history_of old 0 }) (followed_by side last new)
+  two_of genesis first last is = rw (same.genesis, is, first_stays, second) refl
+
+  pub judge_of : (genesis : PlainState) (first last : Store) → old.genesis ≡ genesis
+      → judge new.genesis (record { store = first; history = history_of new 0 }) (Ok (record { store = last; history = history_of new 1 })) ≡ judge genesis (record { store = first; history = history_of old 0 }) (Ok (followed_by side last new))
+  judge_of genesis first last is = rw (same.genesis, is, first_stays, second) refl
