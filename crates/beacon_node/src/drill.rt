@@ -308,6 +308,7 @@ fn drill_config<F: Shelf, O: Sink>(
     if config.ejection_balance() >= FULL_BALANCE {
         return Status::Config(ConfigFault::OutOfRange(Key::EjectionBalance));
     }
+    let _preset = config.preset();
     let makers = match makers_of(alloc, number, config) {
         Ok(makers) => makers,
         Err(_) => return Status::NoMemory,

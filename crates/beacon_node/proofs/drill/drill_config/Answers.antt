@@ -14,6 +14,11 @@ returns-in-Err-clause-over g c = no_memory _ _ (no_config_files c.args.number c.
 pub returns-in-Err-genesis-clause-over : goal.returns-in-Err-genesis-clause-over
 returns-in-Err-genesis-clause-over g c = no_memory _ _ (no_config_files c.args.number c.args.config.now)
 
+pub drill_from-requires-clause-genesis : goal.drill_from-requires-clause-genesis
+drill_from-requires-clause-genesis g c =
+    made_begins c.args.number c.args.config.now c.in-Ok-genesis.genesis c.preset.ensures.preset (begins c.args.number c.args.config.now c.in-Ok.makers.own c.in-Ok-genesis.genesis c.in-Ok.ensures.own c.in-Ok-genesis.ensures.state)
+    c.in-Ok-genesis.ensures.passes
+
 pub drill_from-requires-clause-makers : goal.drill_from-requires-clause-makers
 drill_from-requires-clause-makers g c = makers_still _ c.in-Ok.makers c.in-Ok.ensures
 
