@@ -61,6 +61,7 @@ fn book_at(alloc: Global, config: &Config, genesis: &State) -> Result<VoteBook, 
     requires opened { genesis_clash genesis.now ≡ None }
     ensures book { IfOk result (λ book. book ≡ begun config.now genesis.now) }
     ensures over { IfErr result (λ status. status ≡ Status.NoMemory) }
+    ensures ends { IfErr result (λ status. OpeningEnds status (genesis_clash genesis.now)) }
 {
     match VoteBook::new(alloc, genesis, config) {
         Ok(book) => Ok(book),

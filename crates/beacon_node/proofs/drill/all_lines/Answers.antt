@@ -1,9 +1,9 @@
 -- The stores don't open, the own chain or its split ends the run, or all is told.
-use Rattle.std.proofs.Common.{[], ◌∙◌, ◌++◌, ap}
+use Rattle.std.proofs.Common.{[]}
 use Rattle.spec_fork_choice.specs.GetForkchoiceStore.{genesis_store}
 use Rattle.spec_fork_choice.specs.OnEvent.{genesis_clash}
-use Rattle.beacon_node.specs.inside.Drilled.{chains_to_come, own_lines}
-use Rattle.beacon_node.proofs.Drilled.{all_told, drill_memory, not_opened, own_over, split_over}
+use Rattle.beacon_node.specs.inside.Drilled.{chains_to_come}
+use Rattle.beacon_node.proofs.Drilled.{all_told, drill_memory, not_opened, own_over, split_over, still_new}
 use Rattle.beacon_node.proofs.Following.{outside_behind}
 use Rattle.beacon_node.proofs.Forensics.{ended_outside, made_outside, memory_outside, opening_follows}
 use Rattle.beacon_node.proofs.Openings.{one_kept}
@@ -11,6 +11,9 @@ use Rattle.beacon_node.proofs.drill.all_lines.Goals as goal
 
 pub chain_lines-requires-clause-few : goal.chain_lines-requires-clause-few
 chain_lines-requires-clause-few g c = one_kept c.args.config.now c.args.genesis c.in-Ok.store.plain c.in-Ok.ensures.opened.is
+
+pub split_lines-requires-clause-new : goal.split_lines-requires-clause-new
+split_lines-requires-clause-new g c = (still_new _ c.args.makers.first c.requires.makers.first, still_new _ c.args.makers.second c.requires.makers.second)
 
 pub returns-in-Err-clause-told : goal.returns-in-Err-clause-told
 returns-in-Err-clause-told g c = not_opened (genesis_clash c.args.genesis) c.args.genesis (genesis_store c.args.config.now c.args.genesis) (chains_to_come c.args.makers) c.in-Err.status c.in-Err.ensures.over
