@@ -7,6 +7,7 @@ pub mod Outside
 pub mod Commands
 pub mod InMemory
 pub mod Drilled
+pub mod Feeding
 pub mod MakingGenesis
 pub mod Texts
 pub mod DutyLines

@@ -1,4 +1,5 @@
 pub mod Duties
+pub mod Feeds
 pub mod Files
 pub mod GenesisAnswers
 pub mod Making
