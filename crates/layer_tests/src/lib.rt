@@ -26,6 +26,8 @@ mod records;
 #[cfg(test)]
 mod safety;
 #[cfg(test)]
+mod shown_states;
+#[cfg(test)]
 mod shuffles;
 #[cfg(test)]
 mod small_state;
