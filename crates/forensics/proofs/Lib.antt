@@ -1,3 +1,4 @@
+pub mod ActiveLists
 pub mod BlockVotes
 pub mod Books
 pub mod Chained

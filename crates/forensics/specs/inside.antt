@@ -1,3 +1,4 @@
+pub mod ActiveLists
 pub mod Added
 pub mod BlockVotes
 pub mod Entries

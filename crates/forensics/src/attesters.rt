@@ -8,9 +8,10 @@ ghost use Rattle.spec_forensics.specs.CarriedVotes.{WasProcessed};
 ghost use Rattle.vote_spans.specs.Room.{StandOnce};
 ghost use Rattle.forensics.specs.inside.BlockVotes.{attesters_in};
 
-use crate::made::{Made, committees_of};
+use crate::made::Made;
+use crate::recent::{Recent, recent_of};
 use attest_ops::attesting_indices;
-use balance_totals::{active_are_indices, current_epoch, previous_epoch};
+use balance_totals::current_epoch;
 use bc_words::NoMemory;
 use beacon_body::Attestation;
 use beacon_state::State;
@@ -99,29 +100,13 @@ fn list_attesters(
 /// Committees of the latest block's previous and current epoch.
 #[derive(Drop)]
 pub(crate) struct RecentCommittees {
-    previous: Option<Made>,
-    current: Option<Made>,
+    kept: Option<Recent>,
 }
 
 impl RecentCommittees {
     /// None.
     pub(crate) fn new() -> RecentCommittees {
-        RecentCommittees {
-            previous: None,
-            current: None,
-        }
-    }
-
-    /// Takes the current committees for the previous ones, where an epoch is over.
-    fn turn(&mut self, previous: u64, current: u64) {
-        let Some(made) = self.current.take() else {
-            return;
-        };
-        if previous < current && made.is_for(previous) {
-            self.previous = Some(made);
-        } else {
-            self.current = Some(made);
-        }
+        RecentCommittees { kept: None }
     }
 
     /// The attesters of each attestation of a block, by the state behind it. The committees of an epoch are mostly made
@@ -137,12 +122,15 @@ impl RecentCommittees {
         ensures once { IfOk result (λ lists. StandOnce (map (λ l. l.items) lists.items)) }
     {
         let _preset = state.preset();
-        self.turn(previous_epoch(state), current_epoch(state));
-        let previous = committees_of(alloc, state, previous_epoch(state), self.previous.take())?;
-        let current = committees_of(alloc, state, current_epoch(state), self.current.take())?;
-        let lists = list_attesters(alloc, state, &previous, &current, attestations)?;
-        self.previous = Some(previous);
-        self.current = Some(current);
+        let recent = recent_of(alloc, state, self.kept.take())?;
+        let lists = list_attesters(
+            alloc,
+            state,
+            &recent.previous,
+            &recent.current,
+            attestations,
+        )?;
+        self.kept = Some(recent);
         Ok(lists)
     }
 }

@@ -4,6 +4,7 @@
 //! Blocks come from the stores of two records, with the states behind them; offences and the verdict go to lines.
 #![tactic(auto)]
 
+mod active_lists;
 mod added;
 mod attesters;
 mod beginning;
@@ -15,6 +16,7 @@ mod history;
 mod judge;
 mod kept_blocks;
 mod made;
+mod recent;
 mod steady;
 mod vote_book;
 mod watch;

@@ -1,13 +1,13 @@
 //! The committees of an epoch, kept with what they were made of: the blocks of an epoch mostly have the same ones.
 
 ghost use Rattle.std.specs.Prelude.{◌≡◌, ◌≤◌, ◌^◌, IsTrue, IfOk};
-ghost use Rattle.committees.specs.Committees.{committees_of};
 ghost use Rattle.bc_preset.specs.Presets.{IsPreset};
-ghost use Rattle.spec_state.specs.Accessors.{get_seed};
+ghost use Rattle.spec_state.specs.Accessors.{get_current_epoch, get_previous_epoch, get_seed};
 ghost use Rattle.spec_state.specs.inside.EpochCommittees.{epoch_committees};
 ghost use Rattle.spec_state.specs.Constants.{domain_beacon_attester};
 
-use balance_totals::{active, committees_of_epoch};
+use crate::active_lists::are_active;
+use balance_totals::{active, committees_of_epoch, current_epoch, previous_epoch};
 use bc_preset::Preset;
 use bc_words::NoMemory;
 use beacon_state::State;
@@ -16,10 +16,9 @@ use hash_tree::Root;
 use std::alloc::Global;
 use std::marker::Model;
 
-/// The committees of an epoch, and what they were made of. Clauses see the committees; the epoch only says where to look first.
+/// The committees of an epoch, and what they were made of. Clauses see the committees.
 #[derive(Drop)]
 pub(crate) struct Made {
-    epoch: u64,
     preset: Preset,
     seed: Root,
     active: Vec<u64>,
@@ -46,6 +45,23 @@ fn attester_seed(state: &State, epoch: u64) -> Root
     seed_of(state, epoch, DOMAIN_BEACON_ATTESTER)
 }
 
+/// Whether two presets are the same.
+#[tactic(auto, using(crate::proofs::Presets::same_preset))]
+fn is_same_preset(a: &Preset, b: &Preset) -> bool
+    requires a { IsPreset a.now }
+    requires b { IsPreset b.now }
+    ensures { IsTrue result → a.now ≡ b.now }
+{
+    a.slots_per_epoch == b.slots_per_epoch
+}
+
+/// Whether two seeds are the same.
+fn is_same_seed(a: &Root, b: &Root) -> bool
+    ensures { IsTrue result → a.now ≡ b.now }
+{
+    *a == *b
+}
+
 impl Made {
     /// The committees.
     pub(crate) fn committees(&self) -> &EpochCommittees
@@ -54,21 +70,45 @@ impl Made {
         &self.committees
     }
 
-    /// Whether they were made for an epoch. Nothing rests on it: what they are made of is compared too.
-    pub(crate) fn is_for(&self, epoch: u64) -> bool {
-        self.epoch == epoch
+    /// Whether they are those of an epoch of the state.
+    fn is_of(&self, state: &State, epoch: u64) -> bool
+        requires { epoch ≤ 2 ^ 61 }
+        ensures { IsTrue result → self.now ≡ epoch_committees state.now epoch }
+    {
+        is_same_preset(&self.preset, state.preset())
+            && is_same_seed(&self.seed, &attester_seed(state, epoch))
+            && are_active(state, epoch, &self.active, epoch, &self.active)
     }
 
-    /// Whether they are made of these.
-    #[tactic(auto, using(crate::proofs::Presets::same_preset))]
-    fn is_of(&self, preset: &Preset, seed: &Root, active: &[u64]) -> bool
-        requires { IsPreset preset.now }
-        ensures { IsTrue result → self.now ≡ committees_of preset.now seed.now active.now }
+    /// Makes those of an epoch of the state.
+    fn make(alloc: Global, state: &State, epoch: u64) -> Result<Made, NoMemory>
+        requires { epoch ≤ 2 ^ 61 }
+        ensures { IfOk result (λ made. made ≡ epoch_committees state.now epoch) }
     {
-        self.preset.slots_per_epoch == preset.slots_per_epoch
-            && self.seed == *seed
-            && self.active.as_slice() == active
+        let preset = *state.preset();
+        let active = active(alloc, state, epoch)?;
+        let committees = committees_of_epoch(alloc, state, epoch)?;
+        Ok(Made {
+            preset,
+            seed: attester_seed(state, epoch),
+            active,
+            committees,
+        })
     }
+}
+
+/// Whether these are the committees of the previous and the current epoch of the state, which takes one pass over its registry.
+pub(crate) fn are_recent(previous: &Made, current: &Made, state: &State) -> bool
+    ensures previous { IsTrue result → previous.now ≡ epoch_committees state.now (get_previous_epoch state.now) }
+    ensures current { IsTrue result → current.now ≡ epoch_committees state.now (get_current_epoch state.now) }
+{
+    let before = previous_epoch(state);
+    let now = current_epoch(state);
+    is_same_preset(&previous.preset, state.preset())
+        && is_same_preset(&current.preset, state.preset())
+        && is_same_seed(&previous.seed, &attester_seed(state, before))
+        && is_same_seed(&current.seed, &attester_seed(state, now))
+        && are_active(state, before, &previous.active, now, &current.active)
 }
 
 /// The committees of an epoch of the state: the kept ones where these are its own, and else new ones.
@@ -81,20 +121,10 @@ pub(crate) fn committees_of(
     requires { epoch ≤ 2 ^ 61 }
     ensures { IfOk result (λ made. made ≡ epoch_committees state.now epoch) }
 {
-    let preset = state.preset();
-    let seed = attester_seed(state, epoch);
-    let active = active(alloc, state, epoch)?;
     if let Some(made) = kept {
-        if made.is_of(preset, &seed, &active) {
+        if made.is_of(state, epoch) {
             return Ok(made);
         }
     }
-    let committees = committees_of_epoch(alloc, state, epoch)?;
-    Ok(Made {
-        epoch,
-        preset: *preset,
-        seed,
-        active,
-        committees,
-    })
+    Made::make(alloc, state, epoch)
 }
