@@ -10,7 +10,7 @@ mod line;
 mod refusal;
 
 pub use command::{
-    AnchorFiles, Command, DrillWords, DutiesWords, GenesisFiles, ReplayFiles, WordsStop,
+    AnchorFiles, Command, DrillWords, DutiesWords, ForensicFiles, GenesisFiles, ReplayFiles, WordsStop,
     read_command,
 };
 pub use forms::{Argument, COMMANDS, Form};
