@@ -268,7 +268,10 @@ genesis_clear_by genesis history root b (Some k) is none =
     no_clash (first_accepted genesis []) root b (same ∙ none_another (first_accepted genesis history) root b _ refl none)
 genesis_clear_by genesis history root b None is none = no_clash (first_accepted genesis []) root b (rw is (nothing_else b))
 
-clear_of_both : (genesis : PlainState) (first second : List AcceptedBlock) (root : List ℕ) (b : BeaconBlock) → clash_among (first_accepted genesis first) root b ≡ None → clash_among (first_accepted genesis second) root b ≡ None
+pub genesis_clear : (genesis : PlainState) (history : List AcceptedBlock) (root : List ℕ) (b : BeaconBlock) → clash_among (first_accepted genesis history) root b ≡ None → clash_among (first_accepted genesis []) root b ≡ None
+genesis_clear genesis history root b none = genesis_clear_by genesis history root b (block_of (first_accepted genesis []) root) refl none
+
+pub clear_of_both : (genesis : PlainState) (first second : List AcceptedBlock) (root : List ℕ) (b : BeaconBlock) → clash_among (first_accepted genesis first) root b ≡ None → clash_among (first_accepted genesis second) root b ≡ None
     → clash_with genesis first second root b ≡ None
 unfolding clash_with first_or_second
 clear_of_both genesis first second root b x y = rw (x, y) refl
@@ -277,7 +280,7 @@ pub clear_in : (side : Side) (book : PlainBook) (root : List ℕ) (b : BeaconBlo
     → clash_in book root b ≡ None
 unfolding history_of
 clear_in First book root b is own others =
-    clear_of_both book.genesis book.first book.second root b own (rw is (genesis_clear_by book.genesis book.first root b _ refl own))
+    clear_of_both book.genesis book.first book.second root b own (rw is (genesis_clear book.genesis book.first root b own))
 clear_in (Second first) book root b is own others = clear_of_both book.genesis book.first book.second root b (rw (← is.0) others) own
 
 -- the book with a block more

@@ -19,3 +19,4 @@ pub mod Following
 pub mod Forensics
 pub mod Findings
 pub mod Openings
+pub mod Convictions

@@ -9,7 +9,7 @@ returns-in-Some-clash-clause-over c = (
   refl,
   refl,
   compared c.args.side c.args.number c.args.store.now.plain c.args.given.now c.args.book.now c.requires.added c.in-Some.block.now c.in-Ok-Some.state c.root-3.result c.root-3.ensures
-    (rw (c.state.ensures.same, c.root-2.ensures) at c.in-Some.ensures) (rw (c.in-Ok-Some.field-0-is, c.root.ensures) at c.in-Ok-Some.ensures.state) _ c.in-Some-clash.ensures,
+      (rw (c.state.ensures.same, c.root-2.ensures) at c.in-Some.ensures) (rw (c.in-Ok-Some.field-0-is, c.root.ensures) at c.in-Ok-Some.ensures.state) _ c.in-Some-clash.ensures,
 )
 
 pub add-requires-clause-clear : goal.add-requires-clause-clear
