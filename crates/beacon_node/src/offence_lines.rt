@@ -79,6 +79,7 @@ fn push_content(
 }
 
 /// Appends a vote: where it stands, and what it is for.
+#[tactic(auto, unfolding(spec_replay::specs::OffenceLines::vote_text))]
 fn push_vote(line: &mut Vec<u8>, alloc: Global, vote: &Vote) -> Result<(), AllocError>
     ensures { OnOk result (line.new.items ≡ line.old.items ++ vote_text vote.now) }
 {
