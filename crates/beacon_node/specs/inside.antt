@@ -1,5 +1,6 @@
 pub mod AnchorAnswers
 pub mod Duties
+pub mod Feeds
 pub mod Files
 pub mod GenesisAnswers
 pub mod Making

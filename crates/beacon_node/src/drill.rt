@@ -6,6 +6,7 @@ ghost use Rattle.bc_outside.specs.Told.{SinkTold};
 ghost use Rattle.spec_state.specs.Genesis.{genesis_fault};
 ghost use Rattle.spec_fork_choice.specs.GetForkchoiceStore.{genesis_store};
 ghost use Rattle.spec_fork_choice.specs.OnEvent.{genesis_clash};
+ghost use Rattle.spec_drill.specs.MakeGenesis.{genesis_of_plan};
 ghost use Rattle.spec_drill.specs.AsEvents.{events_to_come};
 ghost use Rattle.spec_drill.specs.Maker.{new_maker, to_come};
 ghost use Rattle.spec_replay.specs.Drill.{drill_config, drill_events, drill_run, drill_store, six_lines};
@@ -13,9 +14,11 @@ ghost use Rattle.spec_replay.specs.Run.{done};
 ghost use Rattle.beacon_node.specs.Answers.{OutsideKeeps, Replayed, whole_of};
 ghost use Rattle.chain_maker.specs.Source.{begun, made_source};
 ghost use Rattle.beacon_node.specs.inside.Drilled.{Digested, Finished, WritesOut, is_done};
+ghost use Rattle.beacon_node.specs.inside.Feeds.{Keeps};
 ghost use Rattle.beacon_node.specs.inside.Progress.{tally_at};
 
 use crate::events::{Counts, replay_events, unwritten};
+use crate::feed::MadeFeed;
 use crate::lines::six_lines;
 use crate::reading::{read_named, unread};
 use crate::replay::no_store;
@@ -72,15 +75,17 @@ fn digest_events<F: Shelf, O: Sink>(
 ) -> (Status, Root)
     requires few { length store.old.plain.blocks ≤ 1 }
     requires new { maker ≡ new_maker maker.plan }
+    requires keeps { Keeps store.old.plain maker }
     requires none { (counts.old.events ≡ 0) × (counts.old.accepted ≡ 0) }
     ensures over { Digested result.0 result.1 (tally_at store.old.plain counts.old) (made_source (begun maker)) (F.told shelf.old) (F.told shelf.new)
         (tally_at store.new.plain counts.new) }
     ensures command { result.0 ≢ Status.Words }
     ensures outside { (took : SinkTold) → OutsideKeeps [] (Some result.0) (F.told shelf.old) (F.told shelf.new) took took }
 {
-    let mut events = MadeEvents::new(alloc, maker);
+    let events = MadeEvents::new(alloc, maker);
+    let mut feed = MadeFeed::new(events);
     let mut lines = HashSink::new(alloc, out);
-    let status = replay_events(alloc, &mut events, store, counts, shelf, &mut lines);
+    let status = replay_events(alloc, &mut feed, store, counts, shelf, &mut lines);
     (status, lines.digest())
 }
 
@@ -94,6 +99,7 @@ fn drill_events<F: Shelf, O: Sink>(
 ) -> Status
     requires few { length store.old.plain.blocks ≤ 1 }
     requires new { maker ≡ new_maker maker.plan }
+    requires keeps { Keeps store.old.plain maker }
     ensures over { Finished result (drill_events store.old.plain (events_to_come 0 (to_come maker))) (O.told out.old).taken (O.told out.new).taken }
     ensures still { F.told shelf.new ≡ F.told shelf.old }
     ensures command { result ≢ Status.Words }
@@ -122,6 +128,7 @@ fn drill_from<F: Shelf, O: Sink>(
 ) -> Status
     requires genesis { (genesis.preset ≡ config.now.preset) × (genesis_fault genesis ≡ None) }
     requires new { maker ≡ new_maker maker.plan }
+    requires own { (config.now ≡ maker.plan.config) × (genesis ≡ genesis_of_plan maker.plan) }
     ensures over { Finished result (drill_store (genesis_clash genesis) (genesis_store config.now genesis) (events_to_come 0 (to_come maker)))
         (O.told out.old).taken (O.told out.new).taken }
     ensures still { F.told shelf.new ≡ F.told shelf.old }

@@ -5,6 +5,7 @@ mod anchor;
 mod drill;
 mod duty_lines;
 mod events;
+mod feed;
 mod genesis;
 mod head;
 mod law;
@@ -16,6 +17,7 @@ mod status;
 mod tell_duties;
 mod top;
 
+pub use feed::{MadeFeed, StoreSource};
 pub use law::{runs_in_memory, soundness_is_tested};
 pub use status::Status;
 pub use top::beacon_main;

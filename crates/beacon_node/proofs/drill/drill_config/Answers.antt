@@ -5,6 +5,7 @@ use Rattle.spec_drill.specs.Plan.{Plan}
 use Rattle.spec_drill.specs.MakeGenesis.{genesis_of_plan}
 use Rattle.spec_drill.specs.Maker.{PlainMaker, new_maker}
 use Rattle.beacon_node.proofs.Drilled.{no_memory, no_config_files, ejects, drills, same_preset, begins, still_new}
+use Rattle.beacon_node.proofs.Feeding.{own_config}
 use Rattle.beacon_node.proofs.drill.drill_config.Goals as goal
 
 pub returns-then-ejection_balance-ge-FULL_BALANCE-clause-over : goal.returns-then-ejection_balance-ge-FULL_BALANCE-clause-over
@@ -29,3 +30,6 @@ returns-clause-over g c =
     drills c.args.number c.args.config.now c.in-Ok.maker c.in-Ok-genesis.genesis c.drill_from.result _ _
     (lt-ltb c.args.config.now.ejection_balance 32_000_000_000 (omega (arith, c.ejection_balance.ensures.exact, c.if-ejection_balance-ge-FULL_BALANCE.false)))
     c.in-Ok.ensures (begins c.args.number c.args.config.now c.in-Ok.maker c.in-Ok-genesis.genesis c.in-Ok.ensures c.in-Ok-genesis.ensures.state) c.drill_from.ensures.over
+
+pub drill_from-requires-clause-own : goal.drill_from-requires-clause-own
+drill_from-requires-clause-own g c = (own_config c.args.config.now c.args.number c.in-Ok.maker c.in-Ok.ensures, c.in-Ok-genesis.ensures.state)
