@@ -13,7 +13,7 @@ use Rattle.spec_blocks.specs.Checks.{check}
 use Rattle.spec_blocks.specs.IsValidIndexedAttestation.{is_valid_indexed_attestation}
 use Rattle.spec_blocks.specs.ProcessAttesterSlashing.{in_both}
 use Rattle.spec_blocks.proofs.Done.{on_the_way, chosen, same_value}
-use Rattle.spec_fork_choice.specs.Store.{KeptBlock, LatestMessage, Store, block_of}
+use Rattle.spec_fork_choice.specs.Store.{KeptBlock, LatestMessage, Store, block_of, is_equivocating}
 use Rattle.spec_fork_choice.specs.Slots.{get_current_slot}
 use Rattle.spec_fork_choice.specs.ShouldUpdateJustifiedCheckpoint.{should_update_justified_checkpoint}
 use Rattle.spec_fork_choice.specs.OnTick.{on_tick, in_new_slot, in_new_epoch}
@@ -108,7 +108,7 @@ vote_blocks old new attestation from_block is =
 equivocating_blocks : (old : Store) (indices : List ℕ) → (fold with_equivocating old indices).blocks ≡ old.blocks
 unfolding with_equivocating
 equivocating_blocks old [] = refl
-equivocating_blocks old (index ∷ indices) = equivocating_blocks (with_equivocating old index) indices
+equivocating_blocks old (index ∷ indices) = equivocating_blocks (with_equivocating old index) indices ∙ either_blocks (is_equivocating old index) old _ old.blocks refl refl
 
 pub slashing_blocks : (old new : Store) (slashing : AttesterSlashing) → on_attester_slashing old slashing ≡ done new → new.blocks ≡ old.blocks
 unfolding on_attester_slashing

@@ -8,7 +8,7 @@ use Rattle.beacon_body.specs.declared.attester_slashing.AttesterSlashing.{Attest
 use Rattle.spec_blocks.specs.Checks.{check, ◌>>◌}
 use Rattle.spec_blocks.specs.IsValidIndexedAttestation.{is_valid_indexed_attestation}
 use Rattle.spec_blocks.specs.ProcessAttesterSlashing.{in_both}
-use Rattle.spec_fork_choice.specs.Store.{Store, block_of}
+use Rattle.spec_fork_choice.specs.Store.{Store, block_of, is_equivocating}
 use Rattle.spec_fork_choice.specs.StoreTargetCheckpointState.{kept_or}
 
 -- a set of indices in ascending order with one more
@@ -21,7 +21,8 @@ with_index (first ∷ others) index =
 
 -- store.equivocating_indices.add(index)
 unfoldable pub with_equivocating : Store → ℕ → Store
-with_equivocating store index = record store { equivocating_indices = with_index store.equivocating_indices index }
+with_equivocating store index =
+    if is_equivocating store index then store else record store { equivocating_indices = with_index store.equivocating_indices index }
 
 -- on_attester_slashing(store, attester_slashing). The registry is that of the justified root's own state, which isn't taken on to
 -- the checkpoint's slot; the root is a kept one
