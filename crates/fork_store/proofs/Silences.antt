@@ -1,5 +1,5 @@
 -- Equivocating validators in the store are silenced ones in its array.
-use Rattle.std.proofs.Common.{◌≡◌, ◌∙◌, ◌<◌, ℕ, suc, ◌+◌, Bool, true, false, cond, nat_lt, eqb, max, filter, List, [], ◌∷◌, ◌++◌, length, take, drop, fold, get_or, Option, Some, None, Result, Ok, Err, refl, sym, ap, subst, arith}
+use Rattle.std.proofs.Common.{◌≡◌, ◌∙◌, ◌<◌, ℕ, suc, ◌+◌, Bool, true, false, cond, nat_lt, eqb, max, filter, List, [], ◌∷◌, ◌++◌, length, take, drop, fold, get_or, append-nil, Option, Some, None, Result, Ok, Err, refl, sym, ap, subst, arith}
 use Rattle.std.specs.List.{list_any}
 use Rattle.std.proofs.lemmas.List.{drop_all, take_all}
 use Rattle.std.proofs.lemmas.List.Elements.{filter_more}
@@ -137,6 +137,20 @@ pub more_common : (first second : List ℕ) (i : ℕ) → i < length first
 unfolding in_both
 more_common first second i inside = filter_more (λ index. list_any (λ other. eqb other index) second) first i 0 inside
 
+pub common_more : (first second : List ℕ) (i : ℕ) (common next : List ℕ) → i < length first → common ≡ in_both (take i first) second
+    → true ≡ list_any (λ other. eqb other (get_or first i 0)) second → next ≡ common ++ get_or first i 0 ∷ [] → next ≡ in_both (take (i + 1) first) second
+common_more first second i common next inside so_far is more =
+    more ∙ ap (λ xs. xs ++ get_or first i 0 ∷ []) so_far
+    ∙ ap (λ b. in_both (take i first) second ++ cond b (get_or first i 0 ∷ []) []) is
+    ∙ sym (more_common first second i inside)
+
+pub common_less : (first second : List ℕ) (i : ℕ) (common : List ℕ) → i < length first → common ≡ in_both (take i first) second
+    → false ≡ list_any (λ other. eqb other (get_or first i 0)) second → common ≡ in_both (take (i + 1) first) second
+common_less first second i common inside so_far isnt =
+    so_far ∙ sym (append-nil (in_both (take i first) second))
+    ∙ ap (λ b. in_both (take i first) second ++ cond b (get_or first i 0 ∷ []) []) isnt
+    ∙ sym (more_common first second i inside)
+
 pub all_common : (first second : List ℕ) (i : ℕ) → length first ≤ i → in_both (take i first) second ≡ in_both first second
 all_common first second i past = ap (λ xs. in_both xs second) (take_all i first past)
 
@@ -185,5 +199,7 @@ module _ (store : Store) (slashing : AttesterSlashing) where
   slashing_done judged indices new e common is =
       ap event_of (sym handled ∙ ap (λ o. bind o (λ _. done (fold with_equivocating store (in_both slashing.attestation_1.attesting_indices slashing.attestation_2.attesting_indices)))) e)
       ∙ ap accepted (ap (fold with_equivocating store) (sym common) ∙ sym is)
+
+pub ruleset common = (none_common, common_more, common_less, all_common)
 
 pub ruleset slashing = (slashing_stops)

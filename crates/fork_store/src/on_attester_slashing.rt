@@ -52,8 +52,8 @@ fn check_registered(
     ensures exact { Gives result (check_registered store.now slashing.now) }
     ensures same { keeper.new ≡ keeper.old }
 {
-    let root = store.justified().root;
-    let Some(number) = node_number(store.blocks(), root) else {
+    let justified = store.justified();
+    let Some(number) = node_number(store.blocks(), justified.root) else {
         return Err(Stop::Refused(Refusal::IndexRange));
     };
     let state = kept_state(store.blocks(), keeper, number)?;
@@ -79,6 +79,7 @@ fn judge(
 }
 
 /// The indices of the first list that are in the second one too.
+#[tactic(auto, using(crate::proofs::Silences::common))]
 fn common_indices(alloc: Global, first: &[u64], second: &[u64]) -> Result<Vec<u64>, NoMemory>
     ensures { IfOk result (λ common. common.items ≡ in_both first.now second.now) }
 {
