@@ -6,6 +6,7 @@ ghost use Rattle.spec_drill.specs.AsEvents.{events_to_come};
 ghost use Rattle.spec_drill.specs.Maker.{new_maker, to_come};
 ghost use Rattle.spec_replay.specs.Nodes.{all_of};
 ghost use Rattle.beacon_node.specs.inside.Nodes.{EndsMaking};
+ghost use Rattle.beacon_node.specs.inside.Statuses.{no_event_of};
 
 use crate::status::Status;
 use chain_maker::{MadeEvents, Maker};
@@ -13,7 +14,9 @@ use record_file::{Event, SourceStop};
 use std::alloc::Global;
 
 /// The status of an event of a chain, 0 or 1, that can't be made.
-fn not_made(which: u8, stop: SourceStop) -> Status {
+fn not_made(which: u8, stop: SourceStop) -> Status
+    ensures { result ≡ no_event_of which stop }
+{
     match stop {
         SourceStop::Limit { event, limit } => Status::Limit {
             which,
