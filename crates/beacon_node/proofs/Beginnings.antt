@@ -19,7 +19,7 @@ use Rattle.spec_state.specs.declared.plain.PlainState.{PlainState}
 use Rattle.spec_state.specs.declared.fault.GenesisFault.{GenesisFault}
 use Rattle.spec_state.specs.declared.fault.ValidatorFault.{ValidatorFault}
 use Rattle.spec_state.specs.Constants.{far_future_epoch}
-use Rattle.spec_state.specs.Accessors.{get_active_validator_indices, get_current_epoch, get_total_active_balance, get_total_balance, indices_from}
+use Rattle.spec_state.specs.Accessors.{get_active_validator_indices, get_current_epoch, get_total_active_balance, get_total_balance, indices_from, is_active_validator}
 use Rattle.spec_state.specs.Genesis.{genesis_fault, header_root_of, is_genesis_header, is_zero_checkpoint, or_later, validator_fault, validators_fault, zero_root}
 use Rattle.spec_state.specs.Limits.{IsState, IsInRange}
 use Rattle.spec_state.specs.Misc.{effective_balance}
@@ -28,6 +28,7 @@ use Rattle.spec_state.specs.Writing.{HasWriting}
 use Rattle.spec_genesis.proofs.Written.{sized}
 use Rattle.spec_fork_choice.specs.Clash.{clash_of, clash_with}
 use Rattle.spec_fork_choice.specs.GetForkchoiceStore.{genesis_block}
+use Rattle.spec_fork_choice.specs.OnEvent as events
 use Rattle.spec_fork_choice.specs.OnEvent.{genesis_clash}
 use Rattle.safety_law.specs.Histories.{Begins}
 use Rattle.safety_law.proofs.Beginning.{genesis_begins}
@@ -108,22 +109,22 @@ total_of s indices bounds good few =
 
 total_active_of : (s : PlainState) → HasPresetBounds s.preset → genesis_fault s ≡ None → length s.validators ≤ 2 ^ 29 → (total : ℕ) × (get_total_active_balance s ≡ done total)
 unfolding get_active_validator_indices
-total_active_of s bounds good few = total_of s (get_active_validator_indices s (get_current_epoch s)) bounds good (omega (arith, few, not_longer _ 0 s.validators))
+total_active_of s bounds good few = total_of s (get_active_validator_indices s (get_current_epoch s)) bounds good (omega (arith, few, not_longer (λ v. is_active_validator v (get_current_epoch s)) 0 s.validators))
 
 -- ---- the roots
 
-root_set : (root state_root : List ℕ) (a b : Bool) (block : BeaconBlock) → same_root root zero_root ≡ a → same_root state_root zero_root ≡ b → clash_of [] root state_root block ≡ None → (a ≡ false) × (b ≡ false)
+pub root_set : (root state_root : List ℕ) (a b : Bool) (block : BeaconBlock) → same_root root zero_root ≡ a → same_root state_root zero_root ≡ b → clash_of [] root state_root block ≡ None → (a ≡ false) × (b ≡ false)
 unfolding clash_of clash_with
 root_set root state_root true b block x y none = absurd (cc (rw x at none))
 root_set root state_root false true block x y none = absurd (cc (rw (x, y) at none))
 root_set root state_root false false block x y none = (refl, refl)
 
 pub begins : (config : ConfigValues) (s : PlainState) → IsGenesis config s → genesis_clash s ≡ None → Begins s
-unfolding genesis_clash
+unfolding genesis_clash clash_of events.first_clash state_codec genesis_block
 begins config s is none = genesis_begins s is.checked is.state is.range (root_set _ _ _ _ (genesis_block s) refl refl none).1
 
 pub begins_book : (config : ConfigValues) (s : PlainState) → IsGenesis config s → genesis_clash s ≡ None → IsBeginning s
-unfolding genesis_clash
+unfolding genesis_clash clash_of events.first_clash state_codec genesis_block
 begins_book config s is none =
     let set = root_set _ _ _ _ (genesis_block s) refl refl none in
     let total = total_active_of s (preset_bounds s.preset is.state.preset_is) is.checked is.few in

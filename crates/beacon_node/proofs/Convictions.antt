@@ -1,6 +1,7 @@
 -- Two records that were followed: what they left are two histories, and a conflict of them convicts.
 use Rattle.std.proofs.Common.{◌≡◌, ◌≢◌, ◌∙◌, ℕ, zero, suc, ◌+◌, ◌*◌, ◌≤◌, Bool, true, false, List, [], ◌∷◌, ◌++◌, length, take, drop, Option, Some, None, Result, Ok, Err, if◌then◌else◌, refl, sym, ap, subst, arith, append-nil}
-use Rattle.std.specs.Prelude.{All, nat_le, nat_lt}
+use Rattle.std.specs.Prelude.{nat_le, nat_lt}
+use Rattle.std.specs.List.{AllByRecursion}
 use Rattle.std.specs.Option.{option_and_then}
 use Rattle.std.specs.Int.{w32, from_le_bytes}
 use Rattle.std.specs.Str.{bytes_eq}
@@ -17,7 +18,7 @@ use Rattle.record_file.specs.Record.{Events, FrameRead, ended, events_from, even
 use Rattle.record_file.specs.declared.event.Event.{Event}
 use Rattle.record_file.specs.declared.fault.RecordFault.{RecordFault}
 use Rattle.record_file.specs.declared.fault.RecordFault.TheVariants.{BadKind, BadMagic, TooLong, TooMany, Torn}
-use Rattle.spec_state.specs.Genesis.{checked_genesis, genesis_fault, genesis_of, max_genesis_len, sound_genesis, zero_root}
+use Rattle.spec_state.specs.Genesis.{checked_genesis, genesis_fault, genesis_of, sound_genesis, zero_root}
 use Rattle.spec_state.specs.States.{state_codec}
 use Rattle.spec_state.specs.Limits.{IsState, IsInRange}
 use Rattle.spec_state.specs.declared.fault.GenesisFault.{GenesisFault}
@@ -55,7 +56,7 @@ use Rattle.beacon_node.proofs.Following.{clear_of_both, genesis_clear}
 -- ---- the payloads of a record are bytes
 
 abbrev pub AreBytes : List Event → Type 0
-AreBytes events = All (λ (e : Event). IsBytes e.payload) events
+AreBytes events = AllByRecursion (λ (e : Event). IsBytes e.payload) events
 
 abbrev FrameBytes : FrameRead → Type 0
 FrameBytes ended = Unit {0}
@@ -93,16 +94,16 @@ events_bytes : (room events : ℕ) (bytes : List ℕ) → IsBytes bytes → AreB
 unfolding events_from
 events_bytes zero events [] ok = tt
 events_bytes zero events (_ ∷ _) ok = tt
-events_bytes (suc room) events bytes ok = by (frame_of events bytes) (frame_bytes events bytes ok)
+events_bytes (suc room) events bytes ok = by (λ rest rest_ok. events_bytes room (events + 1) rest rest_ok) (frame_of events bytes) (frame_bytes events bytes ok)
   where
-    by : (f : FrameRead) → FrameBytes f → AreBytes (elim f [
+    by : ((rest : List ℕ) → IsBytes rest → AreBytes (events_from room (events + 1) rest).events) → (f : FrameRead) → FrameBytes f → AreBytes (elim f [
       | ended ↦ record { events = []; end = record_file.done }
       | faulted reason ↦ record { events = []; end = record_file.fault (fault_event events reason) reason }
       | framed event rest ↦ with_event event (events_from room (events + 1) rest)
     ]).events
-    by ended h = tt
-    by (faulted reason) h = tt
-    by (framed event rest) h = (h.0, events_bytes room (events + 1) rest h.1)
+    by later ended h = tt
+    by later (faulted reason) h = tt
+    by later (framed event rest) h = (h.0, later rest h.1)
 
 record_bytes : (bytes : List ℕ) → IsBytes bytes → AreBytes (events_of bytes).events
 unfolding events_of
@@ -208,13 +209,13 @@ second_good config genesis first bytes left begins ok are is =
 
 -- ---- the files
 
-some_is : (end other : End) → Some end ≡ Some other → end ≡ other
-some_is end other is = cc
+some_is : (end another : End) → Some end ≡ Some another → end ≡ another
+some_is end another is = cc
 
 -- a genesis of a file is one that was checked
 genesis_read : (config : ConfigValues) (bytes : List ℕ) (state : PlainState) → IsPreset config.preset → IsBytes bytes → genesis_of config.preset bytes ≡ Ok state → genesis_clash state ≡ None → Begins state
 unfolding genesis_of genesis_clash
-genesis_read config bytes state preset ok is none = by (nat_lt max_genesis_len (length bytes)) ((state_codec config.preset).deserialize bytes) refl is
+genesis_read config bytes state preset ok is none = by _ ((state_codec config.preset).deserialize bytes) refl is
   where
     checked : (s : PlainState) (fault : Option GenesisFault) → sound_genesis s fault ≡ Ok state → (s ≡ state) × (fault ≡ None)
     checked s None h = (cc, refl)

@@ -33,7 +33,7 @@ use Rattle.spec_drill.proofs.Genesis.{made_genesis_calm, slot_zero}
 use Rattle.spec_drill.proofs.GenesisRange.{made_genesis_in_range, made_genesis_is_state}
 use Rattle.spec_drill.proofs.Maker.{new_has_given}
 use Rattle.chain_maker.specs.Source.{begun, made_source}
-use Rattle.spec_replay.specs.Run.{Run, End, after_file, bad_config, bad_deposits, bad_duties, bad_genesis, bad_record, clash, done, limited, no_command, over, with_events}
+use Rattle.spec_replay.specs.Run.{Run, End, after_file, bad_anchor, bad_config, bad_deposits, bad_duties, bad_genesis, bad_record, clash, done, limited, no_command, over, with_events}
 use Rattle.spec_replay.specs.Drill.{Chains, Tally, tally_of, six_lines, two_lines, behind_first, behind_second, split_lines, with_split, chains_of, drill_events, drill_store, drill_plan, drill_config, drill_run}
 use Rattle.spec_replay.specs.Forensic.{Followed, follow}
 use Rattle.beacon_node.specs.declared.drill.Makers.{Makers}
@@ -188,8 +188,8 @@ made_followed side maker result store history left s t new h =
     k.leaves [] (λ _. refl)
 
 -- it reads no file
-pub made_untouched : {side : Side} {result : Result (Unit {0}) Status} {followed left : Followed} {maker : PlainMaker} {s t : ShelfTold} → FollowedToEnd side result followed (made_source (begun maker)) s t left → t ≡ s
-made_untouched h = h.taken.1
+pub made_untouched : (maker : PlainMaker) {side : Side} {result : Result (Unit {0}) Status} {followed left : Followed} {s t : ShelfTold} → FollowedToEnd side result followed (made_source (begun maker)) s t left → t ≡ s
+made_untouched maker h = h.taken.1
 
 module _ (genesis : PlainState) (store : Store) (left : Followed) (side : Side) (second : which_of side ≡ 1) (same : others_of side ≡ first_accepted genesis left.history) (rest : Events) where
   pub second_over : (status : Status) (left_then : Followed) → Leaves (Err status) (follow (which_of side) (others_of side) store rest) left_then → SplitEnds status (behind_first genesis store (Ok left) rest)
@@ -252,6 +252,7 @@ split-files (Some (limited which event bound)) lines split = refl
 split-files (Some (clash which event kind kept_which)) lines split = refl
 split-files (Some (bad_deposits fault)) lines split = refl
 split-files (Some (bad_duties fault)) lines split = refl
+split-files (Some (bad_anchor fault)) lines split = refl
 
 no_files : (clash : Option ClashKind) (genesis : PlainState) (store : Store) (chains : Chains) → (drill_store clash genesis store chains).files ≡ 0
 unfolding drill_store drill_events

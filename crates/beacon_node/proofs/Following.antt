@@ -182,7 +182,7 @@ module _ (which : ℕ) (others : List KeptBlock) (number : ℕ) (old : Followed)
 
   pub block_ends : (status : Status) (store : Store) (given : BlockIn) → outcome ≡ accepted (store, block given) → ClashesBy status which number (clash_of_accepted others store (block given)) → EventEnds status which others number old outcome
   block_ends (statuses.Clash which_is event (kinds.Kept place) kept_which) store given is h =
-      subst (λ (s : Status). EventEnds s which others number old outcome) (sym (rw (h.0, h.1, h.2) refl)) (other_clash store given place is h.3)
+      rw (h.0, h.1, h.2) (other_clash store given place is h.3)
   block_ends statuses.NoMemory store given is h = memory_ends
   block_ends (statuses.Clash which_is event kinds.ZeroBlock kept_which) store given is h = absurd h
   block_ends (statuses.Clash which_is event kinds.ZeroState kept_which) store given is h = absurd h
@@ -325,6 +325,7 @@ unopened_outside names troubles.NoMemory h keeps = record { shelf = keeps; read 
 
 -- the store follows what it followed, where only the book's other history counts
 pub still_following : (side : Side) (genesis : PlainState) (old_store new_store : Store) (old new : PlainBook) → IsFollowing side genesis old_store old → SameBeside side old new → Follows old.config old.genesis (history_of new (which_of side)) new_store → IsFollowing side genesis new_store new
+unfolding history_of
 still_following side genesis old_store new_store old new is same follows = record {
   genesis_is = same.genesis ∙ is.genesis_is;
   follows = rw (same.config, ← is.genesis_is) follows;
@@ -383,6 +384,7 @@ watch_saw genesis book new seen states same begins saw =
 
 module _ (side : Side) (genesis : PlainState) (number kind : ℕ) (payload : List ℕ) (old_store store : Store) (old : PlainBook) (is : IsFollowing side genesis old_store old) (bytes : IsBytes payload) where
   pub block_to_add : (given : BlockIn) → on_event old_store kind payload ≡ accepted (store, block given) → IsAdded old.config old.genesis (history_of old (which_of side)) store number given
+  unfolding history_of
   block_to_add given took = rw is.genesis_is (block_is_added old.config genesis (history_of old (which_of side)) old_store store kind payload given number is.follows bytes took)
 
   pub other_follows : on_event old_store kind payload ≡ accepted (store, other) → IsFollowing side genesis store old
@@ -395,6 +397,7 @@ module _ (side : Side) (genesis : PlainState) (number kind : ℕ) (payload : Lis
 
   module _ (given : BlockIn) (took : on_event old_store kind payload ≡ accepted (store, block given)) (new_store : Store) (new : PlainBook) (same_store : new_store ≡ store) where
     pub block_follows : (result : Result (Unit {0}) Status) → SameBeside side old new → IfOk result (λ _. BlockFollowed side number store given old new) → IfOk result (λ _. IsFollowing side genesis new_store new)
+    unfolding history_of
     block_follows (Ok v) same followed =
         still_following side genesis old_store new_store old new is same
         (rw (same_store, followed.history, is.genesis_is) (event_followed old.config genesis (history_of old (which_of side)) old_store store kind payload (block given) number is.follows bytes took))

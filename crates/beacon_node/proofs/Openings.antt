@@ -1,5 +1,5 @@
 -- How two stores and a book open at genesis.
-use Rattle.std.proofs.Common.{◌≡◌, ◌∙◌, ℕ, suc, ◌≤◌, ◌+◌, ◌<◌, ◌^◌, List, [], length, Option, Some, None, Ok, refl, sym, ap, subst, arith}
+use Rattle.std.proofs.Common.{◌≡◌, ◌∙◌, ℕ, zero, suc, ◌≤◌, ◌+◌, ◌<◌, ◌^◌, List, [], length, Option, Some, None, Ok, refl, sym, ap, subst, arith}
 use Rattle.bc_preset.specs.declared.configuration.ConfigValues.{ConfigValues}
 use Rattle.bc_words.specs.Events.{StoreStops, accepted}
 use Rattle.bc_words.specs.declared.store_stop.ClashKind.{ClashKind}
@@ -64,8 +64,8 @@ module _ (config : ConfigValues) (genesis : PlainState) (histories : Histories) 
   nothing_in which less = nothing which less (ap (λ (book : PlainBook). history_of book which) are.book)
     where
       nothing : (which : ℕ) → which < 2 → history_of histories.book which ≡ history_of (begun config genesis) which → history_of histories.book which ≡ []
-      nothing 0 less is = is
-      nothing 1 less is = is
+      nothing zero less is = is
+      nothing (suc zero) less is = is
       nothing (suc (suc n)) less is = absurd (omega (arith, less))
 
   -- the first record is followed from the beginning
@@ -107,13 +107,16 @@ module _ (side : Side) (old new : PlainBook) (second : which_of side ≡ 1) (sam
   first_stays = first_stays_by side second same
 
   pub still_first : (first : Store) → Follows old.config old.genesis (history_of old 0) first → Follows new.config new.genesis (history_of new 0) first
+  unfolding history_of
   still_first first follows = rw (same.config, same.genesis, first_stays) follows
 
   -- what is found is in words of the book of before
   pub two_of : (genesis : PlainState) (first last : Store) → old.genesis ≡ genesis
       → two_lines new.genesis (record { store = first; history = history_of new 0 }) (record { store = last; history = history_of new 1 }) ≡ two_lines genesis (record { store = first; history = history_of old 0 }) (followed_by side last new)
+  unfolding two_lines history_of
   two_of genesis first last is = rw (same.genesis, is, first_stays, second) refl
 
   pub judge_of : (genesis : PlainState) (first last : Store) → old.genesis ≡ genesis
       → judge new.genesis (record { store = first; history = history_of new 0 }) (Ok (record { store = last; history = history_of new 1 })) ≡ judge genesis (record { store = first; history = history_of old 0 }) (Ok (followed_by side last new))
+  unfolding judge history_of
   judge_of genesis first last is = rw (same.genesis, is, first_stays, second) refl

@@ -33,8 +33,8 @@ returns-in-Ok-extend_from_slice-clause-told g c =
     all_told (genesis_clash c.args.genesis) c.args.genesis (genesis_store c.args.config.now c.args.genesis) (chains_to_come c.args.makers) c.in-Ok.ensures.opened.none own.0 _ c.in-Ok-split_lines.more.items c.in-Ok-split_lines.ensures.told
     (rw (c.deref.ensures.value, own.1) at c.in-Ok-extend_from_slice.ensures)
 
-pub returns-clause-told : goal.returns-clause-told
-returns-clause-told g c = drill_memory (genesis_clash c.args.genesis) c.args.genesis (genesis_store c.args.config.now c.args.genesis) (chains_to_come c.args.makers)
+pub returns-in-Err-extend_from_slice-clause-told : goal.returns-in-Err-extend_from_slice-clause-told
+returns-in-Err-extend_from_slice-clause-told g c = drill_memory (genesis_clash c.args.genesis) c.args.genesis (genesis_store c.args.config.now c.args.genesis) (chains_to_come c.args.makers)
 
 pub returns-in-Err-clause-outside : goal.returns-in-Err-clause-outside
 returns-in-Err-clause-outside g c = opening_follows c.in-Err.status (genesis_clash c.args.genesis) _ c.in-Err.ensures.over
@@ -48,5 +48,5 @@ returns-in-Err-split_lines-clause-outside g c = ended_outside [] c.in-Err-split_
 pub returns-in-Ok-extend_from_slice-clause-outside : goal.returns-in-Ok-extend_from_slice-clause-outside
 returns-in-Ok-extend_from_slice-clause-outside g c = made_outside [] _ _ (outside_behind [] [] _ c.in-Ok-chain_lines.ensures.outside.shelf c.in-Ok-split_lines.ensures.outside)
 
-pub returns-clause-outside : goal.returns-clause-outside
-returns-clause-outside g c = memory_outside [] _ (outside_behind [] [] _ c.in-Ok-chain_lines.ensures.outside.shelf c.in-Ok-split_lines.ensures.outside)
+pub returns-in-Err-extend_from_slice-clause-outside : goal.returns-in-Err-extend_from_slice-clause-outside
+returns-in-Err-extend_from_slice-clause-outside g c = memory_outside [] _ (outside_behind [] [] _ c.in-Ok-chain_lines.ensures.outside.shelf c.in-Ok-split_lines.ensures.outside)

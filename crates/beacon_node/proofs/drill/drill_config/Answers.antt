@@ -16,7 +16,7 @@ returns-in-Err-genesis-clause-over g c = no_memory _ _ (no_config_files c.args.n
 
 pub drill_from-requires-clause-genesis : goal.drill_from-requires-clause-genesis
 drill_from-requires-clause-genesis g c =
-    made_begins c.args.number c.args.config.now c.in-Ok-genesis.genesis c.preset.ensures.preset (begins c.args.number c.args.config.now c.in-Ok.makers.own c.in-Ok-genesis.genesis c.in-Ok.ensures.own c.in-Ok-genesis.ensures.state)
+    made_begins c.args.number c.args.config.now c.in-Ok-genesis.genesis c.preset-preset.ensures.preset (begins c.args.number c.args.config.now c.in-Ok.makers.own c.in-Ok-genesis.genesis c.in-Ok.ensures.own c.in-Ok-genesis.ensures.state)
     c.in-Ok-genesis.ensures.passes
 
 pub drill_from-requires-clause-makers : goal.drill_from-requires-clause-makers

@@ -6,4 +6,4 @@ pub returns-clause-followed : goal.returns-clause-followed
 returns-clause-followed g c = made_followed c.args.side c.args.maker c.follow_events.result c.args.store.now.plain _ _ _ _ c.requires.begun (rw c.new-events.ensures at c.follow_events.ensures.over)
 
 pub returns-clause-still : goal.returns-clause-still
-returns-clause-still g c = made_untouched (rw c.new-events.ensures at c.follow_events.ensures.over)
+returns-clause-still g c = made_untouched _ (rw c.new-events.ensures at c.follow_events.ensures.over)

@@ -19,9 +19,11 @@ pub found_lines-requires-clause-first : goal.found_lines-requires-clause-first
 found_lines-requires-clause-first g c = still_first (Second c.args.first) c.args.book c.follow_made.new.book refl c.follow_made.ensures.same c.args.first.now.plain c.requires.first
 
 pub found_lines-requires-clause-second : goal.found_lines-requires-clause-second
+unfolding history_of
 found_lines-requires-clause-second g c = rw c.in-Ok.ensures.following.genesis_is c.in-Ok.ensures.following.follows
 
 pub returns-in-Ok-found_lines-clause-told : goal.returns-in-Ok-found_lines-clause-told
+unfolding history_of
 returns-in-Ok-found_lines-clause-told g c =
     second_told c.args.genesis.now c.args.second.plain (record { store = c.args.first.now.plain; history = history_of c.args.book 0 }) (Second c.args.first) refl (rw c.requires.genesis at c.requires.first.blocks) (events_to_come 0 (to_come c.args.maker))
     (followed_by (Second c.args.first) c.follow_made.new.store.plain c.follow_made.new.book) c.in-Ok-found_lines.lines.items c.in-Ok.ensures.followed

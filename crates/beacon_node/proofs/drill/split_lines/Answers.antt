@@ -4,6 +4,7 @@ use Rattle.spec_fork_choice.specs.GetForkchoiceStore.{genesis_store}
 use Rattle.spec_fork_choice.specs.OnEvent.{genesis_clash}
 use Rattle.spec_drill.specs.AsEvents.{events_to_come}
 use Rattle.spec_drill.specs.Maker.{to_come}
+use Rattle.forensics.specs.Books.{history_of}
 use Rattle.beacon_node.specs.declared.follow.Side.TheVariants.{First}
 use Rattle.beacon_node.specs.inside.Following.{followed_by}
 use Rattle.beacon_node.proofs.Drilled.{first_over, first_told, opening_breaks}
@@ -33,6 +34,7 @@ second_lines-requires-clause-begun g c =
     (nothing_in c.args.config.now c.args.genesis c.in-Ok.histories c.in-Ok.ensures.opened 1 (omega arith)) (second_begins c.args.config.now c.args.genesis c.in-Ok.histories c.in-Ok.ensures.opened)).0
 
 pub second_lines-requires-clause-first : goal.second_lines-requires-clause-first
+unfolding history_of
 second_lines-requires-clause-first g c = rw c.in-Ok-follow_made.ensures.following.genesis_is c.in-Ok-follow_made.ensures.following.follows
 
 pub second_lines-requires-clause-second : goal.second_lines-requires-clause-second
@@ -49,8 +51,8 @@ returns-in-Ok-follow_made-clause-told g c =
     rw (first_told c.args.genesis (genesis_store c.args.config.now c.args.genesis) (events_to_come 0 (to_come c.args.first_maker)) (events_to_come 0 (to_come c.args.second_maker)) (followed_by First c.follow_made.new.store.plain c.follow_made.new.book)
     (rw opened.first at c.in-Ok-follow_made.ensures.followed)) (rw (opened.genesis_is, opened.second) at c.second_lines.ensures.told)
 
-pub returns-clause-told : goal.returns-clause-told
-returns-clause-told g c =
+pub returns-in-Err-follow_made-clause-told : goal.returns-in-Err-follow_made-clause-told
+returns-in-Err-follow_made-clause-told g c =
     first_over c.args.genesis (genesis_store c.args.config.now c.args.genesis) (events_to_come 0 (to_come c.args.first_maker)) (events_to_come 0 (to_come c.args.second_maker)) c.in-Err-follow_made.status
     (followed_by First c.follow_made.new.store.plain c.follow_made.new.book) (rw c.in-Ok.ensures.opened.first at c.in-Err-follow_made.ensures.followed)
 
@@ -60,5 +62,5 @@ returns-in-Err-clause-outside g c = opening_follows c.in-Err.status (genesis_cla
 pub returns-in-Ok-follow_made-clause-outside : goal.returns-in-Ok-follow_made-clause-outside
 returns-in-Ok-follow_made-clause-outside g c = outside_behind [] [] c.second_lines.result c.in-Ok-follow_made.ensures.outside.shelf c.second_lines.ensures.outside
 
-pub returns-clause-outside : goal.returns-clause-outside
-returns-clause-outside g c = ended_outside [] c.in-Err-follow_made.status c.in-Err-follow_made.ensures.outside
+pub returns-in-Err-follow_made-clause-outside : goal.returns-in-Err-follow_made-clause-outside
+returns-in-Err-follow_made-clause-outside g c = ended_outside [] c.in-Err-follow_made.status c.in-Err-follow_made.ensures.outside

@@ -13,14 +13,14 @@ returns-in-Ok-clause-answers g c =
     let opened = c.in-Ok.ensures.opened in
     records_go_on c.args.config.now c.args.genesis (records_named c.args.files.now) c.in-Ok.histories.first.plain c.tell_records.result _ _ _ _ opened.none opened.first (rw opened.genesis_is at c.tell_records.ensures.answers)
 
-pub returns-clause-answers : goal.returns-clause-answers
-returns-clause-answers g c = opening_over c.args.config.now c.args.genesis (records_named c.args.files.now) c.in-Err.status _ _ c.in-Err.ensures.over
+pub returns-in-Err-clause-answers : goal.returns-in-Err-clause-answers
+returns-in-Err-clause-answers g c = opening_over c.args.config.now c.args.genesis (records_named c.args.files.now) c.in-Err.status _ _ c.in-Err.ensures.over
 
-pub returns-clause-command : goal.returns-clause-command
-returns-clause-command g c = c.in-Err.ensures.over.inside.words
+pub returns-in-Err-clause-command : goal.returns-in-Err-clause-command
+returns-in-Err-clause-command g c = c.in-Err.ensures.over.inside.words
 
-pub returns-clause-outside : goal.returns-clause-outside
-returns-clause-outside g c = opening_outside (c.args.files.now.first.now ∷ c.args.files.now.second.now ∷ []) c.in-Err.status _ _ _ c.in-Err.ensures.over
+pub returns-in-Err-clause-outside : goal.returns-in-Err-clause-outside
+returns-in-Err-clause-outside g c = opening_outside (c.args.files.now.first.now ∷ c.args.files.now.second.now ∷ []) c.in-Err.status _ _ _ c.in-Err.ensures.over
 
-pub returns-clause-findings : goal.returns-clause-findings
-returns-clause-findings g c = λ is. absurd (c.in-Err.ensures.over.inside.done is)
+pub returns-in-Err-clause-findings : goal.returns-in-Err-clause-findings
+returns-in-Err-clause-findings g c = λ is. absurd (c.in-Err.ensures.over.inside.done is)

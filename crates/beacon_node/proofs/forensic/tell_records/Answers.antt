@@ -1,5 +1,6 @@
 -- The first record is followed, and then the second one comes.
 use Rattle.std.proofs.Common.{[], ◌∷◌, ◌∙◌, sym, arith}
+use Rattle.forensics.specs.Books.{history_of}
 use Rattle.beacon_node.specs.declared.follow.Side.TheVariants.{First}
 use Rattle.beacon_node.specs.inside.Following.{followed_by}
 use Rattle.beacon_node.proofs.Forensics.{first_goes_on, first_stops, follows_outside}
@@ -28,6 +29,7 @@ tell_second-requires-clause-new g c =
     (nothing_in c.args.histories.book.config c.args.histories.genesis c.args.histories c.requires.opened 1 (omega arith)) (second_begins c.args.histories.book.config c.args.histories.genesis c.args.histories c.requires.opened)).0
 
 pub tell_second-requires-clause-first : goal.tell_second-requires-clause-first
+unfolding history_of
 tell_second-requires-clause-first g c = rw c.in-Ok.ensures.following.genesis_is c.in-Ok.ensures.following.follows
 
 pub tell_second-requires-clause-second : goal.tell_second-requires-clause-second

@@ -17,15 +17,18 @@ pub tell-requires-clause-first : goal.tell-requires-clause-first
 tell-requires-clause-first g c = still_first (Second c.args.first) c.args.book c.follow_record.new.book refl c.follow_record.ensures.same c.args.first.now.plain c.requires.first
 
 pub tell-requires-clause-second : goal.tell-requires-clause-second
+unfolding history_of
 tell-requires-clause-second g c = rw c.in-Ok.ensures.following.genesis_is c.in-Ok.ensures.following.follows
 
 pub returns-in-Ok-clause-answers : goal.returns-in-Ok-clause-answers
+unfolding history_of
 returns-in-Ok-clause-answers g c =
     second_concludes c.args.genesis.now c.args.second.plain (record { store = c.args.first.now.plain; history = history_of c.args.book 0 }) (Second c.args.first) c.args.name.now refl (rw c.requires.genesis at c.requires.first.blocks)
     (followed_by (Second c.args.first) c.follow_record.new.store.plain c.follow_record.new.book) c.tell.result _ _ _ _ c.in-Ok.ensures.followed
     (rw (judge_of (Second c.args.first) c.args.book c.follow_record.new.book refl c.follow_record.ensures.same c.args.genesis.now c.args.first.now.plain c.follow_record.new.store.plain c.requires.genesis) at c.tell.ensures.told)
 
 pub returns-clause-answers : goal.returns-clause-answers
+unfolding history_of
 returns-clause-answers g c =
     second_stops c.args.genesis.now c.args.second.plain (record { store = c.args.first.now.plain; history = history_of c.args.book 0 }) (Second c.args.first) c.args.name.now refl (rw c.requires.genesis at c.requires.first.blocks)
     c.in-Err.status (followed_by (Second c.args.first) c.follow_record.new.store.plain c.follow_record.new.book) _ _ _ c.in-Err.ensures.followed
