@@ -18,8 +18,9 @@ use Rattle.ssz_codec.specs.Layout.{OffsetsFit}
 use Rattle.spec_state.specs.declared.plain.PlainState.{PlainState}
 use Rattle.spec_state.specs.declared.fault.GenesisFault.{GenesisFault}
 use Rattle.spec_state.specs.declared.fault.ValidatorFault.{ValidatorFault}
+use Rattle.spec_state.specs.Predicates.{is_active_validator}
 use Rattle.spec_state.specs.Constants.{far_future_epoch}
-use Rattle.spec_state.specs.Accessors.{get_active_validator_indices, get_current_epoch, get_total_active_balance, get_total_balance, indices_from, is_active_validator}
+use Rattle.spec_state.specs.Accessors.{get_active_validator_indices, get_current_epoch, get_total_active_balance, get_total_balance, indices_from}
 use Rattle.spec_state.specs.Genesis.{genesis_fault, header_root_of, is_genesis_header, is_zero_checkpoint, or_later, validator_fault, validators_fault, zero_root}
 use Rattle.spec_state.specs.Limits.{IsState, IsInRange}
 use Rattle.spec_state.specs.Misc.{effective_balance}
