@@ -58,48 +58,59 @@ impl fmt::Display for Origin<'_> {
     }
 }
 
-/// What a command reads or makes: the configuration, the genesis or what stands in its place, and the events.
+/// What a command reads or makes: the configuration, the genesis or what stands in its place, and the events of its records.
 #[derive(Clone, Copy)]
 struct Origins<'a> {
     config: Origin<'a>,
     genesis: Origin<'a>,
     events: Origin<'a>,
+    second: Origin<'a>,
+}
+
+impl<'a> Origins<'a> {
+    /// The record with a number: 0 is the only or the first one.
+    fn record(&self, which: u8) -> Origin<'a> {
+        if which == 0 { self.events } else { self.second }
+    }
 }
 
 /// What the command reads or makes, or placeholders where it has none or the words are no command.
 fn origins_of<'a>(command: &Option<Command<'a>>) -> Origins<'a> {
-    let (config, genesis, events) = match command {
+    let none = Origin::File("RECORD");
+    let (config, genesis, events, second) = match command {
         Some(Command::Replay(files)) => (
             files.config,
             Origin::File(files.genesis),
             Origin::File(files.events),
+            none,
         ),
         Some(Command::Drill(words)) => (
             words.config,
             Origin::Made("the made genesis"),
             Origin::Made("the made chain"),
+            Origin::Made("the second chain of the split"),
         ),
-        Some(Command::Genesis(files)) => (
+        Some(Command::Genesis(files)) => (files.config, Origin::File(files.deposits), none, none),
+        Some(Command::Duties(words)) => (words.config, Origin::File(words.state), none, none),
+        Some(Command::Forensic(files)) => (
             files.config,
-            Origin::File(files.deposits),
-            Origin::File("RECORD"),
-        ),
-        Some(Command::Duties(words)) => (
-            words.config,
-            Origin::File(words.state),
-            Origin::File("RECORD"),
+            Origin::File(files.genesis),
+            Origin::File(files.first),
+            Origin::File(files.second),
         ),
         Some(Command::Anchor(files)) => (
             files.config,
             Origin::File(files.state),
             Origin::File(files.events),
+            none,
         ),
-        None => ("CONFIG", Origin::File("GENESIS"), Origin::File("RECORD")),
+        None => ("CONFIG", Origin::File("GENESIS"), none, none),
     };
     Origins {
         config: Origin::File(config),
         genesis,
         events,
+        second,
     }
 }
 
@@ -245,16 +256,15 @@ fn write_deposits<W: fmt::Write>(
 fn write_place<W: fmt::Write>(
     f: &mut fmt::Formatter<W>,
     command: &Option<Command<'_>>,
+    which: u8,
     event: u32,
 ) -> fmt::Result {
-    let Origins {
-        genesis,
-        events,
-        ..
-    } = origins_of(command);
+    let origins = origins_of(command);
     match command {
-        Some(Command::Duties(words)) => write!(f, "Limit: {genesis}: epoch {}: ", words.epoch),
-        _ => write!(f, "Limit: {events}: event {event}: "),
+        Some(Command::Duties(words)) => {
+            write!(f, "Limit: {}: epoch {}: ", origins.genesis, words.epoch)
+        }
+        _ => write!(f, "Limit: {}: event {event}: ", origins.record(which)),
     }
 }
 
@@ -368,18 +378,37 @@ fn first_block(command: &Option<Command<'_>>) -> &'static str {
     }
 }
 
-/// How the root of a block that would be accepted is no name for it alone. Event 0 is the first kept block.
+/// The kept block whose root another block has: one of its own record, or of the first one.
+fn write_kept<W: fmt::Write>(
+    f: &mut fmt::Formatter<W>,
+    number: u32,
+    kept: Option<Origin<'_>>,
+) -> fmt::Result {
+    match kept {
+        Some(record) => write!(
+            f,
+            "the block has the root of the accepted block {number} of {record}, and is another one"
+        ),
+        None => write!(
+            f,
+            "the block has the root of the accepted block {number}, and is another one"
+        ),
+    }
+}
+
+/// How the root of a block that would be accepted is no name for it alone. Event 0 is the first kept block. The kept block may be of
+/// another record.
 fn write_clash<W: fmt::Write>(
     f: &mut fmt::Formatter<W>,
     command: &Option<Command<'_>>,
+    which: u8,
     event: u32,
     kind: ClashKind,
+    kept: Option<Origin<'_>>,
 ) -> fmt::Result {
-    let Origins {
-        genesis,
-        events,
-        ..
-    } = origins_of(command);
+    let origins = origins_of(command);
+    let genesis = origins.genesis;
+    let events = origins.record(which);
     let first = first_block(command);
     if event == 0 {
         write!(f, "Clash: {genesis}: {first}: ")?;
@@ -390,38 +419,65 @@ fn write_clash<W: fmt::Write>(
         ClashKind::ZeroBlock => write!(f, "the block's root is zero"),
         ClashKind::ZeroState => write!(f, "the block's state root is zero"),
         ClashKind::Kept(0) => write!(f, "the block has the root of {first}, and is another one"),
-        ClashKind::Kept(number) => write!(
-            f,
-            "the block has the root of the accepted block {number}, and is another one"
-        ),
+        ClashKind::Kept(number) => write_kept(f, number, kept),
     }
 }
 
 impl fmt::Display for Explanation<'_, '_> {
     fn fmt<W: fmt::Write>(&self, f: &mut fmt::Formatter<W>) -> fmt::Result {
+        let origins = origins_of(&self.command);
         let Origins {
             config,
             genesis,
             events,
-        } = origins_of(&self.command);
+            ..
+        } = origins;
         match self.status {
             Status::Done => write!(f, "Done: {events}: to the end"),
             Status::Words => write_words(f, self.wrong),
             Status::Config(fault) => write_config(f, &self.command, config, *fault),
             Status::Genesis(part) => write_genesis(f, genesis, *part, self.genesis_len),
             Status::Record {
+                which,
                 event: 0,
                 fault,
-                ..
-            } => write!(f, "Record: {events}: at its head: {fault}"),
-            Status::Record { event, fault, .. } => {
-                write!(f, "Record: {events}: event {event}: {fault}")
+            } => write!(
+                f,
+                "Record: {}: at its head: {fault}",
+                origins.record(*which)
+            ),
+            Status::Record {
+                which,
+                event,
+                fault,
+            } => {
+                write!(
+                    f,
+                    "Record: {}: event {event}: {fault}",
+                    origins.record(*which)
+                )
             }
-            Status::Limit { event, limit, .. } => {
-                write_place(f, &self.command, *event)?;
+            Status::Limit {
+                which,
+                event,
+                limit,
+            } => {
+                write_place(f, &self.command, *which, *event)?;
                 write_limit(f, *limit)
             }
-            Status::Clash { event, kind, .. } => write_clash(f, &self.command, *event, *kind),
+            Status::Clash {
+                which,
+                event,
+                kind,
+                kept_which,
+            } => {
+                let kept = if which == kept_which {
+                    None
+                } else {
+                    Some(origins.record(*kept_which))
+                };
+                write_clash(f, &self.command, *which, *event, *kind, kept)
+            }
             Status::Deposits(fault) => write_deposits(f, genesis, *fault, self.genesis_len),
             Status::Duties(fault) => write_duties(f, &self.command, *fault, self.genesis_len),
             Status::Anchor(fault) => write_anchor(f, &self.command, *fault, self.genesis_len),

@@ -71,7 +71,7 @@ const TEXTS: &[(Status, Option<Option<&str>>, Option<u64>, &str)] = &[
         Status::Words,
         None,
         None,
-        "Words: no command is named; the commands are `replay CONFIG GENESIS RECORD` `drill NUMBER CONFIG` `genesis CONFIG DEPOSITS` `duties CONFIG STATE EPOCH` `anchor CONFIG STATE BLOCK RECORD`",
+        "Words: no command is named; the commands are `replay CONFIG GENESIS RECORD` `drill NUMBER CONFIG` `genesis CONFIG DEPOSITS` `duties CONFIG STATE EPOCH` `anchor CONFIG STATE BLOCK RECORD` `forensic CONFIG GENESIS A B`",
     ),
     (
         Status::NoMemory,
@@ -293,6 +293,62 @@ const ANCHOR_TEXTS: &[(Status, &str)] = &[
     ),
 ];
 
+/// The texts of statuses of `forensic c g a b`.
+const FORENSIC_TEXTS: &[(Status, Option<Option<&str>>, Option<u64>, &str)] = &[
+    (
+        Status::Record {
+            which: 0,
+            event: 0,
+            fault: RecordFault::BadMagic,
+        },
+        None,
+        None,
+        "Record: \"a\": at its head: a record begins with BCR1",
+    ),
+    (
+        Status::Record {
+            which: 1,
+            event: 2,
+            fault: RecordFault::Torn,
+        },
+        None,
+        None,
+        "Record: \"b\": event 2: the record ends inside the event",
+    ),
+    (
+        Status::Limit {
+            which: 1,
+            event: 6,
+            limit: Limit::Slots(65_537),
+        },
+        None,
+        None,
+        "Limit: \"b\": event 6: it needs 65537 slots, and at most 65536 are gone through at once",
+    ),
+    (
+        Status::Clash {
+            which: 1,
+            event: 4,
+            kind: ClashKind::Kept(2),
+            kept_which: 0,
+        },
+        None,
+        None,
+        "Clash: \"b\": event 4: the block has the root of the accepted block 2 of \"a\", and is another one",
+    ),
+    (
+        Status::Clash {
+            which: 1,
+            event: 4,
+            kind: ClashKind::Kept(2),
+            kept_which: 1,
+        },
+        None,
+        None,
+        "Clash: \"b\": event 4: the block has the root of the accepted block 2, and is another one",
+    ),
+];
+
 /// Command words.
 fn words_of(alloc: Global, line: &str) -> Result<Vec<String>, AllocError> {
     let mut words = Vec::new(alloc);
@@ -360,6 +416,18 @@ fn drill_texts(rt: HostRuntime) -> Result<(), Fail> {
         .ok()
         .expect(&rt, "a command");
     let holds = texts_hold(rt.alloc(), DRILL_TEXTS, command, &error);
+    assert!(rt; holds);
+    Ok(())
+}
+
+#[test]
+fn forensic_texts(rt: HostRuntime) -> Result<(), Fail> {
+    let words = words_of(rt.alloc(), "forensic c g a b")?;
+    let error = Error::from(ErrorKind::NotFound);
+    let command = read_command(rt.alloc(), &words)
+        .ok()
+        .expect(&rt, "a command");
+    let holds = texts_hold(rt.alloc(), FORENSIC_TEXTS, command, &error);
     assert!(rt; holds);
     Ok(())
 }

@@ -1,7 +1,7 @@
 -- The command words as the first step of a run.
-use Rattle.std.proofs.Common.{◌≡◌, ℕ, List, [], Option, Some, None, Err, true, false, refl, sym, append-nil, arith}
+use Rattle.std.proofs.Common.{◌≡◌, ℕ, List, [], Option, Some, None, Err, true, false, refl, sym, ◌∙◌, append-nil, arith}
 use Rattle.bc_outside.specs.Told.{FileHanded, ShelfTold}
-use Rattle.command_words.specs.Commands.{AnchorFiles, Command, DrillWords, DutiesWords, GenesisFiles, ReplayFiles, anchor, command_of, drill, duties, genesis, names_of, replay}
+use Rattle.command_words.specs.Commands.{AnchorFiles, Command, DrillWords, DutiesWords, ForensicFiles, GenesisFiles, ReplayFiles, anchor, command_of, drill, duties, forensic, genesis, names_of, replay}
 use Rattle.command_words.specs.inside.Reading.{ReadsCommand}
 use Rattle.command_words.specs.declared.command.WordsStop.{WordsStop}
 use Rattle.command_words.specs.declared.command.WordsStop.TheVariants.{NoCommand, NoMemory}
@@ -9,6 +9,7 @@ use Rattle.spec_replay.specs.Commands.{run_of, with_command}
 use Rattle.spec_replay.specs.Anchor.{anchor_run}
 use Rattle.spec_replay.specs.Drill.{drill_run}
 use Rattle.spec_replay.specs.Duties.{duties_run}
+use Rattle.spec_replay.specs.Forensic.{forensic_run}
 use Rattle.spec_replay.specs.Genesis.{genesis_run}
 use Rattle.spec_replay.specs.Run.{Run, with_files}
 use Rattle.beacon_node.specs.declared.status.Status.{Status}
@@ -53,6 +54,18 @@ pub anchor_answers : (words : List (List ℕ)) (files : AnchorFiles) (status : S
     → Replayed (λ contents. run_of contents words) (taken_run_of status words) (names_of (command_of words)) status s t w x
 unfolding run_of with_command taken_run_of
 anchor_answers words files status s t w x is h = record { opened = h.opened; files = h.files; answers = λ c a. rw is (h.answers c a) }
+
+-- the words are the command `forensic`
+pub forensic_answers : (words : List (List ℕ)) (files : ForensicFiles) (status : Status) (s t : ShelfTold) (w x : List ℕ) → command_of words ≡ Some (forensic files)
+    → Replayed (λ contents. forensic_run (contents files.config) (contents files.genesis) (contents files.first) (contents files.second))
+    (λ contents opened. whole_of status (forensic_run (contents files.config) (contents files.genesis) (contents files.first) (contents files.second))) (names_of (Some (forensic files))) status s t w x
+    → Replayed (λ contents. run_of contents words) (taken_run_of status words) (names_of (command_of words)) status s t w x
+unfolding run_of with_command taken_run_of
+forensic_answers words files status s t w x is h = record { opened = h.opened; files = h.files; answers = λ c a. rw is (h.answers c a) }
+
+-- they are another command
+pub not_forensic : {A : Type 0} (words : List (List ℕ)) (command : Command) (files : ForensicFiles) → command_of words ≡ Some command → (command ≡ forensic files → ⊥) → command_of words ≡ Some (forensic files) → A
+not_forensic words command files is never other = absurd (never (let same = sym is ∙ other in cc))
 
 -- the words are none
 pub no_answers : (words : List (List ℕ)) (s : ShelfTold) (w : List ℕ) → command_of words ≡ None

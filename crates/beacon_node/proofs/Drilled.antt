@@ -1,5 +1,5 @@
--- A made chain on a store, and what is written of it.
-use Rattle.std.proofs.Common.{◌≡◌, ◌≢◌, ◌∙◌, ℕ, ◌+◌, ◌<◌, ◌≤◌, Bool, true, false, List, [], ◌∷◌, ◌++◌, length, take, nat_lt, if◌then◌else◌, Option, Some, None, Result, Ok, Err, refl, sym, ap, subst, append-nil, inl, inr, arith}
+-- Made chains on stores, and what is written of them.
+use Rattle.std.proofs.Common.{◌≡◌, ◌≢◌, ◌∙◌, ◌⊎◌, ℕ, ◌+◌, ◌<◌, ◌≤◌, ◌^◌, Bool, true, false, List, [], ◌∷◌, ◌++◌, length, take, nat_lt, if◌then◌else◌, Option, Some, None, Result, Ok, Err, IfErr, refl, sym, ap, ap₂, subst, append-nil, inl, inr, arith}
 use Rattle.std.proofs.lemmas.List.{take_all}
 use Rattle.sha2.specs.Sha256.{sha256}
 use Rattle.hash_tree.specs.Merkle.{hash}
@@ -8,45 +8,50 @@ use Rattle.bc_outside.specs.Memory.{hash_told}
 use Rattle.bc_outside.specs.declared.trouble.Trouble.{Trouble}
 use Rattle.bc_outside.specs.declared.trouble.Trouble.TheVariants as troubles
 use Rattle.bc_outside.specs.Calls.{HasCause, Rose, SinkKeeps, WritesAll}
-use Rattle.bc_outside.proofs.Keeping.{sink_keeps_none, agreed_front}
+use Rattle.bc_outside.proofs.Keeping.{sink_keeps_none}
 use Rattle.bc_preset.specs.Configs.{config_of}
+use Rattle.bc_preset.specs.Presets.{IsPreset}
 use Rattle.bc_preset.specs.declared.configuration.ConfigValues.{ConfigValues}
 use Rattle.bc_preset.specs.declared.faults.ConfigFault.{ConfigFault}
 use Rattle.bc_preset.specs.declared.faults.ConfigFault.TheVariants.{OutOfRange}
 use Rattle.bc_preset.specs.declared.keys.Key.TheVariants.{EjectionBalance}
-use Rattle.bc_words.specs.Events.{StoreStops, accepted, event_clashes}
 use Rattle.bc_words.specs.declared.store_stop.ClashKind.{ClashKind}
-use Rattle.bc_words.specs.declared.store_stop.StoreStop.{StoreStop}
-use Rattle.bc_words.specs.declared.store_stop.StoreStop.TheVariants as stores
 use Rattle.record_file.specs.Record.{Events}
+use Rattle.spec_state.specs.Genesis.{genesis_fault}
 use Rattle.spec_state.specs.declared.plain.PlainState.{PlainState}
 use Rattle.spec_fork_choice.specs.Store.{Store}
 use Rattle.spec_fork_choice.specs.GetForkchoiceStore.{genesis_store}
-use Rattle.spec_fork_choice.specs.OnEvent.{genesis_clash, open_store}
+use Rattle.spec_fork_choice.specs.OnEvent.{genesis_clash}
+use Rattle.spec_forensics.specs.Clash.{first_accepted}
+use Rattle.spec_forensics.specs.Histories.{AcceptedBlock}
 use Rattle.spec_drill.specs.Plan.{Plan}
 use Rattle.spec_drill.specs.Make.{Made, before, made}
-use Rattle.spec_drill.specs.MakeGenesis.{made_genesis, genesis_of_plan}
+use Rattle.spec_drill.specs.MakeGenesis.{genesis_of_plan}
 use Rattle.spec_drill.specs.Maker.{PlainMaker, new_maker, to_come}
 use Rattle.spec_drill.specs.AsEvents.{events_to_come}
-use Rattle.spec_drill.proofs.Genesis.{slot_zero}
+use Rattle.spec_drill.proofs.Genesis.{made_genesis_calm, slot_zero}
+use Rattle.spec_drill.proofs.GenesisRange.{made_genesis_in_range, made_genesis_is_state}
 use Rattle.spec_drill.proofs.Maker.{new_has_given}
 use Rattle.chain_maker.specs.Source.{begun, made_source}
-use Rattle.spec_replay.specs.Run.{Run, End, after_file, bad_config, clash, done, over, with_events}
-use Rattle.spec_replay.specs.Drill.{Tally, tally_of, six_lines, if_done, drill_events, drill_store, drill_plan, drill_config, drill_run}
+use Rattle.spec_replay.specs.Run.{Run, End, after_file, bad_anchor, bad_config, bad_deposits, bad_duties, bad_genesis, bad_record, clash, done, limited, no_command, over, with_events}
+use Rattle.spec_replay.specs.Drill.{Chains, Tally, tally_of, six_lines, two_lines, behind_first, behind_second, split_lines, with_split, chains_of, drill_events, drill_store, drill_plan, drill_config, drill_run}
+use Rattle.spec_replay.specs.Forensic.{Followed, follow}
+use Rattle.beacon_node.specs.declared.drill.Makers.{Makers}
+use Rattle.beacon_node.specs.declared.follow.Side.{Side}
 use Rattle.beacon_node.specs.declared.status.Status.{Status}
 use Rattle.beacon_node.specs.declared.status.Status.TheVariants as statuses
-use Rattle.beacon_node.specs.Answers.{Answers, AllUnless, HasCauses, OutsideKeeps, Replayed, WritesLines, breaks_off, may_lack_lines, end_of, whole_of}
+use Rattle.beacon_node.specs.Answers.{HasCauses, OutsideKeeps, WritesLines, breaks_off, may_lack_lines, end_of, whole_of}
+use Rattle.beacon_node.specs.inside.AtEnd.{EndsOver}
 use Rattle.beacon_node.specs.inside.Statuses.{unread, unwritten}
-use Rattle.beacon_node.specs.inside.GenesisAnswers.{no_store}
 use Rattle.beacon_node.specs.inside.Reading.{ReadOf, Unread}
 use Rattle.beacon_node.specs.inside.Progress.{Ended, EventsOver}
-use Rattle.beacon_node.specs.inside.Drilled.{Digested, Finished, WritesOut, is_done}
+use Rattle.beacon_node.specs.inside.Drilled.{AreMakers, Digested, DrillEnds, Finished, OwnEnds, SplitEnds, WritesOut, chains_to_come, is_done, own_lines}
+use Rattle.beacon_node.specs.inside.Following.{FollowedToEnd, FollowsOutside, Leaves, others_of, which_of}
+use Rattle.beacon_node.specs.inside.Histories.{IsGenesis, OpeningEnds}
 use Rattle.beacon_node.proofs.Reaching.{reaches_none, is_prefix, reaches_all, no_lines}
 use Rattle.beacon_node.proofs.Outside.{no_fault, unwritten_causes}
-use Rattle.beacon_node.proofs.OneByOne.{with_events-files}
 use Rattle.beacon_node.proofs.Prefixes.{config_of-prefix}
-use Rattle.beacon_node.proofs.Readers.{clash_of_opening, opened_without}
-use Rattle.beacon_node.proofs.Steps.{asks_none, goes_on, held_prefix, over_after, unread_after}
+use Rattle.beacon_node.proofs.Whole.{breaks_at_file, ends_whole, goes_on_behind, handed_of, pace_none, unread_breaks}
 
 -- ---- nothing is written
 
@@ -99,14 +104,6 @@ never_rose : {A : Type 0} → Rose 0 0 → A
 never_rose (inl less) = absurd (omega (arith, less))
 never_rose (inr is) = absurd (omega (arith, is))
 
--- what became of shelf and sink where the events were run without this sink, and then it was written to
-pub writes_behind : (status other : Status) {s t : ShelfTold} {p q : SinkTold} → OutsideKeeps [] (Some other) s t p p → WritesOut status p q → OutsideKeeps [] (Some status) s t p q
-writes_behind status other {s} {t} {p} {q} h w = record {
-  causes = record { read = λ is. never_rose ((w.causes 0).read is); write = (w.causes 0).write };
-  shelf = h.shelf;
-  sink = w.sink;
-}
-
 -- ---- the events of a maker
 
 done_status : (status : Status) → is_done status ≡ true → status ≡ statuses.Done
@@ -123,43 +120,6 @@ done_status (statuses.Clash which event kind kept_which) is = absurd cc
 done_status (statuses.Deposits fault) is = absurd cc
 done_status (statuses.Duties fault) is = absurd cc
 done_status (statuses.Anchor fault) is = absurd cc
-
--- a run that ended before all was done writes nothing
-module _ (run : Run) (lines w : List ℕ) (is : run.lines ≡ if_done run.end lines) (files : run.files ≡ 0) where
-  at_end : (status : Status) (end : End) → run.end ≡ Some end → Some end ≡ end_of status → if_done (Some end) lines ≡ [] → breaks_off status ≡ false → may_lack_lines status ≡ false → whole_of status run ≡ run → Finished status run w w
-  at_end status end ends same none whole late all =
-      let empty : run.lines ≡ [] = is ∙ (ap (λ (e : Option End). if_done e lines) ends ∙ none) in
-      record {
-        ends = λ _. ends ∙ same;
-        lines = rw (whole, empty) (no_lines false [] w (reaches_none false));
-        pace = rw (late, all, empty) (no_lines false [] w (reaches_none false));
-        files = files;
-      }
-
-  pub not_done : (status : Status) → is_done status ≡ false → (breaks_off status ≡ false → run.end ≡ end_of status) → Finished status run w w
-  not_done statuses.Done other ends = absurd cc
-  not_done statuses.Words other ends = at_end statuses.Words _ (ends refl) refl refl refl refl refl
-  not_done (statuses.Config fault) other ends = at_end (statuses.Config fault) _ (ends refl) refl refl refl refl refl
-  not_done (statuses.Genesis part) other ends = at_end (statuses.Genesis part) _ (ends refl) refl refl refl refl refl
-  not_done (statuses.Record which event fault) other ends = at_end (statuses.Record which event fault) _ (ends refl) refl refl refl refl refl
-  not_done (statuses.Limit which event limit) other ends = at_end (statuses.Limit which event limit) _ (ends refl) refl refl refl refl refl
-  not_done (statuses.Clash which event kind kept_which) other ends = at_end (statuses.Clash which event kind kept_which) _ (ends refl) refl refl refl refl refl
-  not_done (statuses.Deposits fault) other ends = at_end (statuses.Deposits fault) _ (ends refl) refl refl refl refl refl
-  not_done (statuses.Duties fault) other ends = at_end (statuses.Duties fault) _ (ends refl) refl refl refl refl refl
-  not_done (statuses.Anchor fault) other ends = at_end (statuses.Anchor fault) _ (ends refl) refl refl refl refl refl
-  not_done statuses.ReadFault other ends = record {
-    ends = λ never. cc;
-    lines = no_lines true _ w (is_prefix 0 _ (omega arith));
-    pace = no_lines false [] w (reaches_none false);
-    files = files;
-  }
-  not_done statuses.WriteFault other ends = record {
-    ends = λ never. cc;
-    lines = no_lines true _ w (is_prefix 0 _ (omega arith));
-    pace = no_lines true _ w (is_prefix 0 _ (omega arith));
-    files = files;
-  }
-  not_done statuses.NoMemory other ends = no_memory run w files
 
 module _ (store : Store) (maker : PlainMaker) (status : Status) (digest : List ℕ) (s t : ShelfTold) (tally tally_then : Tally) (new : tally ≡ record { store = store; events = 0; accepted = 0 })
     (h : Digested status digest tally (made_source (begun maker)) s t tally_then) where
@@ -178,9 +138,8 @@ module _ (store : Store) (maker : PlainMaker) (status : Status) (digest : List �
   ended : Ended status replayed [] h.lines
   ended = over_new.ended [] (λ _. refl)
 
-  pub stops_before : is_done status ≡ false → (w : List ℕ) → Finished status (drill_events store rest) w w
-  unfolding drill_events
-  stops_before other w = not_done (drill_events store rest) (six_lines (tally_of (record { store = store; events = 0; accepted = 0 }) rest.events) (hash replayed.lines)) w refl refl status other ended.ends
+  pub stops_before : is_done status ≡ false → OwnEnds status replayed.end
+  stops_before other = (other, ended.ends)
 
   -- the digest is of all lines
   all_lines : status ≡ statuses.Done → h.lines ≡ replayed.lines
@@ -188,17 +147,28 @@ module _ (store : Store) (maker : PlainMaker) (status : Status) (digest : List �
       let e : Ended statuses.Done replayed [] h.lines = subst (λ (s : Status). Ended s replayed [] h.lines) is ended in
       e.lines.bytes ∙ take_all e.lines.count replayed.lines (let all = e.lines.reaches.1 refl in omega arith)
 
-  pub is_all : is_done status ≡ true → drill_events store rest ≡ record { lines = six_lines tally_then digest; end = Some done; files = 0 }
-  unfolding drill_events hash
+  pub is_all : is_done status ≡ true → (replayed.end ≡ Some done) × (six_lines tally_then digest ≡ own_lines store rest)
+  unfolding hash
   is_all all =
       let is : status ≡ statuses.Done = done_status status all in
       let e : Ended statuses.Done replayed [] h.lines = subst (λ (s : Status). Ended s replayed [] h.lines) is ended in
-      let ends : replayed.end ≡ Some done = e.ends refl in
       let counted : tally_of (record { store = store; events = 0; accepted = 0 }) rest.events ≡ tally_then = over_new.counted is [] (λ _. refl) in
       let hashed : sha256 replayed.lines ≡ digest = ap sha256 (sym (all_lines is)) ∙ sym h.digest_is in
-      ap (λ (end : Option End). let r : Run = record { lines = if_done end (six_lines (tally_of (record { store = store; events = 0; accepted = 0 }) rest.events) (sha256 replayed.lines)); end = end; files = 0 } in r) ends
-      ∙ (ap (λ (tally : Tally). let r : Run = record { lines = six_lines tally (sha256 replayed.lines); end = Some done; files = 0 } in r) counted
-      ∙ ap (λ (d : List ℕ). let r : Run = record { lines = six_lines tally_then d; end = Some done; files = 0 } in r) hashed)
+      (e.ends refl, ap₂ six_lines (sym counted) (sym hashed))
+
+not_done : (status : Status) → is_done status ≡ false → status ≢ statuses.Done
+not_done status other = λ is. absurd (let no : true ≡ false = sym (ap is_done is) ∙ other in cc)
+
+-- what the run of the events did to the shelf, where it ended so or memory ran out behind it
+pub own_outside : {T : Type 0} (result : Result T Status) (status : Status) (s t : ShelfTold) → ((took : SinkTold) → OutsideKeeps [] (Some status) s t took took) → status ≢ statuses.Words
+    → IfErr result (λ other. ((other ≡ status) × (is_done status ≡ false)) ⊎ (other ≡ statuses.NoMemory)) → FollowsOutside [] result s t
+own_outside (Ok made) status s t h command is = record { shelf = (h (record { taken = []; faults = 0; reliable = true })).shelf; read = tt; others = tt }
+own_outside (Err other) status s t h command (inl same) =
+    let o = h (record { taken = []; faults = 0; reliable = true }) in
+    record { shelf = o.shelf; read = rw same.0 o.causes.read; others = rw same.0 (command, λ is. never_rose (o.causes.write is), not_done status same.1) }
+own_outside (Err other) status s t h command (inr memory) =
+    let o = h (record { taken = []; faults = 0; reliable = true }) in
+    record { shelf = o.shelf; read = rw memory (λ is. cc); others = rw memory (λ is. cc, λ is. cc, λ is. cc) }
 
 -- what a digest does to a sink is nothing to another one
 pub digest_outside : (status : Status) (s t : ShelfTold) (lines : List ℕ) (took : SinkTold) → OutsideKeeps [] (Some status) s t (hash_told []) (hash_told lines) → OutsideKeeps [] (Some status) s t took took
@@ -208,31 +178,159 @@ digest_outside status s t lines took h = record {
   sink = sink_keeps_none took;
 }
 
--- ---- the store at genesis
+-- ---- the split
 
-module _ (config : ConfigValues) (genesis : PlainState) (rest : Events) where
-  pub opened_drills : (store : Store) (status : Status) (w x : List ℕ) → open_store config genesis ≡ accepted store → Finished status (drill_events store rest) w x
-      → Finished status (drill_store (genesis_clash genesis) (genesis_store config genesis) rest) w x
-  unfolding open_store drill_store
-  opened_drills store status w x is h =
-      let opened = opened_without (genesis_clash genesis) (genesis_store config genesis) store is in
-      rw (opened.0, ← opened.1) h
+-- a made chain was followed
+pub made_followed : (side : Side) (maker : PlainMaker) (result : Result (Unit {0}) Status) (store : Store) (history : List AcceptedBlock) (left : Followed) (s t : ShelfTold) → history ≡ []
+    → FollowedToEnd side result (record { store = store; history = history }) (made_source (begun maker)) s t left → Leaves result (follow (which_of side) (others_of side) store (events_to_come 0 (to_come maker))) left
+made_followed side maker result store history left s t new h =
+    let k : FollowedToEnd side result (record { store = store; history = [] }) (made_source (begun maker)) s t left = rw new at h in
+    k.leaves [] (λ _. refl)
 
-  no_files : (clash : Option ClashKind) (store : Store) → (drill_store clash store rest).files ≡ 0
-  unfolding drill_store drill_events
-  no_files (Some kind) store = refl
-  no_files None store = refl
+-- it reads no file
+pub made_untouched : (maker : PlainMaker) {side : Side} {result : Result (Unit {0}) Status} {followed left : Followed} {s t : ShelfTold} → FollowedToEnd side result followed (made_source (begun maker)) s t left → t ≡ s
+made_untouched maker h = h.taken.1
 
-  pub not_opened : (stop : StoreStop) (w : List ℕ) → StoreStops stop (open_store config genesis) → Finished (no_store stop) (drill_store (genesis_clash genesis) (genesis_store config genesis) rest) w w
-  unfolding open_store drill_store
-  not_opened (stores.Clash kind) w is =
-      let clashes = clash_of_opening (genesis_clash genesis) (genesis_store config genesis) kind is in
-      rw clashes (nothing_written (statuses.Clash 0 0 kind 0) (clash 0 0 kind 0) w refl refl refl refl)
-  not_opened (stores.Refused why) w is = no_memory _ w (no_files (genesis_clash genesis) (genesis_store config genesis))
-  not_opened (stores.Limit bound) w is = no_memory _ w (no_files (genesis_clash genesis) (genesis_store config genesis))
-  not_opened stores.NoMemory w is = no_memory _ w (no_files (genesis_clash genesis) (genesis_store config genesis))
+module _ (genesis : PlainState) (store : Store) (left : Followed) (side : Side) (second : which_of side ≡ 1) (same : others_of side ≡ first_accepted genesis left.history) (rest : Events) where
+  pub second_over : (status : Status) (left_then : Followed) → Leaves (Err status) (follow (which_of side) (others_of side) store rest) left_then → SplitEnds status (behind_first genesis store (Ok left) rest)
+  unfolding behind_first behind_second
+  second_over status left_then h = λ on. let e = h on in let is = rw (second, same) at e.2 in (e.0, e.1, rw is refl)
+
+  pub second_told : (left_then : Followed) (made : List ℕ) → Leaves (Ok tt) (follow (which_of side) (others_of side) store rest) left_then → made ≡ two_lines genesis left left_then → behind_first genesis store (Ok left) rest ≡ Ok made
+  unfolding behind_first behind_second
+  second_told left_then made h lines = let is = rw (second, same) at h in rw (is, lines) refl
+
+pub no_split_memory : (split : Result (List ℕ) End) → SplitEnds statuses.NoMemory split
+no_split_memory split = λ on. absurd cc
+
+module _ (genesis : PlainState) (store : Store) (first second : Events) where
+  pub first_over : (status : Status) (left : Followed) → Leaves (Err status) (follow 0 [] store first) left → SplitEnds status (split_lines genesis store first second)
+  unfolding split_lines behind_first
+  first_over status left h = λ on. let e = h on in (e.0, e.1, rw e.2 refl)
+
+  pub first_told : (left : Followed) → Leaves (Ok tt) (follow 0 [] store first) left → split_lines genesis store first second ≡ behind_first genesis store (Ok left) second
+  unfolding split_lines
+  first_told left h = rw h refl
+
+-- the genesis doesn't clash, so that its stores open unless memory runs out
+pub opening_breaks : (status : Status) (found : Option ClashKind) (split : Result (List ℕ) End) → found ≡ None → OpeningEnds status found → SplitEnds status split
+opening_breaks status found split none h = λ on. let e = h.clashes on in absurd (let no = sym none ∙ e.1 in cc)
+
+-- ---- all chains
+
+-- a status that isn't that of a run whose lines are all there
+module _ (lines : List ℕ) (split : Result (List ℕ) End) where
+  ends_so : (status : Status) (e : End) (end : Option End) → end ≡ Some e → Some e ≡ end_of status → with_split (Some e) lines split ≡ over e → (e : End) × (Some e ≡ end_of status) × (with_split end lines split ≡ over e)
+  ends_so status e end is of over_is = (e, of, ap (λ (o : Option End). with_split o lines split) is ∙ over_is)
+
+  split_not_reached : (status : Status) (end : Option End) → is_done status ≡ false → breaks_off status ≡ false → end ≡ end_of status → (e : End) × (Some e ≡ end_of status) × (with_split end lines split ≡ over e)
+  unfolding with_split
+  split_not_reached statuses.Done end other on is = absurd cc
+  split_not_reached statuses.Words end other on is = ends_so statuses.Words _ end is refl refl
+  split_not_reached (statuses.Config fault) end other on is = ends_so (statuses.Config fault) _ end is refl refl
+  split_not_reached (statuses.Genesis part) end other on is = ends_so (statuses.Genesis part) _ end is refl refl
+  split_not_reached (statuses.Record which event fault) end other on is = ends_so (statuses.Record which event fault) _ end is refl refl
+  split_not_reached (statuses.Limit which event limit) end other on is = ends_so (statuses.Limit which event limit) _ end is refl refl
+  split_not_reached (statuses.Clash which event kind kept_which) end other on is = ends_so (statuses.Clash which event kind kept_which) _ end is refl refl
+  split_not_reached (statuses.Deposits fault) end other on is = ends_so (statuses.Deposits fault) _ end is refl refl
+  split_not_reached (statuses.Duties fault) end other on is = ends_so (statuses.Duties fault) _ end is refl refl
+  split_not_reached (statuses.Anchor fault) end other on is = ends_so (statuses.Anchor fault) _ end is refl refl
+  split_not_reached statuses.ReadFault end other on is = absurd cc
+  split_not_reached statuses.WriteFault end other on is = absurd cc
+  split_not_reached statuses.NoMemory end other on is = absurd cc
+
+split-files : (end : Option End) (lines : List ℕ) (split : Result (List ℕ) End) → (with_split end lines split).files ≡ 0
+unfolding with_split
+split-files (Some done) lines (Ok more) = refl
+split-files (Some done) lines (Err end) = refl
+split-files None lines split = refl
+split-files (Some no_command) lines split = refl
+split-files (Some (bad_config reason)) lines split = refl
+split-files (Some (bad_genesis part)) lines split = refl
+split-files (Some (bad_record which event reason)) lines split = refl
+split-files (Some (limited which event bound)) lines split = refl
+split-files (Some (clash which event kind kept_which)) lines split = refl
+split-files (Some (bad_deposits fault)) lines split = refl
+split-files (Some (bad_duties fault)) lines split = refl
+split-files (Some (bad_anchor fault)) lines split = refl
+
+no_files : (clash : Option ClashKind) (genesis : PlainState) (store : Store) (chains : Chains) → (drill_store clash genesis store chains).files ≡ 0
+unfolding drill_store drill_events
+no_files (Some kind) genesis store chains = refl
+no_files None genesis store chains = split-files _ _ _
+
+module _ (clashes : Option ClashKind) (genesis : PlainState) (store : Store) (chains : Chains) where
+  abbrev pub drilled : Run
+  drilled = drill_store clashes genesis store chains
+
+  abbrev pub split : Result (List ℕ) End
+  split = split_lines genesis store chains.first chains.second
+
+  pub drill_memory : DrillEnds statuses.NoMemory drilled
+  drill_memory = (no_files clashes genesis store chains, λ on. absurd cc)
+
+  pub not_opened : (status : Status) → OpeningEnds status clashes → DrillEnds status drilled
+  unfolding drill_store
+  not_opened status h = (no_files clashes genesis store chains, λ on. let e = h.clashes on in (clash 0 0 e.0 0, ap end_of (sym e.2), rw e.1 refl))
+
+  module _ (none : clashes ≡ None) where
+    pub own_over : (status : Status) → OwnEnds status (with_events 1 store chains.own).end → DrillEnds status drilled
+    unfolding drill_store drill_events
+    own_over status h = (no_files clashes genesis store chains, λ on. rw none (split_not_reached (own_lines store chains.own) split status (with_events 1 store chains.own).end h.0 on (h.1 on)))
+
+    module _ (end : (with_events 1 store chains.own).end ≡ Some done) where
+      pub split_over : (status : Status) → SplitEnds status split → DrillEnds status drilled
+      unfolding drill_store drill_events with_split
+      split_over status h = (no_files clashes genesis store chains, λ on. let e = h on in (e.0, e.1, rw (none, end, e.2) refl))
+
+      pub all_told : (made more : List ℕ) → split ≡ Ok more → made ≡ own_lines store chains.own ++ more → drilled ≡ record { lines = made; end = Some done; files = 0 }
+      unfolding drill_store drill_events with_split
+      all_told made more is lines = rw (none, end, is, lines) refl
+
+-- the run ends before its lines are written
+pub drill_over : (status : Status) (run : Run) (w : List ℕ) → DrillEnds status run → Finished status run w w
+drill_over status run w h =
+    let none : WritesLines (breaks_off status) run.lines w w = no_lines (breaks_off status) run.lines w (omega arith, λ on. sym (ap (λ (r : Run). length r.lines) (h.1 on).2)) in
+    record { ends = λ on. ap (λ (r : Run). r.end) (h.1 on).2 ∙ (h.1 on).1; lines = none; pace = pace_none status run w none; files = h.0 }
+
+pub unwritten_is_no_fault_of_reading : (trouble : Trouble) → unwritten trouble ≢ statuses.ReadFault
+unwritten_is_no_fault_of_reading troubles.Failed = λ is. cc
+unwritten_is_no_fault_of_reading troubles.NoMemory = λ is. cc
+
+-- what became of the sink, where the shelf was only followed
+pub writes_then : {T : Type 0} (status : Status) (result : Result T Status) {s t : ShelfTold} {p q : SinkTold} → FollowsOutside [] result s t → WritesOut status p q → status ≢ statuses.ReadFault → OutsideKeeps [] (Some status) s t p q
+writes_then status result h w is_read = record { causes = record { read = λ is. absurd (is_read is); write = (w.causes 0).write }; shelf = h.shelf; sink = w.sink }
 
 -- ---- the configuration
+
+pub still_new : (plan : Plan) (maker : PlainMaker) → maker ≡ new_maker plan → maker ≡ new_maker maker.plan
+unfolding new_maker
+still_new plan maker is = is ∙ ap new_maker (sym (ap (λ (m : PlainMaker). m.plan) is))
+
+plan_is : (plan : Plan) (maker : PlainMaker) → maker ≡ new_maker plan → maker.plan ≡ plan
+unfolding new_maker
+plan_is plan maker is = ap (λ (m : PlainMaker). m.plan) is
+
+-- the split of a maker is of its plan
+pub split_of : (plan : Plan) (which : ℕ) (own maker : PlainMaker) → own ≡ new_maker plan → maker ≡ new_maker (record own.plan { which = Some which }) → maker ≡ new_maker (record plan { which = Some which })
+split_of plan which own maker new is = is ∙ ap (λ (p : Plan). new_maker (record p { which = Some which })) (plan_is plan own new)
+
+-- the makers of a plan are those of their own one
+pub makers_still : (plan : Plan) (makers : Makers) → AreMakers plan makers → AreMakers makers.own.plan makers
+makers_still plan makers are = subst (λ (p : Plan). AreMakers p makers) (sym (plan_is plan makers.own are.own)) are
+
+-- what they give are the plan's chains
+given_by : (plan : Plan) (maker : PlainMaker) → maker ≡ new_maker plan → events_to_come 0 (to_come maker) ≡ events_to_come 0 (made plan)
+unfolding new_maker
+given_by plan maker is = ap (events_to_come 0) (ap to_come is ∙ sym (new_has_given plan))
+
+pub makers_give : (plan : Plan) (makers : Makers) → AreMakers plan makers → chains_to_come makers ≡ chains_of plan
+unfolding chains_of
+makers_give plan makers are =
+    let own = given_by plan makers.own are.own in
+    let first = given_by (record plan { which = Some 0 }) makers.first are.first in
+    let second = given_by (record plan { which = Some 1 }) makers.second are.second in
+    λ i. record { own = own i; first = first i; second = second i }
 
 module _ (number : ℕ) (config : ConfigValues) where
   abbrev plan : Plan
@@ -240,7 +338,7 @@ module _ (number : ℕ) (config : ConfigValues) where
 
   no_plan_files : (b : Bool) → (if b then drill_plan plan else over (bad_config (OutOfRange EjectionBalance))).files ≡ 0
   unfolding drill_plan
-  no_plan_files true = no_files config (genesis_of_plan plan) (events_to_come 0 (made plan)) (genesis_clash (genesis_of_plan plan)) (genesis_store config (genesis_of_plan plan))
+  no_plan_files true = no_files (genesis_clash (genesis_of_plan plan)) (genesis_of_plan plan) (genesis_store config (genesis_of_plan plan)) (chains_of plan)
   no_plan_files false = refl
 
   pub no_config_files : (drill_config number (Ok config)).files ≡ 0
@@ -251,89 +349,54 @@ module _ (number : ℕ) (config : ConfigValues) where
   unfolding drill_config
   ejects w high = rw high (nothing_written (statuses.Config (OutOfRange EjectionBalance)) (bad_config (OutOfRange EjectionBalance)) w refl refl refl refl)
 
-  -- what a new maker gives are the plan's events
-  all_to_come : (maker : PlainMaker) → maker ≡ new_maker plan → to_come maker ≡ made plan
-  unfolding new_maker
-  all_to_come maker is = ap to_come is ∙ sym (new_has_given plan)
-
-  pub drills : (maker : PlainMaker) (genesis : PlainState) (status : Status) (w x : List ℕ) → nat_lt config.ejection_balance 32_000_000_000 ≡ true → maker ≡ new_maker plan → genesis ≡ genesis_of_plan plan
-      → Finished status (drill_store (genesis_clash genesis) (genesis_store config genesis) (events_to_come 0 (to_come maker))) w x → Finished status (drill_config number (Ok config)) w x
+  pub drills : (makers : Makers) (genesis : PlainState) (status : Status) (w x : List ℕ) → nat_lt config.ejection_balance 32_000_000_000 ≡ true → AreMakers plan makers → genesis ≡ genesis_of_plan plan
+      → Finished status (drill_store (genesis_clash genesis) genesis (genesis_store config genesis) (chains_to_come makers)) w x → Finished status (drill_config number (Ok config)) w x
   unfolding drill_config drill_plan
-  drills maker genesis status w x low new is h = rw (low, ← is, ← all_to_come maker new) h
-
-  -- a new maker is the one of its plan, and its genesis is the plan's
-  pub still_new : (maker : PlainMaker) → maker ≡ new_maker plan → maker ≡ new_maker maker.plan
-  unfolding new_maker
-  still_new maker is = is ∙ ap new_maker (sym (ap (λ (m : PlainMaker). m.plan) is))
+  drills makers genesis status w x low are is h = rw (low, ← is, ← makers_give plan makers are) h
 
   pub begins : (maker : PlainMaker) (genesis : PlainState) → maker ≡ new_maker plan → genesis ≡ genesis_of_plan maker.plan → genesis ≡ genesis_of_plan plan
-  unfolding new_maker
-  begins maker genesis new is = is ∙ ap (λ (m : PlainMaker). genesis_of_plan m.plan) new
+  begins maker genesis new is = is ∙ ap genesis_of_plan (plan_is plan maker new)
 
-  pub same_preset : (genesis : PlainState) → genesis ≡ genesis_of_plan plan → genesis.preset ≡ config.preset
+  -- the made genesis begins histories
+  pub made_begins : (genesis : PlainState) → IsPreset config.preset → genesis ≡ genesis_of_plan plan → genesis_fault genesis ≡ None → IsGenesis config genesis
   unfolding genesis_of_plan
-  same_preset genesis is = ap (λ (s : PlainState). s.preset) is ∙ (slot_zero config.preset number).2
+  made_begins genesis preset is good = record {
+    preset = ap (λ (s : PlainState). s.preset) is ∙ (slot_zero config.preset number).2;
+    checked = good;
+    state = rw is (made_genesis_is_state config.preset number preset);
+    range = rw is (made_genesis_in_range config.preset number);
+    few = rw is (let many = (made_genesis_calm config.preset number preset).registry.many in omega (arith, many));
+  }
 
 -- ---- the configuration's file
 
-pace_behind : (status : Status) (run : Run) (cut : Bool) (w x : List ℕ) → WritesLines cut (whole_of status run).lines w x → WritesLines cut (whole_of status (after_file run)).lines w x
-pace_behind statuses.Done run cut w x h = h
-pace_behind statuses.Words run cut w x h = h
-pace_behind (statuses.Config fault) run cut w x h = h
-pace_behind (statuses.Genesis part) run cut w x h = h
-pace_behind (statuses.Record which event fault) run cut w x h = h
-pace_behind (statuses.Limit which event limit) run cut w x h = h
-pace_behind statuses.ReadFault run cut w x h = h
-pace_behind statuses.WriteFault run cut w x h = h
-pace_behind statuses.NoMemory run cut w x h = h
-pace_behind (statuses.Clash which event kind kept_which) run cut w x h = h
-pace_behind (statuses.Deposits fault) run cut w x h = h
-pace_behind (statuses.Duties fault) run cut w x h = h
-pace_behind (statuses.Anchor fault) run cut w x h = h
-
--- a run behind its only file
-finished_behind : (status : Status) (run : Run) (name : List ℕ) (asked mid : List (List ℕ)) (w x : List ℕ) → mid ≡ asked ++ name ∷ [] → Finished status run w x
-    → Answers (after_file run) (whole_of status (after_file run)) (name ∷ []) status asked mid w x
-finished_behind status run name asked mid w x e h = record {
-  ends = h.ends;
-  lines = record { count = h.lines.count; reaches = h.lines.reaches; bytes = h.lines.bytes };
-  pace = pace_behind status run (may_lack_lines status) w x h.pace;
-  asks = record { count = 1; reaches = rw h.files (reaches_all (breaks_off status) 1); names_are = e };
+-- a run whose files are all read
+finished : (run : Run) (status : Status) (s : ShelfTold) (w x : List ℕ) → Finished status run w x → EndsOver (λ contents. run) [] status s s w x
+finished run status s w x h = record {
+  opened = [];
+  files = sym (append-nil s.files);
+  answers = λ c a. record { ends = h.ends; lines = h.lines; pace = h.pace; asks = record { count = 0; reaches = rw h.files (reaches_all (breaks_off status) 0); names_are = sym (append-nil s.asked) } };
 }
 
-first_file : (number : ℕ) (config : Option (List ℕ)) → 1 ≤ (drill_run number config).files
-unfolding drill_run
-first_file number None = omega arith
-first_file number (Some bytes) = omega arith
+module _ (number : ℕ) (name : List ℕ) where
+  abbrev pub number_run : (List ℕ → Option (List ℕ)) → Run
+  number_run contents = drill_run number (contents name)
 
--- it could not be read
-pub unread_drill : (number : ℕ) (name : List ℕ) (trouble : Trouble) (s t : ShelfTold) (w : List ℕ) → Unread name s t
-    → Replayed (λ contents. drill_run number (contents name)) (λ contents opened. whole_of (unread trouble) (drill_run number (contents name))) (name ∷ []) (unread trouble) s t w w
-unread_drill number name troubles.Failed s t w h = record {
-  opened = h.opened;
-  files = h.files;
-  answers = λ c a. unread_after (drill_run number (c name)) (whole_of statuses.ReadFault (drill_run number (c name))) name [] troubles.Failed s.asked t.asked w h.asked (first_file number (c name)) refl;
-}
-unread_drill number name troubles.NoMemory s t w h = record {
-  opened = h.opened;
-  files = h.files;
-  answers = λ c a.
-      let front = unread_after (drill_run number (c name)) (whole_of statuses.ReadFault (drill_run number (c name))) name [] troubles.NoMemory s.asked t.asked w h.asked (first_file number (c name)) refl in
-      record { ends = front.ends; lines = front.lines; pace = no_lines true _ w (is_prefix 0 _ (omega arith)); asks = front.asks };
-}
-
-module _ (number : ℕ) (name bytes : List ℕ) (s t : ShelfTold) (read : ReadOf name 65537 bytes s t) where
-  pub config_drills : (config : Result ConfigValues ConfigFault) (status : Status) (u : ShelfTold) (w x : List ℕ) → config ≡ config_of bytes → u ≡ t → Finished status (drill_config number config) w x
-      → Replayed (λ contents. drill_run number (contents name)) (λ contents opened. whole_of status (drill_run number (contents name))) (name ∷ []) status s u w x
+  first_file : (config : Option (List ℕ)) → 1 ≤ (drill_run number config).files
   unfolding drill_run
-  config_drills config status u w x is same h = record {
-    opened = read.handed ∷ [];
-    files = ap (λ (told : ShelfTold). told.files) same ∙ read.files;
-    answers = λ c a.
-        let whole = held_prefix read c (rw same at a) in
-        let good : config_of whole.0 ≡ config = sym (ap config_of whole.2 ∙ config_of-prefix whole.0) ∙ sym is in
-        rw (whole.1, good) (finished_behind status (drill_config number config) name s.asked u.asked w x (ap (λ (told : ShelfTold). told.asked) same ∙ read.asked) h);
-  }
+  first_file None = omega arith
+  first_file (Some bytes) = omega arith
+
+  -- it could not be read
+  pub unread_drill : (trouble : Trouble) (s t : ShelfTold) (w : List ℕ) → Unread name s t → EndsOver number_run (name ∷ []) (unread trouble) s t w w
+  unread_drill trouble s t w h = breaks_at_file number_run name [] (unread trouble) s t w (unread_breaks trouble) h (λ c. first_file (c name))
+
+  pub config_drills : (bytes : List ℕ) (s t : ShelfTold) → ReadOf name 65537 bytes s t → (config : Result ConfigValues ConfigFault) (status : Status) (u : ShelfTold) (w x : List ℕ) → config ≡ config_of bytes → u ≡ t → Finished status (drill_config number config) w x
+      → EndsOver number_run (name ∷ []) status s u w x
+  unfolding drill_run
+  config_drills bytes s t read config status u w x is same h =
+      rw same (goes_on_behind number_run name [] (λ contents. drill_config number config) read.handed status s t t w x (handed_of read)
+      (λ c whole held a. rw (held, sym (ap config_of (read.front whole a) ∙ config_of-prefix whole) ∙ sym is) refl) (finished (drill_config number config) status t w x h))
 
 pub bad_file : (number : ℕ) (reason : ConfigFault) (w : List ℕ) → Finished (statuses.Config reason) (drill_config number (Err reason)) w w
 unfolding drill_config

@@ -36,7 +36,8 @@ use Rattle.beacon_node.specs.declared.status.Status.TheVariants as statuses
 use Rattle.beacon_node.specs.declared.tell_duties.StateStop.{StateStop}
 use Rattle.beacon_node.specs.declared.tell_duties.StateStop.TheVariants as files
 use Rattle.beacon_node.specs.Answers.{HasCauses, OutsideKeeps, Replayed, breaks_off, end_of, whole_of}
-use Rattle.beacon_node.specs.inside.Duties.{Concludes, GivesState, no_duties, no_state, table_lines, written}
+use Rattle.beacon_node.specs.inside.AtEnd.{Concludes}
+use Rattle.beacon_node.specs.inside.Duties.{GivesState, no_duties, no_state, table_lines, written}
 use Rattle.beacon_node.specs.inside.Reading.{ReadOf, Unread}
 use Rattle.beacon_node.specs.inside.Statuses.{unread}
 use Rattle.beacon_node.specs.inside.Texts.{WritesText}
@@ -45,39 +46,9 @@ use Rattle.beacon_node.proofs.Prefixes.{config_of-prefix}
 use Rattle.beacon_node.proofs.Reaching.{reaches_none, reaches_all, is_prefix, no_lines, lines_behind, lines_prefix}
 use Rattle.spec_fork_choice.proofs.Soundness.{tested}
 use Rattle.beacon_node.proofs.Steps.{held_prefix, over_after, opened_more}
-use Rattle.beacon_node.proofs.Whole.{ends_whole, goes_on_whole, unread_whole}
+use Rattle.beacon_node.proofs.Whole.{ends_whole, goes_on_whole, unread_whole, out_of_memory, over_concludes, text_concludes}
 
 -- ---- the duties of a state
-
--- a text was to be written, and then the run is done
-text_concludes : (text : List ℕ) (result : Result (Unit {0}) Trouble) {s t : SinkTold} → WritesText text result s t → Concludes (written result) (after_lines text (over done)) s t
-text_concludes text (Ok v) h = record {
-  ends = λ _. refl;
-  files = refl;
-  lines = lines_behind false text [] h.writes (no_lines false [] _ (reaches_none false));
-  has_words = λ is. cc;
-  is_read = λ is. cc;
-  write = λ is. cc;
-  keeps = h.keeps;
-}
-text_concludes text (Err troubles.Failed) h = record {
-  ends = λ never. cc;
-  files = refl;
-  lines = lines_prefix text [] h.writes.0 h.writes.1 h.writes.2;
-  has_words = λ is. cc;
-  is_read = λ is. cc;
-  write = λ is. h.causes.1;
-  keeps = h.keeps;
-}
-text_concludes text (Err troubles.NoMemory) h = record {
-  ends = λ never. cc;
-  files = refl;
-  lines = lines_prefix text [] h.writes.0 h.writes.1 h.writes.2;
-  has_words = λ is. cc;
-  is_read = λ is. cc;
-  write = λ is. cc;
-  keeps = h.keeps;
-}
 
 -- the lines of an epoch's duties are those that the table gives
 lines_are : (state : PlainState) (epoch slots : ℕ) (duties : Duties) → duties.first_slot ≡ compute_start_slot_at_epoch state.preset epoch → duties.committees ≡ epoch_committees state epoch → slots ≡ state.preset.slots_per_epoch
@@ -109,30 +80,6 @@ pub slots_fit : (state : PlainState) (epoch slots : ℕ) (duties : Duties) → g
 slots_fit state epoch slots duties is begins count =
     let fits : (epoch + 1) * state.preset.slots_per_epoch < 2 ^ 64 = product_fits state epoch (duty_lists duties) (checked_mul (epoch + 1) state.preset.slots_per_epoch) refl is in
     rw (begins, count) (omega (arith, fits, suc-mul epoch state.preset.slots_per_epoch))
-
--- nothing is to be written
-over_concludes : (status : Status) (end : End) (s : SinkTold) → Some end ≡ end_of status → status ≢ statuses.Words → status ≢ statuses.ReadFault → status ≢ statuses.WriteFault → Concludes status (over end) s s
-over_concludes status end s ends has_words is_read is_written = record {
-  ends = λ _. ends;
-  files = refl;
-  lines = no_lines (breaks_off status) [] s.taken (reaches_none (breaks_off status));
-  has_words = has_words;
-  is_read = is_read;
-  write = λ is. absurd (is_written is);
-  keeps = sink_keeps_none s;
-}
-
--- memory ran out before anything was written
-out_of_memory : (run : Run) (s : SinkTold) → run.files ≡ 0 → Concludes statuses.NoMemory run s s
-out_of_memory run s files = record {
-  ends = λ never. cc;
-  files = files;
-  lines = no_lines true run.lines s.taken (is_prefix 0 _ (omega arith));
-  has_words = λ is. cc;
-  is_read = λ is. cc;
-  write = λ is. cc;
-  keeps = sink_keeps_none s;
-}
 
 files-with_duties : (state : PlainState) (epoch : ℕ) (duties : Outcome DutyLists) → (with_duties state epoch duties).files ≡ 0
 unfolding with_duties
@@ -272,11 +219,3 @@ module _ (epoch : ℕ) (config_name name bytes : List ℕ) (s t : ShelfTold) (re
 pub state_causes : (stop : StateStop) {a b c d : ℕ} → HasCauses (no_state stop) a b c d
 state_causes (files.Fault reason) = record { read = λ is. cc; write = λ is. cc }
 state_causes files.NoMemory = record { read = λ is. cc; write = λ is. cc }
-
--- the run is over behind its files
-pub concludes_outside : (names : List (List ℕ)) (status : Status) {run : Run} {s t : ShelfTold} {p q : SinkTold} → ShelfKeeps names s t → Concludes status run p q → OutsideKeeps names (Some status) s t p q
-concludes_outside names status h k = record {
-  causes = record { read = λ is. absurd (k.is_read is); write = k.write };
-  shelf = h;
-  sink = k.keeps;
-}

@@ -14,3 +14,9 @@ pub mod DutyLines
 pub mod DutyTables
 pub mod Whole
 pub mod Duties
+pub mod Beginnings
+pub mod Following
+pub mod Forensics
+pub mod Findings
+pub mod Openings
+pub mod Convictions

@@ -26,7 +26,7 @@ use Rattle.beacon_node.specs.inside.GenesisAnswers.{no_genesis, no_store}
 use Rattle.beacon_node.specs.inside.Progress.{EndsAt}
 use Rattle.beacon_node.specs.inside.Statuses.{unread, unwritten, no_event}
 
-rose_behind : (a b c : ℕ) → a ≤ b → Rose b c → Rose a c
+pub rose_behind : (a b c : ℕ) → a ≤ b → Rose b c → Rose a c
 rose_behind a b c le (inl less) = inl (omega (arith, le, less))
 rose_behind a b c le (inr last) = inr last
 

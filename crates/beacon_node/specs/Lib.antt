@@ -1,4 +1,5 @@
 pub mod Answers
+pub mod Findings
 pub mod Statuses
 pub mod inside
 pub mod laws

@@ -1,8 +1,12 @@
 pub mod AnchorAnswers
+pub mod AtEnd
 pub mod Duties
 pub mod Files
+pub mod Following
 pub mod GenesisAnswers
+pub mod Histories
 pub mod Making
+pub mod OffenceTexts
 pub mod Progress
 pub mod Reading
 pub mod Statuses

@@ -1,3 +1,4 @@
+pub mod Convictions
 pub mod MadeGenesis
 pub mod Memory
 pub mod Soundness

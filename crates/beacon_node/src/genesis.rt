@@ -3,6 +3,8 @@
 ghost use Rattle.std.specs.Prelude.{◌≡◌, None, IfOk};
 ghost use Rattle.bc_preset.specs.Presets.{IsPreset};
 ghost use Rattle.spec_state.specs.Genesis.{genesis_of, genesis_fault, sound_genesis};
+ghost use Rattle.spec_state.specs.Limits.{IsState, IsInRange};
+ghost use Rattle.spec_state.specs.Writing.{HasWriting};
 ghost use Rattle.beacon_node.specs.inside.GenesisAnswers.{GivesGenesis, no_state};
 
 use bc_preset::Preset;
@@ -52,6 +54,9 @@ pub fn read_genesis(alloc: Global, preset: &Preset, bytes: &[u8]) -> Result<Stat
     ensures gives { GivesGenesis result (genesis_of preset.now bytes.now) }
     ensures preset { IfOk result (λ genesis. genesis.preset ≡ preset.now) }
     ensures checked { IfOk result (λ genesis. genesis_fault genesis ≡ None) }
+    ensures state { IfOk result IsState }
+    ensures range { IfOk result IsInRange }
+    ensures written { IfOk result HasWriting }
 {
     if bytes.len() > MAX_GENESIS_LEN {
         return Err(GenesisStop::Fault(GenesisFault::TooLong));

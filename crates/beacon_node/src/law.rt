@@ -1,5 +1,7 @@
-//! Laws: what the program does with files that lie in memory, what it makes of deposits, and what the test of soundness says.
+//! Laws: what the program does with files that lie in memory, what it makes of deposits, whom two records convict, and what the test of
+//! soundness says.
 
+ghost use Rattle.beacon_node.specs.laws.Convictions.{ConvictsOfTheRecords};
 ghost use Rattle.beacon_node.specs.laws.MadeGenesis.{MakesWhatIsReplayed};
 ghost use Rattle.beacon_node.specs.laws.Memory.{RunsInMemory};
 ghost use Rattle.beacon_node.specs.laws.Soundness.{SoundnessIsTested};
@@ -12,6 +14,12 @@ pub fn runs_in_memory()
 /// What `genesis` writes is a genesis file that `replay` takes, under either preset.
 pub fn made_genesis_is_replayed()
     ensures { MakesWhatIsReplayed }
+{}
+
+/// What `forensic` writes is found out of exactly the files that it reads: the histories of their events, the offences of these, the verdict on
+/// them, and behind a conflict the third of the total that the offenders have.
+pub fn findings_are_of_the_records()
+    ensures { ConvictsOfTheRecords }
 {}
 
 /// The law that the test by which the definitions of `duties` take a state is true exactly of the sound states. It does

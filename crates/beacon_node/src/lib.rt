@@ -5,17 +5,24 @@ mod anchor;
 mod drill;
 mod duty_lines;
 mod events;
+mod follow;
+mod forensic;
 mod genesis;
 mod head;
+mod histories;
 mod law;
 mod lines;
 mod make_genesis;
+mod offence_lines;
 mod reading;
 mod replay;
 mod status;
 mod tell_duties;
 mod top;
 
-pub use law::{runs_in_memory, soundness_is_tested};
+pub use law::{
+    findings_are_of_the_records, made_genesis_is_replayed, runs_in_memory, soundness_is_tested,
+};
+pub use offence_lines::{offence_line, verdict_line};
 pub use status::Status;
 pub use top::beacon_main;

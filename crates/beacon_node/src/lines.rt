@@ -1,10 +1,11 @@
 //! The text of the lines that a run writes.
 
-ghost use Rattle.std.specs.Prelude.{◌≡◌, ◌++◌, OnOk, IfOk};
+ghost use Rattle.std.specs.Prelude.{◌≡◌, ◌++◌, codes, length, OnOk, IfOk};
 ghost use Rattle.std.specs.Fmt.{decimal};
 ghost use Rattle.spec_fork_choice.specs.GetHead.{get_head};
 ghost use Rattle.spec_fork_choice.specs.OnEvent.{block};
 ghost use Rattle.spec_replay.specs.Drill.{line_of, six_lines};
+ghost use Rattle.spec_replay.specs.Forensic.{verdict_line};
 ghost use Rattle.beacon_node.specs.inside.Progress.{tally_at};
 ghost use Rattle.hex.specs.Hex.{encode_lower};
 ghost use Rattle.spec_replay.specs.Lines.{root_text, checkpoint_text, refusal_text, accepted_text, kind_text, head_label, justified_label, finalized_label, block_label, state_label, store_text, event_line};
@@ -12,6 +13,8 @@ ghost use Rattle.fork_store.specs.Events.{accepted_of};
 
 use crate::events::Counts;
 use crate::head::head_of;
+use crate::histories::Findings;
+use crate::offence_lines::verdict_line;
 use bc_words::{NoMemory, Refusal};
 use beacon_types::Checkpoint;
 use fork_store::{Accepted, BlockIn, Store};
@@ -28,7 +31,7 @@ pub fn push_number(line: &mut Vec<u8>, alloc: Global, number: u64) -> Result<(),
 
 /// Appends a root: `0x` and 64 hexadecimal digits.
 #[tactic(auto, unfolding(spec_replay::specs::Lines::root_text))]
-fn push_root(line: &mut Vec<u8>, alloc: Global, root: &Root) -> Result<(), AllocError>
+pub fn push_root(line: &mut Vec<u8>, alloc: Global, root: &Root) -> Result<(), AllocError>
     ensures { OnOk result (line.new.items ≡ line.old.items ++ root_text root.now) }
 {
     let digits = hex::encode(alloc, root)?;
@@ -38,7 +41,7 @@ fn push_root(line: &mut Vec<u8>, alloc: Global, root: &Root) -> Result<(), Alloc
 
 /// Appends a checkpoint: its epoch, `:`, its root.
 #[tactic(auto, unfolding(spec_replay::specs::Lines::checkpoint_text))]
-fn push_checkpoint(
+pub fn push_checkpoint(
     line: &mut Vec<u8>,
     alloc: Global,
     checkpoint: &Checkpoint,
@@ -298,5 +301,21 @@ pub fn six_lines(
     push_checkpoint_line(&mut lines, alloc, "justified", &store.justified())?;
     push_checkpoint_line(&mut lines, alloc, "finalized", &store.finalized())?;
     push_digest_line(&mut lines, alloc, "lines", digest)?;
+    Ok(lines)
+}
+
+/// The two lines of the split of a made chain: how many offenders there are, and the verdict.
+pub fn two_lines(alloc: Global, findings: &Findings) -> Result<Vec<u8>, NoMemory>
+    ensures { IfOk result (λ lines. lines.items ≡ line_of (codes "offenders") (decimal (length findings.now.offences.items)) ++ verdict_line findings.now.verdict) }
+{
+    let mut lines = Vec::new(alloc);
+    push_number_line(
+        &mut lines,
+        alloc,
+        "offenders",
+        findings.offences.len() as u64,
+    )?;
+    let verdict = verdict_line(alloc, &findings.verdict)?;
+    lines.extend_from_slice(&verdict)?;
     Ok(lines)
 }

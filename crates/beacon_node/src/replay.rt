@@ -20,7 +20,7 @@ use fork_store::Store;
 use std::alloc::Global;
 
 /// The status of a genesis state that has a fault.
-fn no_genesis(stop: GenesisStop) -> Status
+pub fn no_genesis(stop: GenesisStop) -> Status
     ensures { result ≡ no_genesis stop }
 {
     match stop {

@@ -24,7 +24,7 @@ pub enum Status {
     Genesis(GenesisFault),
     /// The record has a fault, and this is the first.
     Record {
-        /// Which record: 0 is the only one.
+        /// Which record: 0 is the only or the first one, 1 the second.
         which: u8,
         /// The event that could not be read. Events count from 1, and 0 stands for the first four bytes.
         event: u32,
@@ -33,7 +33,7 @@ pub enum Status {
     },
     /// An event that passed all checks before meets a bound of this program.
     Limit {
-        /// Which record: 0 is the only one.
+        /// Which record: 0 is the only or the first one, 1 the second.
         which: u8,
         /// The event.
         event: u32,
@@ -48,7 +48,7 @@ pub enum Status {
     NoMemory,
     /// A block that would be accepted has a root that is no name for it alone.
     Clash {
-        /// Which record: 0 is the only one.
+        /// Which record: 0 is the only or the first one, 1 the second.
         which: u8,
         /// The event, and 0 for the first kept block.
         event: u32,

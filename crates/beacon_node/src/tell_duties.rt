@@ -6,7 +6,8 @@ ghost use Rattle.bc_preset.specs.Presets.{IsPreset};
 ghost use Rattle.spec_state.specs.Soundness.{IsSound};
 ghost use Rattle.spec_replay.specs.Duties.{checked_state, duties_run, sound_state_of, with_epoch, with_file};
 ghost use Rattle.beacon_node.specs.Answers.{OutsideKeeps, Replayed, whole_of};
-ghost use Rattle.beacon_node.specs.inside.Duties.{Concludes, GivesState, no_duties, no_state, unread_state, written};
+ghost use Rattle.beacon_node.specs.inside.AtEnd.{Concludes};
+ghost use Rattle.beacon_node.specs.inside.Duties.{GivesState, no_duties, no_state, unread_state, written};
 
 use crate::duty_lines::write_duties;
 use crate::events::unwritten;
@@ -107,7 +108,7 @@ fn no_duties(stop: DutyStop) -> Status
 }
 
 /// The status of a run whose lines were all to be written.
-fn written(lines: Result<(), Trouble>) -> Status
+pub fn written(lines: Result<(), Trouble>) -> Status
     ensures { result ≡ written lines }
 {
     match lines {

@@ -2,11 +2,13 @@
 
 ghost use Rattle.std.specs.Prelude.{◌≡◌, ◌<◌, ◌+◌, ◌^◌, ◌↔◌, length, map, string_bytes, Some, None};
 ghost use Rattle.spec_replay.specs.Commands.{run_of};
-ghost use Rattle.command_words.specs.Commands.{IsDeclined, command_of, names_of};
+ghost use Rattle.command_words.specs.Commands.{ForensicFiles, IsDeclined, command_of, forensic, names_of};
 ghost use Rattle.beacon_node.specs.Answers.{OutsideKeeps, Replayed, taken_run_of};
+ghost use Rattle.beacon_node.specs.Findings.{WritesFindings};
 
 use crate::anchor::anchor;
 use crate::drill::drill;
+use crate::forensic::forensic;
 use crate::make_genesis::make_genesis;
 use crate::replay::replay;
 use crate::status::Status;
@@ -43,6 +45,11 @@ pub fn beacon_main<F: Shelf, O: Sink>(
     // rises.
     ensures outside { OutsideKeeps (names_of (command_of (map (λ word. string_bytes word) words.now))) (Some result)
         (F.told shelf.old) (F.told shelf.new) (O.told out.old) (O.told out.new) }
+
+    // What `forensic` wrote, where it ended well: offences, each of two votes that blocks of the two histories carry and that nobody may
+    // cast both, and a verdict, which is a conflict only where the offenders have at least a third of the total at genesis.
+    ensures convicts { (files : ForensicFiles) → command_of (map (λ word. string_bytes word) words.now) ≡ Some (forensic files) → result ≡ Status.Done
+        → WritesFindings (O.told out.old).taken (O.told out.new).taken }
 {
     match read_command(alloc, words) {
         Ok(Command::Replay(files)) => replay(alloc, &files, shelf, out),
@@ -50,6 +57,7 @@ pub fn beacon_main<F: Shelf, O: Sink>(
         Ok(Command::Genesis(files)) => make_genesis(alloc, &files, shelf, out),
         Ok(Command::Duties(words)) => tell_duties(alloc, &words, shelf, out),
         Ok(Command::Anchor(files)) => anchor(alloc, &files, shelf, out),
+        Ok(Command::Forensic(files)) => forensic(alloc, &files, shelf, out),
         Err(WordsStop::NoCommand) => Status::Words,
         Err(WordsStop::NoMemory) => Status::NoMemory,
     }

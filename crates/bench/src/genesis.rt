@@ -47,6 +47,16 @@ impl Network {
 }
 
 impl Network {
+    /// The file of its configuration.
+    pub fn config(&self) -> &'static [u8] {
+        self.config
+    }
+
+    /// The file of its genesis state.
+    pub fn genesis_bytes(&self, alloc: Global) -> Result<Vec<u8>> {
+        Ok(state_bytes(alloc, self.layout, &Shape::at_genesis(self.validators))?)
+    }
+
     /// Its configuration.
     pub fn configuration(&self) -> Result<Config> {
         Ok(Config::read(self.config)?)

@@ -2,7 +2,7 @@
 //!
 //! The word behind the program's name says what to measure: `pairs`, `shuffle`, `state`, `registry`, `change`, `iter`, `many`,
 //! `slots`, `block`, `attestation`, `operations`, `epoch`, `head`, `record`, `events`, `bodies`,
-//! `mainnet`, `drill`, `drill_mainnet`, `deposits`, `anchor`, `duties` or `book`. Without a word nothing is measured.
+//! `mainnet`, `drill`, `drill_mainnet`, `deposits`, `anchor`, `duties`, `book`, `forensic` or `forensic_mainnet`. Without a word nothing is measured.
 #![tactic(auto)]
 
 mod anchor;
@@ -16,6 +16,7 @@ mod drill;
 mod epoch;
 mod epoch_duties;
 mod events;
+mod forensic;
 mod genesis;
 mod hashes;
 mod head;
@@ -43,7 +44,7 @@ use std::time::CpuClock;
 
 /// What is printed where no word names a measurement.
 const USAGE: &str =
-    "name what to measure: pairs, shuffle, state, registry, change, iter, many, slots, block, attestation, operations, epoch, head, record, events, bodies, mainnet, drill, drill_mainnet, deposits, anchor, duties or book";
+    "name what to measure: pairs, shuffle, state, registry, change, iter, many, slots, block, attestation, operations, epoch, head, record, events, bodies, mainnet, drill, drill_mainnet, deposits, anchor, duties, book, forensic or forensic_mainnet";
 
 /// Measures what a word names.
 fn measure(rt: &(impl AllocGlobal + Print + CpuClock + Files), word: &str) -> Result<()> {
@@ -57,6 +58,8 @@ fn measure(rt: &(impl AllocGlobal + Print + CpuClock + Files), word: &str) -> Re
         "deposits" => deposits::measure(rt),
         "anchor" => anchor::measure(rt),
         "book" => book::measure(rt),
+        "forensic" => forensic::measure(rt),
+        "forensic_mainnet" => forensic::measure_mainnet(rt),
         _ => measure_steps(rt, word),
     }
 }

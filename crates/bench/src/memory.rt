@@ -31,6 +31,32 @@ fn behind_space(text: &[u8]) -> &[u8] {
     text
 }
 
+/// The line that a name begins, and what stands behind the name.
+fn behind_name<'a>(text: &'a [u8], name: &[u8]) -> &'a [u8] {
+    for place in 0..text.len() {
+        if text[place..].starts_with(name) {
+            return &text[place + name.len()..];
+        }
+    }
+    &[]
+}
+
+/// The text without the spaces and tabs in front.
+fn without_spaces(text: &[u8]) -> &[u8] {
+    for place in 0..text.len() {
+        if text[place] != b' ' && text[place] != b'\t' {
+            return &text[place..];
+        }
+    }
+    &[]
+}
+
+/// The most bytes of the program that were in memory so far: `VmHWM` of `/proc/self/status`, in units of 1,024.
+pub fn greatest_resident(rt: &(impl AllocGlobal + Files)) -> Result<u64> {
+    let text = fs::read(rt, "/proc/self/status")?;
+    Ok(number_at_front(without_spaces(behind_name(&text, b"VmHWM:"))).saturating_mul(1024))
+}
+
 /// The bytes of the program that are in memory: the second number of `/proc/self/statm`, in pages.
 pub fn resident(rt: &(impl AllocGlobal + Files)) -> Result<u64> {
     let text = fs::read(rt, "/proc/self/statm")?;

@@ -24,7 +24,8 @@ forms =
     ∷ record { name = codes "drill"; arguments = number (codes "NUMBER") ∷ file (codes "CONFIG") ∷ [] }
     ∷ record { name = codes "genesis"; arguments = file (codes "CONFIG") ∷ file (codes "DEPOSITS") ∷ [] }
     ∷ record { name = codes "duties"; arguments = file (codes "CONFIG") ∷ file (codes "STATE") ∷ number (codes "EPOCH") ∷ [] }
-    ∷ record { name = codes "anchor"; arguments = file (codes "CONFIG") ∷ file (codes "STATE") ∷ file (codes "BLOCK") ∷ file (codes "RECORD") ∷ [] } ∷ []
+    ∷ record { name = codes "anchor"; arguments = file (codes "CONFIG") ∷ file (codes "STATE") ∷ file (codes "BLOCK") ∷ file (codes "RECORD") ∷ [] }
+    ∷ record { name = codes "forensic"; arguments = file (codes "CONFIG") ∷ file (codes "GENESIS") ∷ file (codes "A") ∷ file (codes "B") ∷ [] } ∷ []
 
 -- the greatest number that an argument can be
 abbrev pub greatest_number : ℕ
@@ -75,6 +76,13 @@ pub record AnchorFiles : Type 0 where
   pub block : List ℕ
   pub events : List ℕ
 
+-- the files that the command `forensic CONFIG GENESIS A B` names
+pub record ForensicFiles : Type 0 where
+  pub config : List ℕ
+  pub genesis : List ℕ
+  pub first : List ℕ
+  pub second : List ℕ
+
 -- a command with its arguments
 pub data Command : Type 0 where
   replay : ReplayFiles → Command
@@ -82,6 +90,7 @@ pub data Command : Type 0 where
   genesis : GenesisFiles → Command
   duties : DutiesWords → Command
   anchor : AnchorFiles → Command
+  forensic : ForensicFiles → Command
 
 -- the number that u64's parser reads from a text
 abbrev pub number_in : List ℕ → Option ℕ
@@ -121,6 +130,12 @@ anchor_in rows =
     option_and_then (λ config. option_and_then (λ state. option_and_then (λ block. option_map (λ events. anchor (record { config = config; state = state; block = block; events = events }))
     (first_of (codes "RECORD") rows)) (first_of (codes "BLOCK") rows)) (first_of (codes "STATE") rows)) (first_of (codes "CONFIG") rows)
 
+-- `forensic`, likewise
+abbrev pub forensic_in : List Row → Option Command
+forensic_in rows =
+    option_and_then (λ config. option_and_then (λ genesis. option_and_then (λ first. option_map (λ second. forensic (record { config = config; genesis = genesis; first = first; second = second }))
+    (first_of (codes "B") rows)) (first_of (codes "A") rows)) (first_of (codes "GENESIS") rows)) (first_of (codes "CONFIG") rows)
+
 -- the command of a name, with the arguments that clap found
 abbrev pub named_command : List ℕ × List Row → Option Command
 named_command p =
@@ -128,7 +143,8 @@ named_command p =
     else if bytes_eq p.0 (codes "drill") then drill_in p.1
     else if bytes_eq p.0 (codes "genesis") then genesis_in p.1
     else if bytes_eq p.0 (codes "duties") then duties_in p.1
-    else if bytes_eq p.0 (codes "anchor") then anchor_in p.1 else None
+    else if bytes_eq p.0 (codes "anchor") then anchor_in p.1
+    else if bytes_eq p.0 (codes "forensic") then forensic_in p.1 else None
 
 -- the command that clap's own function of the words gives
 abbrev pub given_command : List (List ℕ) → Option Command
@@ -155,3 +171,4 @@ names_of (Some (drill words)) = words.config ∷ []
 names_of (Some (genesis files)) = files.config ∷ files.deposits ∷ []
 names_of (Some (duties words)) = words.config ∷ words.state ∷ []
 names_of (Some (anchor files)) = files.config ∷ files.state ∷ files.block ∷ files.events ∷ []
+names_of (Some (forensic files)) = files.config ∷ files.genesis ∷ files.first ∷ files.second ∷ []

@@ -2,7 +2,7 @@
 
 ghost use Rattle.std.specs.Prelude.{◌≡◌, ◌↔◌, Some, None, Result, Ok, Err, map, option_map, string_bytes, true};
 ghost use Rattle.clap.specs.Words.{first_of, found_of, kind_of, rows_of, takes};
-ghost use Rattle.command_words.specs.Commands.{anchor_in, command_line, drill_in, duties_in, genesis_in, named_command, number_in, number_of, replay_in};
+ghost use Rattle.command_words.specs.Commands.{anchor_in, command_line, drill_in, duties_in, forensic_in, genesis_in, named_command, number_in, number_of, replay_in};
 ghost use Rattle.command_words.specs.inside.Reading.{command_value, ReadsCommand};
 
 use crate::line::line;
@@ -63,6 +63,19 @@ pub struct AnchorFiles<'a> {
     pub events: &'a str,
 }
 
+/// The files of the command `forensic CONFIG GENESIS A B`.
+#[derive(Clone, Copy)]
+pub struct ForensicFiles<'a> {
+    /// The configuration's name.
+    pub config: &'a str,
+    /// The genesis state's name.
+    pub genesis: &'a str,
+    /// The first record's name.
+    pub first: &'a str,
+    /// The second record's name.
+    pub second: &'a str,
+}
+
 /// A command with its arguments.
 #[derive(Clone, Copy)]
 pub enum Command<'a> {
@@ -76,6 +89,8 @@ pub enum Command<'a> {
     Duties(DutiesWords<'a>),
     /// A record of events on a state and its block.
     Anchor(AnchorFiles<'a>),
+    /// Two records on a genesis state.
+    Forensic(ForensicFiles<'a>),
 }
 
 /// Why the words give no command.
@@ -162,6 +177,18 @@ fn anchor_in<'a>(found: &ArgMatches<'a>) -> Option<Command<'a>>
     }))
 }
 
+/// The command `forensic`, where each of its arguments has a value.
+fn forensic_in<'a>(found: &ArgMatches<'a>) -> Option<Command<'a>>
+    ensures { option_map command_value result ≡ forensic_in (rows_of (found_of found.now)) }
+{
+    Some(Command::Forensic(ForensicFiles {
+        config: text_of(found, "CONFIG")?,
+        genesis: text_of(found, "GENESIS")?,
+        first: text_of(found, "A")?,
+        second: text_of(found, "B")?,
+    }))
+}
+
 /// The command of this name, with the arguments that were found.
 fn named<'a>(name: &str, found: &ArgMatches<'a>) -> Option<Command<'a>>
     ensures { option_map command_value result ≡ named_command (name.now, rows_of (found_of found.now)) }
@@ -176,6 +203,8 @@ fn named<'a>(name: &str, found: &ArgMatches<'a>) -> Option<Command<'a>>
         duties_in(found)
     } else if name == "anchor" {
         anchor_in(found)
+    } else if name == "forensic" {
+        forensic_in(found)
     } else {
         None
     }

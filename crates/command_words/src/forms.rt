@@ -43,7 +43,7 @@ impl fmt::Display for Form {
 }
 
 /// The commands.
-pub static COMMANDS: [Form; 5] = [
+pub static COMMANDS: [Form; 6] = [
     Form {
         name: "replay",
         arguments: &[
@@ -75,6 +75,15 @@ pub static COMMANDS: [Form; 5] = [
             Argument::File("STATE"),
             Argument::File("BLOCK"),
             Argument::File("RECORD"),
+        ],
+    },
+    Form {
+        name: "forensic",
+        arguments: &[
+            Argument::File("CONFIG"),
+            Argument::File("GENESIS"),
+            Argument::File("A"),
+            Argument::File("B"),
         ],
     },
 ];

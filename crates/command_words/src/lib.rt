@@ -10,8 +10,8 @@ mod line;
 mod refusal;
 
 pub use command::{
-    AnchorFiles, Command, DrillWords, DutiesWords, GenesisFiles, ReplayFiles, WordsStop,
-    read_command,
+    AnchorFiles, Command, DrillWords, DutiesWords, ForensicFiles, GenesisFiles, ReplayFiles,
+    WordsStop, read_command,
 };
 pub use forms::{Argument, COMMANDS, Form};
 pub use refusal::what_is_wrong;

@@ -1,5 +1,6 @@
 -- A run of `drill`: the chain that is made by a number goes to a store as the events of a record do, and six lines say what became of it.
-use Rattle.std.specs.Prelude.{ℕ, ◌+◌, List, [], ◌∷◌, ◌++◌, Option, Some, None, Result, Ok, Err, codes, nat_lt, if◌then◌else◌}
+-- Then the two chains of the maker's split are followed as the records of `forensic` are, and two lines say what is found of them.
+use Rattle.std.specs.Prelude.{ℕ, ◌+◌, List, [], ◌∷◌, ◌++◌, length, Option, Some, None, Result, Ok, Err, codes, nat_lt, if◌then◌else◌}
 use Rattle.std.specs.Fmt.{decimal}
 use Rattle.hex.specs.Hex.{encode_lower}
 use Rattle.hash_tree.specs.Merkle.{hash}
@@ -12,6 +13,7 @@ use Rattle.bc_words.specs.Events.{EventOutcome, accepted, event_refused, event_l
 use Rattle.bc_words.specs.declared.store_stop.ClashKind.{ClashKind}
 use Rattle.record_file.specs.Record.{Events}
 use Rattle.record_file.specs.declared.event.Event.{Event}
+use Rattle.spec_state.specs.declared.plain.PlainState.{PlainState}
 use Rattle.spec_fork_choice.specs.Store.{Store}
 use Rattle.spec_fork_choice.specs.GetHead.{get_head}
 use Rattle.spec_fork_choice.specs.GetForkchoiceStore.{genesis_store}
@@ -20,6 +22,9 @@ use Rattle.spec_drill.specs.Plan.{Plan}
 use Rattle.spec_drill.specs.MakeGenesis.{genesis_of_plan}
 use Rattle.spec_drill.specs.Make.{made}
 use Rattle.spec_drill.specs.AsEvents.{events_to_come}
+use Rattle.spec_forensics.specs.Clash.{first_accepted}
+use Rattle.spec_forensics.specs.Verdict.{offences_of}
+use Rattle.spec_replay.specs.Forensic.{Followed, follow, verdict_line, verdict_on}
 use Rattle.spec_replay.specs.Lines.{root_text, checkpoint_text}
 use Rattle.spec_replay.specs.Run.{Run, End, done, bad_config, clash, over, missing, after_file, with_events}
 
@@ -56,29 +61,60 @@ six_lines tally digest =
     ++ (line_of (codes "finalized") (checkpoint_text tally.store.finalized_checkpoint)
     ++ line_of (codes "lines") (encode_lower digest)))))
 
--- lines that are written where a run comes to its end
-abbrev pub if_done : Option End → List ℕ → List ℕ
-if_done (Some done) lines = lines
-if_done _ lines = []
+-- the two lines of the split: how many offenders there are, and the verdict
+unfoldable pub two_lines : PlainState → Followed → Followed → List ℕ
+two_lines genesis first second =
+    line_of (codes "offenders") (decimal (length (offences_of genesis first.history second.history)))
+    ++ verdict_line (verdict_on genesis first second)
 
--- The events on the store at genesis: they end as a record of them does, and the digest is SHA-256 of all lines of that record's run
-unfoldable pub drill_events : Store → Events → Run
-drill_events store rest =
-    let replayed : Run = with_events 1 store rest in
-    record {
-      lines = if_done replayed.end (six_lines (tally_of (record { store = store; events = 0; accepted = 0 }) rest.events) (hash replayed.lines));
-      end = replayed.end;
-      files = 0;
-    }
+-- both chains of the split were followed, unless the second ended the run
+unfoldable pub behind_second : PlainState → Followed → Result Followed End → Result (List ℕ) End
+behind_second genesis first (Err end) = Err end
+behind_second genesis first (Ok second) = Ok (two_lines genesis first second)
 
--- the store at genesis, unless the genesis block clashes
-unfoldable pub drill_store : Option ClashKind → Store → Events → Run
-drill_store (Some kind) store events = over (clash 0 0 kind 0)
-drill_store None store events = drill_events store events
+-- the first was followed, unless it ended the run, and then the second, whose blocks are compared with those of the first
+unfoldable pub behind_first : PlainState → Store → Result Followed End → Events → Result (List ℕ) End
+behind_first genesis store (Err end) second = Err end
+behind_first genesis store (Ok first) second = behind_second genesis first (follow 1 (first_accepted genesis first.history) store second)
 
--- the chain of a plan
+-- the two lines of two chains of these events, each on a store of its own at genesis, or how they end the run
+unfoldable pub split_lines : PlainState → Store → Events → Events → Result (List ℕ) End
+split_lines genesis store first second = behind_first genesis store (follow 0 [] store first) second
+
+-- all lines, where both the chain and its split came to their end
+unfoldable pub with_split : Option End → List ℕ → Result (List ℕ) End → Run
+with_split (Some done) lines (Ok more) = record { lines = lines ++ more; end = Some done; files = 0 }
+with_split (Some done) lines (Err end) = over end
+with_split end lines split = record { lines = []; end = end; files = 0 }
+
+-- the chains that a number makes, as events: the one of the maker itself, and the two of its split
+pub record Chains : Type 0 where
+  pub own : Events
+  pub first : Events
+  pub second : Events
+
+-- The chains on stores at genesis: the own one ends as a record of it does, and the digest is SHA-256 of all lines of that record's run
+unfoldable pub drill_events : PlainState → Store → Chains → Run
+drill_events genesis store chains =
+    let replayed : Run = with_events 1 store chains.own in
+    with_split replayed.end (six_lines (tally_of (record { store = store; events = 0; accepted = 0 }) chains.own.events) (hash replayed.lines))
+    (split_lines genesis store chains.first chains.second)
+
+-- the stores at genesis, unless the genesis block clashes
+unfoldable pub drill_store : Option ClashKind → PlainState → Store → Chains → Run
+drill_store (Some kind) genesis store chains = over (clash 0 0 kind 0)
+drill_store None genesis store chains = drill_events genesis store chains
+
+-- the chains of a plan
+unfoldable pub chains_of : Plan → Chains
+chains_of plan = record {
+  own = events_to_come 0 (made plan);
+  first = events_to_come 0 (made (record plan { which = Some 0 }));
+  second = events_to_come 0 (made (record plan { which = Some 1 }));
+}
+
 unfoldable pub drill_plan : Plan → Run
-drill_plan plan = drill_store (genesis_clash (genesis_of_plan plan)) (genesis_store plan.config (genesis_of_plan plan)) (events_to_come 0 (made plan))
+drill_plan plan = drill_store (genesis_clash (genesis_of_plan plan)) (genesis_of_plan plan) (genesis_store plan.config (genesis_of_plan plan)) (chains_of plan)
 
 -- the configuration, or its first fault; and then it must not eject a validator with the full balance
 unfoldable pub drill_config : ℕ → Result ConfigValues ConfigFault → Run

@@ -3,7 +3,7 @@
 //! A case is a folder of `data/books`: `config` and `genesis`, of the minimal preset, the records `a` and `b`, and the lines `offences`.
 //! Each block of a record is on the one before it.
 
-use crate::offences::printing::push_offence;
+use crate::offences::{offence_lines, tell};
 use anyhow::{Result, bail};
 use bc_preset::{Config, Preset};
 use beacon_body::SignedBeaconBlock;
@@ -75,15 +75,6 @@ fn add_record(alloc: Global, chain: &mut ChainBook, record: &[u8]) -> Result<()>
     }
 }
 
-/// The lines of the offences of a book.
-fn offence_lines(alloc: Global, chain: &ChainBook) -> Result<String> {
-    let mut text = String::new(alloc);
-    for offence in &chain.offences(alloc)? {
-        push_offence(alloc, offence, &mut text)?;
-    }
-    Ok(text)
-}
-
 /// The lines of the offences of two records on a genesis.
 fn answer_of(
     alloc: Global,
@@ -91,12 +82,12 @@ fn answer_of(
     genesis: &State,
     first: &[u8],
     second: &[u8],
-) -> Result<String> {
+) -> Result<Vec<u8>> {
     let mut chain = ChainBook::new(alloc, genesis, config)?;
     add_record(alloc, &mut chain, first)?;
     chain.turn()?;
     add_record(alloc, &mut chain, second)?;
-    offence_lines(alloc, &chain)
+    offence_lines(alloc, &chain.offences(alloc)?)
 }
 
 /// A file of a case.
@@ -105,7 +96,7 @@ fn file(rt: &(impl Files + AllocGlobal), case: &str, name: &str) -> Result<Vec<u
 }
 
 /// The answer of a case.
-fn answer(rt: &(impl Files + AllocGlobal), case: &str) -> Result<String> {
+fn answer(rt: &(impl Files + AllocGlobal), case: &str) -> Result<Vec<u8>> {
     let alloc = rt.alloc();
     let config = Config::read(&file(rt, case, "config")?)?;
     let first = file(rt, case, "a")?;
@@ -118,13 +109,7 @@ fn answer(rt: &(impl Files + AllocGlobal), case: &str) -> Result<String> {
 
 /// Runs the case of this name, and prints one line.
 pub fn run_case(rt: &(impl Files + Print + AllocGlobal), name: &str) -> Result<bool> {
-    let expected = fs::read_to_string(rt, format!(in rt.alloc(); "{name}/offences")?.as_str())?;
+    let expected = file(rt, name, "offences")?;
     let answer = answer(rt, name)?;
-    let agrees = answer.as_str() == expected.as_str();
-    if agrees {
-        println!(rt; "{name}: as expected")?;
-    } else {
-        println!(rt; "{name}: {answer}")?;
-    }
-    Ok(agrees)
+    tell(rt, name, &answer, &expected)
 }

@@ -4,13 +4,13 @@
 //! a line for each offence. Each vote is added as an attestation of its one attester.
 
 mod adding;
-pub mod printing;
 mod reading;
 
 use crate::offences::adding::add_vote;
-use crate::offences::printing::push_offence;
 use crate::offences::reading::read_line;
 use anyhow::Result;
+use beacon_node::offence_line;
+use spec_forensics::Offence;
 use std::alloc::Global;
 use std::fs;
 use std::rt::Files;
@@ -28,27 +28,38 @@ fn read_votes(alloc: Global, lines: &str) -> Result<CarriedVotes> {
     Ok(votes)
 }
 
-/// The lines of the offences among votes.
-fn offence_lines(alloc: Global, votes: &CarriedVotes) -> Result<String> {
-    let mut text = String::new(alloc);
-    for offence in &votes.offences(alloc)? {
-        push_offence(alloc, offence, &mut text)?;
+/// The lines of offences.
+pub fn offence_lines(alloc: Global, offences: &[Offence]) -> Result<Vec<u8>> {
+    let mut lines = Vec::new(alloc);
+    for offence in offences {
+        lines.extend_from_slice(&offence_line(alloc, offence)?)?;
     }
-    Ok(text)
+    Ok(lines)
+}
+
+/// Prints one line of a case: whether its lines are the expected ones.
+pub fn tell(
+    rt: &(impl Print + AllocGlobal),
+    name: &str,
+    answer: &[u8],
+    expected: &[u8],
+) -> Result<bool> {
+    let agrees = answer == expected;
+    if agrees {
+        println!(rt; "{name}: as expected")?;
+    } else {
+        let (found, wanted) = (answer.len(), expected.len());
+        println!(rt; "{name}: expected other lines ({wanted} bytes, found {found})")?;
+    }
+    Ok(agrees)
 }
 
 /// Runs the case of this name, and prints one line.
 pub fn run_case(rt: &(impl Files + Print + AllocGlobal), name: &str) -> Result<bool> {
     let alloc = rt.alloc();
     let lines = fs::read_to_string(rt, format!(in alloc; "{name}/votes")?.as_str())?;
-    let expected = fs::read_to_string(rt, format!(in alloc; "{name}/answer")?.as_str())?;
+    let expected = fs::read(rt, format!(in alloc; "{name}/answer")?.as_str())?;
     let votes = read_votes(alloc, lines.as_str())?;
-    let answer = offence_lines(alloc, &votes)?;
-    let agrees = answer.as_str() == expected.as_str();
-    if agrees {
-        println!(rt; "{name}: as expected")?;
-    } else {
-        println!(rt; "{name}: {answer}")?;
-    }
-    Ok(agrees)
+    let answer = offence_lines(alloc, &votes.offences(alloc)?)?;
+    tell(rt, name, &answer, &expected)
 }

@@ -1,7 +1,5 @@
 -- The duties of an epoch as the code has them, and how its answers meet their definitions.
-use Rattle.std.specs.Prelude.{◌≡◌, ◌≢◌, ℕ, false, List, ◌++◌, ◌==◌, filter, flat_map, Result, Ok, Err}
-use Rattle.bc_outside.specs.Told.{SinkTold}
-use Rattle.bc_outside.specs.Calls.{Rose, SinkKeeps}
+use Rattle.std.specs.Prelude.{◌≡◌, ℕ, List, ◌++◌, ◌==◌, filter, flat_map, Result, Ok, Err}
 use Rattle.bc_outside.specs.declared.trouble.Trouble.{Trouble}
 use Rattle.duties.specs.Duties.{table_committees}
 use Rattle.duties.specs.declared.duties.Duties.{Duties}
@@ -10,7 +8,6 @@ use Rattle.duties.specs.declared.duties.DutyStop.TheVariants as stops
 use Rattle.duties.specs.declared.fault.DutiesFault.{DutiesFault}
 use Rattle.duties.specs.declared.fault.DutiesFault.TheVariants as reasons
 use Rattle.spec_replay.specs.Duties.{committee_line, proposer_line}
-use Rattle.spec_replay.specs.Run.{Run}
 use Rattle.spec_state.specs.declared.plain.PlainState.{PlainState}
 use Rattle.ssz_codec.specs.declared.fault.SszFault.{SszFault}
 use Rattle.ssz_codec.specs.declared.fault.SszFault.TheVariants as faults
@@ -19,7 +16,6 @@ use Rattle.beacon_node.specs.declared.tell_duties.StateStop.TheVariants.{Fault, 
 use Rattle.beacon_node.specs.declared.status.Status.{Status}
 use Rattle.beacon_node.specs.declared.status.Status.TheVariants as statuses
 use Rattle.beacon_node.specs.inside.Statuses.{unwritten}
-use Rattle.beacon_node.specs.Answers.{breaks_off, end_of, WritesLines}
 
 -- the lines of a slot, by the table of committees
 unfoldable pub table_lines : Duties → ℕ → List ℕ
@@ -54,13 +50,3 @@ no_duties stops.NoMemory = statuses.NoMemory
 abbrev pub written : Result (Unit {0}) Trouble → Status
 written (Ok _) = statuses.Done
 written (Err trouble) = unwritten trouble
-
--- What became of a run whose files are all read: how it ends, and its lines. No file could fail, and it is one of a command.
-pub record Concludes (status : Status) (run : Run) (took took_then : SinkTold) : Type 0 where
-  pub ends : breaks_off status ≡ false → run.end ≡ end_of status
-  pub files : run.files ≡ 0
-  pub lines : WritesLines (breaks_off status) run.lines took.taken took_then.taken
-  pub has_words : status ≢ statuses.Words
-  pub is_read : status ≢ statuses.ReadFault
-  pub write : status ≡ statuses.WriteFault → Rose took.faults took_then.faults
-  pub keeps : SinkKeeps took took_then

@@ -4,7 +4,8 @@ use Rattle.command_words.specs.declared.command.DrillWords as drills
 use Rattle.command_words.specs.declared.command.GenesisFiles as makers
 use Rattle.command_words.specs.declared.command.DutiesWords as asked
 use Rattle.command_words.specs.declared.command.AnchorFiles as anchors
-use Rattle.command_words.specs.Commands.{AnchorFiles, DrillWords, DutiesWords, GenesisFiles, ReplayFiles}
+use Rattle.command_words.specs.declared.command.ForensicFiles as followed
+use Rattle.command_words.specs.Commands.{AnchorFiles, DrillWords, DutiesWords, ForensicFiles, GenesisFiles, ReplayFiles}
 
 abbrev pub files_named : replays.ReplayFiles → ReplayFiles
 files_named f = record { config = f.config.now; genesis = f.genesis.now; events = f.events.now }
@@ -20,3 +21,6 @@ duties_words w = record { config = w.config.now; state = w.state.now; epoch = w.
 
 abbrev pub anchor_named : anchors.AnchorFiles → AnchorFiles
 anchor_named f = record { config = f.config.now; state = f.state.now; block = f.block.now; events = f.events.now }
+
+abbrev pub records_named : followed.ForensicFiles → ForensicFiles
+records_named f = record { config = f.config.now; genesis = f.genesis.now; first = f.first.now; second = f.second.now }

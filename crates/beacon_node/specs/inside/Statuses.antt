@@ -1,4 +1,5 @@
 -- The statuses of what could not be read or written.
+use Rattle.std.specs.Prelude.{ℕ}
 use Rattle.bc_outside.specs.declared.trouble.Trouble.{Trouble}
 use Rattle.bc_outside.specs.declared.trouble.Trouble.TheVariants.{Failed, NoMemory}
 use Rattle.record_file.specs.declared.source.SourceStop.{SourceStop}
@@ -16,9 +17,13 @@ abbrev pub unwritten : Trouble → Status
 unwritten Failed = statuses.WriteFault
 unwritten NoMemory = statuses.NoMemory
 
--- the status of an event that could not be read or made
+-- the status of an event of a record that could not be read or made
+abbrev pub no_event_of : ℕ → SourceStop → Status
+no_event_of which (stops.Fault event reason) = statuses.Record which event reason
+no_event_of which (stops.Limit event bound) = statuses.Limit which event bound
+no_event_of which stops.ReadFault = statuses.ReadFault
+no_event_of which stops.NoMemory = statuses.NoMemory
+
+-- the same of the only record
 abbrev pub no_event : SourceStop → Status
-no_event (stops.Fault event reason) = statuses.Record 0 event reason
-no_event (stops.Limit event bound) = statuses.Limit 0 event bound
-no_event stops.ReadFault = statuses.ReadFault
-no_event stops.NoMemory = statuses.NoMemory
+no_event stop = no_event_of 0 stop

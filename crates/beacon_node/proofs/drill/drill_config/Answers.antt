@@ -1,10 +1,7 @@
--- The configuration ejects the made validators, memory ran out, or the chain is made.
-use Rattle.std.proofs.Common.{◌≡◌, ◌∙◌, sym, ap, arith}
+-- The configuration ejects the made validators, memory ran out, or the chains are made.
+use Rattle.std.proofs.Common.{◌≡◌, arith}
 use Rattle.std.proofs.lemmas.Bool.{le-ltb, lt-ltb}
-use Rattle.spec_drill.specs.Plan.{Plan}
-use Rattle.spec_drill.specs.MakeGenesis.{genesis_of_plan}
-use Rattle.spec_drill.specs.Maker.{PlainMaker, new_maker}
-use Rattle.beacon_node.proofs.Drilled.{no_memory, no_config_files, ejects, drills, same_preset, begins, still_new}
+use Rattle.beacon_node.proofs.Drilled.{begins, drills, ejects, made_begins, makers_still, no_config_files, no_memory}
 use Rattle.beacon_node.proofs.drill.drill_config.Goals as goal
 
 pub returns-then-ejection_balance-ge-FULL_BALANCE-clause-over : goal.returns-then-ejection_balance-ge-FULL_BALANCE-clause-over
@@ -19,13 +16,14 @@ returns-in-Err-genesis-clause-over g c = no_memory _ _ (no_config_files c.args.n
 
 pub drill_from-requires-clause-genesis : goal.drill_from-requires-clause-genesis
 drill_from-requires-clause-genesis g c =
-    (same_preset c.args.number c.args.config.now c.in-Ok-genesis.genesis (begins c.args.number c.args.config.now c.in-Ok.maker c.in-Ok-genesis.genesis c.in-Ok.ensures c.in-Ok-genesis.ensures.state), c.in-Ok-genesis.ensures.passes)
+    made_begins c.args.number c.args.config.now c.in-Ok-genesis.genesis c.preset-preset.ensures.preset (begins c.args.number c.args.config.now c.in-Ok.makers.own c.in-Ok-genesis.genesis c.in-Ok.ensures.own c.in-Ok-genesis.ensures.state)
+    c.in-Ok-genesis.ensures.passes
 
-pub drill_from-requires-clause-new : goal.drill_from-requires-clause-new
-drill_from-requires-clause-new g c = still_new c.args.number c.args.config.now c.in-Ok.maker c.in-Ok.ensures
+pub drill_from-requires-clause-makers : goal.drill_from-requires-clause-makers
+drill_from-requires-clause-makers g c = makers_still _ c.in-Ok.makers c.in-Ok.ensures
 
 pub returns-clause-over : goal.returns-clause-over
 returns-clause-over g c =
-    drills c.args.number c.args.config.now c.in-Ok.maker c.in-Ok-genesis.genesis c.drill_from.result _ _
+    drills c.args.number c.args.config.now c.in-Ok.makers c.in-Ok-genesis.genesis c.drill_from.result _ _
     (lt-ltb c.args.config.now.ejection_balance 32_000_000_000 (omega (arith, c.ejection_balance.ensures.exact, c.if-ejection_balance-ge-FULL_BALANCE.false)))
-    c.in-Ok.ensures (begins c.args.number c.args.config.now c.in-Ok.maker c.in-Ok-genesis.genesis c.in-Ok.ensures c.in-Ok-genesis.ensures.state) c.drill_from.ensures.over
+    c.in-Ok.ensures (begins c.args.number c.args.config.now c.in-Ok.makers.own c.in-Ok-genesis.genesis c.in-Ok.ensures.own c.in-Ok-genesis.ensures.state) c.drill_from.ensures.over

@@ -2,7 +2,8 @@
 use Rattle.std.proofs.Common.{[], ◌∷◌, Err, Ok}
 use Rattle.spec_replay.specs.Duties.{sound_state_of}
 use Rattle.beacon_node.specs.inside.Duties.{GivesState}
-use Rattle.beacon_node.proofs.Duties.{unread_state_file, state_stops, state_concludes, concludes_outside, state_causes}
+use Rattle.beacon_node.proofs.Duties.{unread_state_file, state_stops, state_concludes, state_causes}
+use Rattle.beacon_node.proofs.Whole.{concludes_outside}
 use Rattle.beacon_node.proofs.Outside.{only_shelf, ends_here, unread_causes}
 use Rattle.beacon_node.proofs.tell_duties.tell_of_file.Goals as goal
 

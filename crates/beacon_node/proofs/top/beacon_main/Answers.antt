@@ -1,5 +1,5 @@
 -- The words are a command, and the rest is its run, or they are none, or memory ran out before they were read.
-use Rattle.beacon_node.proofs.Commands.{replay_answers, drill_answers, genesis_answers, duties_answers, anchor_answers, are_none, no_answers, unread_words}
+use Rattle.beacon_node.proofs.Commands.{replay_answers, drill_answers, genesis_answers, duties_answers, anchor_answers, forensic_answers, not_forensic, are_none, no_answers, unread_words}
 use Rattle.beacon_node.proofs.top.beacon_main.Goals as goal
 
 pub returns-in-Ok-Replay-clause-answers : goal.returns-in-Ok-Replay-clause-answers
@@ -16,6 +16,27 @@ returns-in-Ok-Duties-clause-answers g c = duties_answers _ _ _ _ _ _ _ (rw c.in-
 
 pub returns-in-Ok-Anchor-clause-answers : goal.returns-in-Ok-Anchor-clause-answers
 returns-in-Ok-Anchor-clause-answers g c = anchor_answers _ _ _ _ _ _ _ (rw c.in-Ok-Anchor.field-0-is at c.in-Ok-Anchor.ensures) c.anchor.ensures.answers
+
+pub returns-in-Ok-Forensic-clause-answers : goal.returns-in-Ok-Forensic-clause-answers
+returns-in-Ok-Forensic-clause-answers g c = forensic_answers _ _ _ _ _ _ _ (rw c.in-Ok-Forensic.field-0-is at c.in-Ok-Forensic.ensures) c.forensic.ensures.answers
+
+pub returns-in-Ok-Forensic-clause-convicts : goal.returns-in-Ok-Forensic-clause-convicts
+returns-in-Ok-Forensic-clause-convicts g c = λ files is done. c.forensic.ensures.findings done
+
+pub returns-in-Ok-Replay-clause-convicts : goal.returns-in-Ok-Replay-clause-convicts
+returns-in-Ok-Replay-clause-convicts g c = λ files is done. not_forensic _ _ files (rw c.in-Ok-Replay.field-0-is at c.in-Ok-Replay.ensures) (λ same. cc) is
+
+pub returns-in-Ok-Drill-clause-convicts : goal.returns-in-Ok-Drill-clause-convicts
+returns-in-Ok-Drill-clause-convicts g c = λ files is done. not_forensic _ _ files (rw c.in-Ok-Drill.field-0-is at c.in-Ok-Drill.ensures) (λ same. cc) is
+
+pub returns-in-Ok-Genesis-clause-convicts : goal.returns-in-Ok-Genesis-clause-convicts
+returns-in-Ok-Genesis-clause-convicts g c = λ files is done. not_forensic _ _ files (rw c.in-Ok-Genesis.field-0-is at c.in-Ok-Genesis.ensures) (λ same. cc) is
+
+pub returns-in-Ok-Duties-clause-convicts : goal.returns-in-Ok-Duties-clause-convicts
+returns-in-Ok-Duties-clause-convicts g c = λ files is done. not_forensic _ _ files (rw c.in-Ok-Duties.field-0-is at c.in-Ok-Duties.ensures) (λ same. cc) is
+
+pub returns-in-Ok-Anchor-clause-convicts : goal.returns-in-Ok-Anchor-clause-convicts
+returns-in-Ok-Anchor-clause-convicts g c = λ files is done. not_forensic _ _ files (rw c.in-Ok-Anchor.field-0-is at c.in-Ok-Anchor.ensures) (λ same. cc) is
 
 pub returns-in-Err-NoCommand-clause-answers : goal.returns-in-Err-NoCommand-clause-answers
 returns-in-Err-NoCommand-clause-answers g c = no_answers _ _ _ (are_none _ _ c.in-Err-NoCommand.field-0-is c.in-Err-NoCommand.ensures)
