@@ -11,7 +11,7 @@ use Rattle.beacon_types.specs.Equality.{same_root}
 use Rattle.beacon_body.specs.declared.attestation.Attestation.{Attestation}
 use Rattle.beacon_body.specs.declared.block.BeaconBlock.{BeaconBlock}
 use Rattle.beacon_body.specs.declared.signed_block.SignedBeaconBlock.{SignedBeaconBlock}
-use Rattle.beacon_body.specs.Containers.{block_codec, signed_block_codec, attestation_codec}
+use Rattle.beacon_body.specs.Containers.{signed_block_codec, attestation_codec}
 use Rattle.beacon_types.specs.declared.checkpoint.Checkpoint.{Checkpoint}
 use Rattle.spec_state.specs.declared.plain.PlainState.{PlainState}
 use Rattle.spec_state.specs.Genesis.{header_root_of}
@@ -22,7 +22,6 @@ use Rattle.spec_transition.specs.ProcessSlots.{Stepped}
 use Rattle.spec_fork_choice.specs.Store.{KeptBlock, LatestMessage, Store, block_of, is_kept}
 use Rattle.spec_fork_choice.specs.Slots.{get_current_slot}
 use Rattle.spec_fork_choice.specs.ShouldUpdateJustifiedCheckpoint.{should_update_justified_checkpoint}
-use Rattle.spec_fork_choice.specs.Clash.{clash_of}
 use Rattle.spec_fork_choice.specs.OnTick.{on_tick, in_new_slot, in_new_epoch}
 use Rattle.spec_fork_choice.specs.OnBlock.{BlockIn, block_step, accept_block, on_block, with_accepted, with_block, with_boost, with_justified, with_better_justified, with_best_justified, with_finalized}
 use Rattle.spec_fork_choice.specs.OnEvent.{Accepted, without_block, handle_tick, handle_block, handle_attestation, on_event}
