@@ -28,11 +28,12 @@ struct Bytes {
 }
 
 /// The record of these events.
-fn record_of(alloc: Global, events: &[Event]) -> Result<Vec<u8>, AllocError> {
+fn record_of(alloc: Global, events: &[Event]) -> Result<Vec<u8>> {
     let mut record = Vec::from_slice(alloc, b"BCR1")?;
     for event in events {
+        let length = u32::try_from(event.payload.len())?;
         record.push(event.kind)?;
-        record.extend_from_slice(&(event.payload.len() as u32).to_le_bytes())?;
+        record.extend_from_slice(&length.to_le_bytes())?;
         record.extend_from_slice(&event.payload)?;
     }
     Ok(record)
@@ -46,7 +47,7 @@ fn split_of(alloc: Global, genesis: &Genesis, slots: u64, graffiti: u8) -> Resul
         graffiti,
     };
     match chain(alloc, genesis, slots, shape) {
-        Ok(told) => Ok(record_of(alloc, &told.events)?),
+        Ok(told) => record_of(alloc, &told.events),
         Err(error) => Err(error),
     }
 }
