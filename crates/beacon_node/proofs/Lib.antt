@@ -20,3 +20,4 @@ pub mod Forensics
 pub mod Findings
 pub mod Openings
 pub mod Convictions
+pub mod Versions
