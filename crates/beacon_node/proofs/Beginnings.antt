@@ -120,9 +120,13 @@ root_set root state_root true b block x y none = absurd (cc (rw x at none))
 root_set root state_root false true block x y none = absurd (cc (rw (x, y) at none))
 root_set root state_root false false block x y none = (refl, refl)
 
-pub begins : (config : ConfigValues) (s : PlainState) → IsGenesis config s → genesis_clash s ≡ None → Begins s
+-- a checked genesis whose roots are names begins histories
+pub clear_begins : (s : PlainState) → genesis_fault s ≡ None → IsState s → IsInRange s → genesis_clash s ≡ None → Begins s
 unfolding genesis_clash clash_of events.first_clash state_codec genesis_block
-begins config s is none = genesis_begins s is.checked is.state is.range (root_set _ _ _ _ (genesis_block s) refl refl none).1
+clear_begins s good is range none = genesis_begins s good is range (root_set _ _ _ _ (genesis_block s) refl refl none).1
+
+pub begins : (config : ConfigValues) (s : PlainState) → IsGenesis config s → genesis_clash s ≡ None → Begins s
+begins config s is none = clear_begins s is.checked is.state is.range none
 
 pub begins_book : (config : ConfigValues) (s : PlainState) → IsGenesis config s → genesis_clash s ≡ None → IsBeginning s
 unfolding genesis_clash clash_of events.first_clash state_codec genesis_block

@@ -11,14 +11,13 @@ use Rattle.bc_words.specs.declared.store_stop.ClashKind.{ClashKind}
 use Rattle.ssz_codec.specs.Lawful.{IsBytes}
 use Rattle.ssz_codec.specs.laws.Layout.{IsBytes-drop, IsBytes-take}
 use Rattle.beacon_body.specs.declared.block.BeaconBlock.{BeaconBlock}
-use Rattle.beacon_types.specs.Equality.{same_root}
 use Rattle.record_file.specs.Record as record_file
 use Rattle.record_file.specs.Record.{Events, FrameRead, ended, events_from, events_of, events_under, fault_event, faulted, frame_of, framed, is_kind_of, longest_payload, most_events, payload_of, sized_of, version_of, with_event}
 use Rattle.record_file.specs.declared.event.Event.{Event}
 use Rattle.record_file.specs.declared.fault.RecordFault.{RecordFault}
 use Rattle.record_file.specs.declared.fault.RecordFault.TheVariants.{BadKind, TooLong, TooMany, Torn}
 use Rattle.record_file.specs.declared.version.Version.{Version}
-use Rattle.spec_state.specs.Genesis.{checked_genesis, genesis_fault, genesis_of, sound_genesis, zero_root}
+use Rattle.spec_state.specs.Genesis.{checked_genesis, genesis_fault, genesis_of, sound_genesis}
 use Rattle.spec_state.specs.States.{state_codec}
 use Rattle.spec_state.specs.Limits.{IsState, IsInRange}
 use Rattle.spec_state.specs.declared.fault.GenesisFault.{GenesisFault}
@@ -27,7 +26,7 @@ use Rattle.spec_state.specs.declared.plain.PlainState.{PlainState}
 use Rattle.spec_state.proofs.Limits.{read_is_in_range, read_is_state}
 use Rattle.spec_fork_choice.specs.Store.{KeptBlock, Store, block_of}
 use Rattle.spec_fork_choice.specs.Clash.{clash_among, clash_of, clash_with}
-use Rattle.spec_fork_choice.specs.GetForkchoiceStore.{genesis_block, genesis_store}
+use Rattle.spec_fork_choice.specs.GetForkchoiceStore.{genesis_store}
 use Rattle.spec_fork_choice.specs.OnBlock.{BlockIn}
 use Rattle.spec_fork_choice.specs.OnEvent.{Accepted, block, genesis_clash, on_event, other}
 use Rattle.spec_forensics.proofs.Carried.{all_carried}
@@ -41,7 +40,6 @@ use Rattle.spec_forensics.specs.Verdict.{offences_of}
 use Rattle.spec_forensics.specs.declared.verdict.Verdict.TheVariants.{Conflict}
 use Rattle.safety_law.specs.Follows.{Follows}
 use Rattle.safety_law.specs.Histories.{AreHistories, Begins}
-use Rattle.safety_law.proofs.Beginning.{genesis_begins}
 use Rattle.safety_law.proofs.Followed.{added_event, begins_followed, block_is_added, event_followed}
 use Rattle.safety_law.proofs.Growing.{first_grows, none_yet, second_grows}
 use Rattle.safety_law.proofs.Judge.{verdict_convicts}
@@ -49,7 +47,7 @@ use Rattle.spec_replay.specs.Run.{End, Run, after_file, bad_genesis, bad_record,
 use Rattle.spec_replay.specs.Forensic.{Followed, behind_first, clash_of_accepted, follow, follow_end, follow_events, follow_then, forensic_lines, judge, unless_clash, verdict_on, with_first, with_genesis, with_second, with_state, with_store}
 use Rattle.beacon_node.specs.Findings.{IsThird}
 use Rattle.beacon_node.specs.laws.Convictions.{ConvictsOfTheRecords, FindsOut}
-use Rattle.beacon_node.proofs.Beginnings.{root_set}
+use Rattle.beacon_node.proofs.Beginnings.{clear_begins}
 use Rattle.beacon_node.proofs.Findings.{conflict_is}
 use Rattle.beacon_node.proofs.Following.{clear_of_both, genesis_clear}
 
@@ -96,7 +94,7 @@ events_bytes version zero events [] ok = tt
 events_bytes version zero events (_ ∷ _) ok = tt
 events_bytes version (suc room) events bytes ok = by (λ rest rest_ok. events_bytes version room (events + 1) rest rest_ok) (frame_of version events bytes) (frame_bytes version events bytes ok)
   where
-    by : ((rest : List ℕ) → IsBytes rest → AreBytes (events_from version room (events + 1) rest).events) → (f : FrameRead) → FrameBytes f → AreBytes (elim f [
+    by : ((rest : List ℕ) → IsBytes rest → AreBytes (events_from version room (events + 1) rest).events) → (f : FrameRead) → FrameBytes f → AreBytes (elim f as (λ _. Events) [
       | ended ↦ record { events = []; end = record_file.done }
       | faulted reason ↦ record { events = []; end = record_file.fault (fault_event events reason) reason }
       | framed event rest ↦ with_event event (events_from version room (events + 1) rest)
@@ -214,7 +212,7 @@ some_is end another is = cc
 
 -- a genesis of a file is one that was checked
 genesis_read : (config : ConfigValues) (bytes : List ℕ) (state : PlainState) → IsPreset config.preset → IsBytes bytes → genesis_of config.preset bytes ≡ Ok state → genesis_clash state ≡ None → Begins state
-unfolding genesis_of genesis_clash
+unfolding genesis_of
 genesis_read config bytes state preset ok is none = by _ ((state_codec config.preset).deserialize bytes) refl is
   where
     checked : (s : PlainState) (fault : Option GenesisFault) → sound_genesis s fault ≡ Ok state → (s ≡ state) × (fault ≡ None)
@@ -227,8 +225,7 @@ genesis_read config bytes state preset ok is none = by _ ((state_codec config.pr
     by false (Some s) was h =
         let same = checked s (genesis_fault s) h in
         let here : (state_codec config.preset).deserialize bytes ≡ Some state = was ∙ ap Some same.0 in
-        genesis_begins state (ap genesis_fault (sym same.0) ∙ same.1) (read_is_state config.preset bytes state preset ok here) (read_is_in_range config.preset bytes state ok here)
-        (root_set _ _ _ _ (genesis_block state) refl refl none).1
+        clear_begins state (ap genesis_fault (sym same.0) ∙ same.1) (read_is_state config.preset bytes state preset ok here) (read_is_in_range config.preset bytes state ok here) none
 
 found_out : (config : ConfigValues) (genesis : PlainState) (a b : List ℕ) (first second : Followed) → Begins genesis → IsBytes a → IsBytes b → follow 0 [] (genesis_store config genesis) (events_of a) ≡ Ok first
     → follow 1 (first_accepted genesis first.history) (genesis_store config genesis) (events_of b) ≡ Ok second → FindsOut config genesis (events_of a) (events_of b) (forensic_lines genesis first second)

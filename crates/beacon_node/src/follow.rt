@@ -17,7 +17,7 @@ ghost use Rattle.beacon_node.specs.inside.Following.{BlockFollowed, ClashesBy, E
 use crate::reading::unread;
 use crate::status::Status;
 use bc_outside::Shelf;
-use bc_words::{ClashKind, StoreStop};
+use bc_words::{ClashKind, Limit, StoreStop};
 use beacon_body::BeaconBlock;
 use beacon_state::State;
 use forensics::{VoteBook, Watch};
@@ -113,6 +113,32 @@ fn follow_block(
     }
 }
 
+/// The status of an event that reaches a bound of this program.
+fn limited(side: Side<'_>, event: u32, limit: Limit) -> Status
+    ensures status { result ≡ Status.Limit (which_of side.entry) event limit }
+    ensures inside { IsInside result }
+{
+    Status::Limit {
+        which: side.which(),
+        event,
+        limit,
+    }
+}
+
+/// The status of a block whose root is no name for it alone in its own record.
+fn clashed(side: Side<'_>, event: u32, kind: ClashKind) -> Status
+    ensures status { result ≡ Status.Clash (which_of side.entry) event kind (which_of side.entry) }
+    ensures inside { IsInside result }
+{
+    let which = side.which();
+    Status::Clash {
+        which,
+        event,
+        kind,
+        kept_which: which,
+    }
+}
+
 /// Hands the event to the store, and a block that it accepts to the book. The status where the event ends the run.
 #[tactic(auto, using(spec_fork_choice::proofs::Grows::event_keeps_one_more, record_file::proofs::Supplying::kind_first, record_file::proofs::Supplying::kind_last))]
 fn follow_event(
@@ -143,17 +169,8 @@ fn follow_event(
         }
         Ok(Accepted::Other) => Ok(()),
         Err(StoreStop::Refused(_)) => Ok(()),
-        Err(StoreStop::Limit(limit)) => Err(Status::Limit {
-            which: side.which(),
-            event: number,
-            limit,
-        }),
-        Err(StoreStop::Clash(kind)) => Err(Status::Clash {
-            which: side.which(),
-            event: number,
-            kind,
-            kept_which: side.which(),
-        }),
+        Err(StoreStop::Limit(limit)) => Err(limited(side, number, limit)),
+        Err(StoreStop::Clash(kind)) => Err(clashed(side, number, kind)),
         Err(StoreStop::NoMemory) => Err(Status::NoMemory),
     }
 }

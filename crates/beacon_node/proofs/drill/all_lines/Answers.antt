@@ -31,7 +31,7 @@ pub returns-in-Ok-extend_from_slice-clause-told : goal.returns-in-Ok-extend_from
 returns-in-Ok-extend_from_slice-clause-told g c =
     let own = rw c.in-Ok.ensures.opened.is at c.in-Ok-chain_lines.ensures.told in
     all_told (genesis_clash c.args.genesis) c.args.genesis (genesis_store c.args.config.now c.args.genesis) (chains_to_come c.args.makers) c.in-Ok.ensures.opened.none own.0 _ c.in-Ok-split_lines.more.items c.in-Ok-split_lines.ensures.told
-    (rw (c.deref.ensures.value, own.1) at c.in-Ok-extend_from_slice.ensures)
+    (rw (c.deref.ensures.value, own.1) at c.in-Ok-extend_from_slice.ensures.items)
 
 pub returns-in-Err-extend_from_slice-clause-told : goal.returns-in-Err-extend_from_slice-clause-told
 returns-in-Err-extend_from_slice-clause-told g c = drill_memory (genesis_clash c.args.genesis) c.args.genesis (genesis_store c.args.config.now c.args.genesis) (chains_to_come c.args.makers)

@@ -5,8 +5,8 @@ use Rattle.spec_drill.specs.Maker.{to_come}
 use Rattle.forensics.specs.Books.{history_of}
 use Rattle.beacon_node.specs.declared.follow.Side.TheVariants.{Second}
 use Rattle.beacon_node.specs.inside.Following.{followed_by}
-use Rattle.beacon_node.proofs.Drilled.{no_split_memory, second_over, second_told}
-use Rattle.beacon_node.proofs.Forensics.{ended_outside, made_outside, memory_outside}
+use Rattle.beacon_node.proofs.Drilled.{second_over, second_told}
+use Rattle.beacon_node.proofs.Forensics.{ended_outside, made_outside}
 use Rattle.beacon_node.proofs.Openings.{beside_first, second_follows, still_first, two_of}
 use Rattle.beacon_node.proofs.drill.second_lines.Goals as goal
 
@@ -30,10 +30,7 @@ returns-in-Ok-found_lines-clause-told g c =
     (c.in-Ok-found_lines.ensures ∙ two_of (Second c.args.first) c.args.book c.follow_made.new.book refl c.follow_made.ensures.same c.args.genesis.now c.args.first.now.plain c.follow_made.new.store.plain c.requires.genesis)
 
 pub returns-clause-told : goal.returns-clause-told
-returns-clause-told g c = no_split_memory _
-
-pub returns-in-Err-clause-told : goal.returns-in-Err-clause-told
-returns-in-Err-clause-told g c =
+returns-clause-told g c =
     second_over c.args.genesis.now c.args.second.plain (record { store = c.args.first.now.plain; history = history_of c.args.book 0 }) (Second c.args.first) refl (rw c.requires.genesis at c.requires.first.blocks) (events_to_come 0 (to_come c.args.maker))
     c.in-Err.status (followed_by (Second c.args.first) c.follow_made.new.store.plain c.follow_made.new.book) c.in-Err.ensures.followed
 
@@ -41,7 +38,4 @@ pub returns-in-Ok-found_lines-clause-outside : goal.returns-in-Ok-found_lines-cl
 returns-in-Ok-found_lines-clause-outside g c = made_outside [] _ _ c.in-Ok.ensures.outside
 
 pub returns-clause-outside : goal.returns-clause-outside
-returns-clause-outside g c = memory_outside [] _ c.in-Ok.ensures.outside
-
-pub returns-in-Err-clause-outside : goal.returns-in-Err-clause-outside
-returns-in-Err-clause-outside g c = ended_outside [] c.in-Err.status c.in-Err.ensures.outside
+returns-clause-outside g c = ended_outside [] c.in-Err.status c.in-Err.ensures.outside
