@@ -252,10 +252,7 @@ fn rows_of_a_fork<L: Ledger>(alloc: Global, steps: &mut Steps<L>) -> Result<[Mad
 }
 
 /// The rows of a fork whose voters are silenced.
-fn rows_of_silenced<L: Ledger>(
-    alloc: Global,
-    steps: &mut Steps<L>,
-) -> Result<[Made; 5], NoMemory> {
+fn rows_of_silenced<L: Ledger>(alloc: Global, steps: &mut Steps<L>) -> Result<[Made; 5], NoMemory> {
     match fork(alloc) {
         Ok(mut array) => silenced_rows(alloc, &mut array, steps),
         Err(refused) => Err(refused),
