@@ -1,5 +1,5 @@
 -- A step that was made of a kept state, and what an accepted event leaves of the kept states.
-use Rattle.std.proofs.Common.{◌≡◌, ◌∙◌, ◌<◌, ◌^◌, ℕ, List, Some, Result, Ok, refl, sym, ap}
+use Rattle.std.proofs.Common.{◌≡◌, ◌<◌, ◌^◌, refl, sym}
 use Rattle.std.specs.List.{AllByRecursion}
 use Rattle.bc_words.specs.Outcome.{done}
 use Rattle.bc_preset.specs.Presets.{IsPreset}

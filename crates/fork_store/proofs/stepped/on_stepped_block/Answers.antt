@@ -1,5 +1,5 @@
 -- The block is taken into the store with its step.
-use Rattle.std.proofs.Common.{◌≡◌, ◌∙◌, ℕ, List, refl, subst, sym, ap}
+use Rattle.std.proofs.Common.{◌∙◌, refl, ap}
 use Rattle.spec_state.specs.Genesis.{header_root_of}
 use Rattle.spec_transition.specs.ProcessSlots.{Stepped}
 use Rattle.fork_store.proofs.KeptConfigs.{kept_now}
