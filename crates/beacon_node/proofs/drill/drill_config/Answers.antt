@@ -27,6 +27,7 @@ pub drill_from-requires-clause-keeps : goal.drill_from-requires-clause-keeps
 drill_from-requires-clause-keeps g c =
     new_keeps (record { config = c.args.config.now; number = c.args.number; which = None }) c.in-Ok-genesis.genesis c.in-Ok.makers.own c.in-Ok.ensures.own
     (begins c.args.number c.args.config.now c.in-Ok.makers.own c.in-Ok-genesis.genesis c.in-Ok.ensures.own c.in-Ok-genesis.ensures.state)
+    c.in-Ok-genesis.ensures.passes
 
 pub returns-clause-over : goal.returns-clause-over
 returns-clause-over g c =
