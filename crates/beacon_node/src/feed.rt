@@ -3,7 +3,7 @@
 //! A record's events go to it as they are. The maker of a chain needs the state behind a block for the block's state root, so the
 //! step by it is at hand, and the store takes it in place of making it once more.
 
-ghost use Rattle.std.specs.Prelude.{◌≡◌, ◌<◌, ◌-◌, ◌^◌, [], true, length, IfOk, IfSome};
+ghost use Rattle.std.specs.Prelude.{◌≡◌, ℕ, ◌<◌, ◌-◌, ◌^◌, [], true, length, IfOk, IfSome};
 ghost use Rattle.bc_outside.specs.Calls.{ShelfKeeps};
 ghost use Rattle.bc_outside.specs.Told.{ShelfTold};
 ghost use Rattle.chain_maker.specs.Source.{made_source};
@@ -104,6 +104,7 @@ impl MadeFeed {
         ensures next { (told : ShelfTold) → NextOf result (made_source self.old.events) (made_source self.new.events) told told }
         ensures counts { Counts result (made_source self.old.events) (made_source self.new.events) }
         ensures kind { IfOk result (λ next. IfSome next (λ event. is_kind event.kind ≡ true)) }
+        ensures causes { (faults : ℕ) → SourceStopsBy result faults faults }
         ensures stands { self.new.stands ≡ self.old.stands }
         ensures lends { IfOk result (λ next. IfSome next (λ _. (store : PlainStore) → Keeps store self.old.events.maker → Lends store self.new.events.maker self.new.stepped)) }
     {
