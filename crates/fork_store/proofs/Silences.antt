@@ -1,5 +1,5 @@
 -- Equivocating validators in the store are silenced ones in its array.
-use Rattle.std.proofs.Common.{◌≡◌, ◌∙◌, ◌<◌, ℕ, suc, ◌+◌, Bool, true, false, cond, nat_lt, eqb, max, filter, List, [], ◌∷◌, ◌++◌, length, take, drop, fold, get_or, append-nil, Option, Some, None, Result, Ok, Err, refl, sym, ap, subst, arith}
+use Rattle.std.proofs.Common.{◌≡◌, ◌∙◌, ◌<◌, ◌≤◌, ℕ, suc, ◌+◌, Bool, true, false, cond, nat_lt, eqb, max, filter, List, [], ◌∷◌, ◌++◌, length, take, drop, fold, get_or, append-nil, Option, Some, None, Result, Ok, Err, refl, sym, ap, subst, arith}
 use Rattle.std.specs.List.{list_any}
 use Rattle.std.proofs.lemmas.List.{drop_all, take_all}
 use Rattle.std.proofs.lemmas.List.Elements.{filter_more}
@@ -128,9 +128,9 @@ module _ (store : Store) (a told : PlainArray) (places : ℕ) (is : IsArrayOf st
 
 -- ---- the indices in both lists
 
-pub none_common : (first second : List ℕ) (i : ℕ) → i ≡ 0 → [] ≡ in_both (take i first) second
+pub none_common : (second : List ℕ) → [] ≡ in_both [] second
 unfolding in_both
-none_common first second i z = ap (λ k. filter (λ index. list_any (λ other. eqb other index) second) (take k first)) (sym z)
+none_common second = refl
 
 pub more_common : (first second : List ℕ) (i : ℕ) → i < length first
     → in_both (take (i + 1) first) second ≡ in_both (take i first) second ++ cond (list_any (λ other. eqb other (get_or first i 0)) second) (get_or first i 0 ∷ []) []
@@ -200,6 +200,6 @@ module _ (store : Store) (slashing : AttesterSlashing) where
       ap event_of (sym handled ∙ ap (λ o. bind o (λ _. done (fold with_equivocating store (in_both slashing.attestation_1.attesting_indices slashing.attestation_2.attesting_indices)))) e)
       ∙ ap accepted (ap (fold with_equivocating store) (sym common) ∙ sym is)
 
-pub ruleset common = (none_common, common_more, common_less, all_common)
+pub ruleset common = (common_more, common_less, all_common)
 
 pub ruleset slashing = (slashing_stops)
