@@ -8,6 +8,7 @@ pub mod AnchorReaders
 pub mod Commands
 pub mod InMemory
 pub mod Drilled
+pub mod Feeding
 pub mod MakingGenesis
 pub mod Texts
 pub mod DutyLines

@@ -1,6 +1,7 @@
 pub mod AnchorAnswers
 pub mod AtEnd
 pub mod Duties
+pub mod Feeds
 pub mod Files
 pub mod Following
 pub mod GenesisAnswers

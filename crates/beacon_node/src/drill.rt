@@ -17,11 +17,13 @@ ghost use Rattle.safety_law.specs.Follows.{Follows};
 ghost use Rattle.beacon_node.specs.Answers.{OutsideKeeps, Replayed, whole_of};
 ghost use Rattle.chain_maker.specs.Source.{begun, made_source};
 ghost use Rattle.beacon_node.specs.inside.Drilled.{AreMakers, Digested, DrillTold, Finished, OwnTold, SplitTold, WritesOut, chains_to_come, is_done, own_lines};
+ghost use Rattle.beacon_node.specs.inside.Feeds.{Keeps};
 ghost use Rattle.beacon_node.specs.inside.Following.{FollowsOutside, IsFollowing, Leaves, SameBeside, followed_by, others_of, which_of};
 ghost use Rattle.beacon_node.specs.inside.Histories.{IsGenesis};
 ghost use Rattle.beacon_node.specs.inside.Progress.{tally_at};
 
 use crate::events::{Counts, replay_events, unwritten};
+use crate::feed::MadeFeed;
 use crate::follow::{Side, follow_events};
 use crate::histories::{Histories, find, open_histories, store_at};
 use crate::lines::{six_lines, two_lines};
@@ -81,15 +83,17 @@ fn digest_events<F: Shelf, O: Sink>(
 ) -> (Status, Root)
     requires few { length store.old.plain.blocks ≤ 1 }
     requires new { maker ≡ new_maker maker.plan }
+    requires keeps { Keeps store.old.plain maker }
     requires none { (counts.old.events ≡ 0) × (counts.old.accepted ≡ 0) }
     ensures over { Digested result.0 result.1 (tally_at store.old.plain counts.old) (made_source (begun maker)) (F.told shelf.old) (F.told shelf.new)
         (tally_at store.new.plain counts.new) }
     ensures command { result.0 ≢ Status.Words }
     ensures outside { (took : SinkTold) → OutsideKeeps [] (Some result.0) (F.told shelf.old) (F.told shelf.new) took took }
 {
-    let mut events = MadeEvents::new(alloc, maker);
+    let events = MadeEvents::new(alloc, maker);
+    let mut feed = MadeFeed::new(events);
     let mut lines = HashSink::new(alloc, out);
-    let status = replay_events(alloc, &mut events, store, counts, shelf, &mut lines);
+    let status = replay_events(alloc, &mut feed, store, counts, shelf, &mut lines);
     (status, lines.digest())
 }
 
@@ -103,6 +107,7 @@ fn chain_lines<F: Shelf, O: Sink>(
 ) -> Result<Vec<u8>, Status>
     requires few { length store.plain.blocks ≤ 1 }
     requires new { maker ≡ new_maker maker.plan }
+    requires keeps { Keeps store.plain maker }
     ensures told { OwnTold (λ lines. lines.items) result (with_events 1 store.plain (events_to_come 0 (to_come maker))).end (own_lines store.plain (events_to_come 0 (to_come maker))) }
     ensures still { F.told shelf.new ≡ F.told shelf.old }
     ensures outside { FollowsOutside [] result (F.told shelf.old) (F.told shelf.new) }
@@ -242,6 +247,7 @@ fn all_lines<F: Shelf, O: Sink>(
 ) -> Result<Vec<u8>, Status>
     requires genesis { IsGenesis config.now genesis }
     requires makers { AreMakers makers.own.plan makers }
+    requires keeps { Keeps (genesis_store config.now genesis) makers.own }
     ensures told { DrillTold (λ lines. lines.items) result (drill_store (genesis_clash genesis) genesis (genesis_store config.now genesis) (chains_to_come makers)) }
     ensures still { F.told shelf.new ≡ F.told shelf.old }
     ensures outside { FollowsOutside [] result (F.told shelf.old) (F.told shelf.new) }
@@ -276,6 +282,7 @@ fn drill_from<F: Shelf, O: Sink>(
 ) -> Status
     requires genesis { IsGenesis config.now genesis }
     requires makers { AreMakers makers.own.plan makers }
+    requires keeps { Keeps (genesis_store config.now genesis) makers.own }
     ensures over { Finished result (drill_store (genesis_clash genesis) genesis (genesis_store config.now genesis) (chains_to_come makers))
         (O.told out.old).taken (O.told out.new).taken }
     ensures still { F.told shelf.new ≡ F.told shelf.old }

@@ -8,6 +8,7 @@ ghost use Rattle.beacon_node.specs.Answers.{OutsideKeeps, Replayed, taken_of};
 ghost use Rattle.beacon_node.specs.inside.Statuses.{unwritten, no_event};
 ghost use Rattle.beacon_node.specs.inside.Progress.{Progress, OneMore, EventsOver, HasLine, IsCounted, EndsAt, outcome_of, tally_at};
 
+use crate::feed::StoreSource;
 use crate::head::head_of;
 use crate::lines::{accepted_line, refused_line};
 use crate::reading::unread;
@@ -15,7 +16,7 @@ use crate::status::Status;
 use bc_outside::{Shelf, Sink, Trouble, write_all};
 use bc_words::{NoMemory, StoreStop};
 use fork_store::Store;
-use record_file::{Event, EventSource, Frames, SourceStop};
+use record_file::{Event, Frames, SourceStop};
 use std::alloc::Global;
 
 /// How many events were handed to the store, and how many of them it accepted.
@@ -39,9 +40,10 @@ fn line_or_status(line: Result<Vec<u8>, NoMemory>) -> Result<Vec<u8>, Status>
 }
 
 /// Hands the event to the store, counts it, and makes its line. The status where the event ends the run.
-#[tactic(auto, using(spec_fork_choice::proofs::Grows::event_keeps_one_more, record_file::proofs::Supplying::kind_first, record_file::proofs::Supplying::kind_last), unfolding(spec_replay::specs::Run::event_then))]
-fn handle_event(
+#[tactic(auto, using(spec_fork_choice::proofs::Grows::event_keeps_one_more), unfolding(spec_replay::specs::Run::event_then))]
+fn handle_event<S: StoreSource>(
     alloc: Global,
+    source: &mut S,
     number: u32,
     event: &Event,
     store: &mut Store,
@@ -51,14 +53,17 @@ fn handle_event(
     requires events { counts.old.events < 2 ^ 32 - 1 }
     requires accepted { counts.old.accepted < 2 ^ 32 - 1 }
     requires kind { is_kind event.now.kind ≡ true }
+    requires awaits { S.awaits source.old store.old.plain }
     ensures few { IfOk result (λ _. length store.new.plain.blocks ≤ length store.old.plain.blocks + 1) }
     ensures line { IfOk result (λ line. HasLine number event.now store.old.plain store.new.plain line.items) }
     ensures counted { IfOk result (λ _. IsCounted event.now (tally_at store.old.plain counts.old) (tally_at store.new.plain counts.new)) }
     ensures one { counts.new.events ≤ counts.old.events + 1 }
     ensures at_most { counts.new.accepted ≤ counts.old.accepted + 1 }
     ensures over { IfErr result (λ status. EndsAt status number (outcome_of store.old.plain event.now)) }
+    ensures fits { IfOk result (λ _. S.fits source.new store.new.plain) }
+    ensures seen { S.seen source.new ≡ S.seen source.old }
 {
-    match store.on_event(alloc, event.kind, event.payload.as_slice()) {
+    match source.hand(alloc, event, store) {
         Ok(given) => {
             counts.events += 1;
             counts.accepted += 1;
@@ -126,7 +131,7 @@ fn tell_head<O: Sink>(store: &mut Store, out: &O)
 }
 
 /// Takes the next event: hands it to the store, and writes its line. The status where the run is over.
-fn replay_event<S: EventSource, F: Shelf, O: Sink>(
+fn replay_event<S: StoreSource, F: Shelf, O: Sink>(
     alloc: Global,
     source: &mut S,
     store: &mut Store,
@@ -138,20 +143,22 @@ fn replay_event<S: EventSource, F: Shelf, O: Sink>(
     requires few { length store.old.plain.blocks ≤ (S.seen source.old).events + 1 }
     requires events { counts.old.events ≤ (S.seen source.old).events }
     requires accepted { counts.old.accepted ≤ (S.seen source.old).events }
+    requires fits { S.fits source.old store.old.plain }
     ensures goes_on { IfNone result (Progress (tally_at store.old.plain counts.old) (S.seen source.old) (F.told shelf.old) (O.told out.old).taken
         (tally_at store.new.plain counts.new) (S.seen source.new) (F.told shelf.new) (O.told out.new).taken
         × OneMore (S.seen source.old) (S.seen source.new) × (length store.new.plain.blocks ≤ (S.seen source.new).events + 1)
-        × (counts.new.events ≤ (S.seen source.new).events) × (counts.new.accepted ≤ (S.seen source.new).events)) }
+        × (counts.new.events ≤ (S.seen source.new).events) × (counts.new.accepted ≤ (S.seen source.new).events) × S.fits source.new store.new.plain) }
     ensures over { IfSome result (λ status. EventsOver status (tally_at store.old.plain counts.old) (S.seen source.old) (F.told shelf.old) (F.told shelf.new)
         (O.told out.old).taken (O.told out.new).taken (tally_at store.new.plain counts.new)) }
     ensures outside { OutsideKeeps [] result (F.told shelf.old) (F.told shelf.new) (O.told out.old) (O.told out.new) }
 {
-    let event = match source.next_event(shelf) {
+    let event = match source.next_for(shelf) {
         Ok(Some(event)) => event,
         Ok(None) => return Some(Status::Done),
         Err(stop) => return Some(no_event(stop)),
     };
-    let line = match handle_event(alloc, source.given(), &event, store, counts) {
+    let number = source.given();
+    let line = match handle_event(alloc, source, number, &event, store, counts) {
         Ok(line) => line,
         Err(status) => return Some(status),
     };
@@ -165,7 +172,7 @@ fn replay_event<S: EventSource, F: Shelf, O: Sink>(
 }
 
 /// Takes the events that are to come, one by one, wherever they come from, and counts them.
-pub fn replay_events<S: EventSource, F: Shelf, O: Sink>(
+pub fn replay_events<S: StoreSource, F: Shelf, O: Sink>(
     alloc: Global,
     source: &mut S,
     store: &mut Store,
@@ -177,6 +184,7 @@ pub fn replay_events<S: EventSource, F: Shelf, O: Sink>(
     requires few { length store.old.plain.blocks ≤ (S.seen source.old).events + 1 }
     requires events { counts.old.events ≤ (S.seen source.old).events }
     requires accepted { counts.old.accepted ≤ (S.seen source.old).events }
+    requires fits { S.fits source.old store.old.plain }
     ensures over { EventsOver result (tally_at store.old.plain counts.old) (S.seen source.old) (F.told shelf.old) (F.told shelf.new)
         (O.told out.old).taken (O.told out.new).taken (tally_at store.new.plain counts.new) }
     ensures command { result ≢ Status.Words }

@@ -5,6 +5,7 @@ mod anchor;
 mod drill;
 mod duty_lines;
 mod events;
+mod feed;
 mod follow;
 mod forensic;
 mod genesis;
@@ -20,6 +21,7 @@ mod status;
 mod tell_duties;
 mod top;
 
+pub use feed::{MadeFeed, StoreSource};
 pub use law::{
     findings_are_of_the_records, made_genesis_is_replayed, runs_in_memory, soundness_is_tested,
     versions_run_alike,

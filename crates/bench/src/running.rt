@@ -93,7 +93,7 @@ fn take_event(
 }
 
 /// Takes the head.
-fn take_head(rt: &impl CpuClock, store: &mut Store, times: &mut Times) {
+pub fn take_head(rt: &impl CpuClock, store: &mut Store, times: &mut Times) {
     let begin = now(rt);
     let _head = counted::<Brand>(store, Blank::new(1));
     times.heads = times.heads.plus(time_since(rt, begin));

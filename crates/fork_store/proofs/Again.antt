@@ -28,7 +28,7 @@ use Rattle.fork_store.proofs.Presets.{found}
 use Rattle.fork_store.proofs.Stepping.{on_parent}
 
 -- a step doesn't see the signature
-unsigned : (config : ConfigValues) (s : PlainState) (x y : SignedBeaconBlock) → x.message ≡ y.message → state_transition s x config ≡ state_transition s y config
+pub unsigned : (config : ConfigValues) (s : PlainState) (x y : SignedBeaconBlock) → x.message ≡ y.message → state_transition s x config ≡ state_transition s y config
 unfolding state_transition
 unsigned config s x y same = ap (λ (m : BeaconBlock). state_transition s (record { message = m; signature = y.signature }) config) same
 

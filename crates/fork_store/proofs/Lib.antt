@@ -41,5 +41,7 @@ pub mod CheckpointStates
 pub mod Keepers
 pub mod Stepping
 pub mod Again
+pub mod KeptStates
+pub mod KeptConfigs
 pub mod Stays
 pub mod StoreStays

@@ -4,6 +4,7 @@ pub mod ChainStep
 pub mod Done
 pub mod Events
 pub mod Keepers
+pub mod KeptStates
 pub mod KeptSteps
 pub mod Roots
 pub mod Seen

@@ -28,6 +28,7 @@ mod settle;
 mod should_update_justified_checkpoint;
 mod slots;
 mod state_at;
+mod stepped;
 mod store;
 mod store_fields;
 mod store_target_checkpoint_state;

@@ -106,7 +106,7 @@ fn step_from<V: Visitor>(
 
 /// The number of a block's parent. Refused where it isn't kept.
 #[tactic(auto, using(crate::proofs::Stepping::parent_unknown))]
-fn parent_number(store: &StoreFields, block: &SignedBeaconBlock) -> Result<u32, Stop>
+pub fn parent_number(store: &StoreFields, block: &SignedBeaconBlock) -> Result<u32, Stop>
     requires few { length store.now.blocks < 2 ^ 32 }
     ensures number { IfOk result (λ parent. Some parent ≡ node_number store.now.blocks block.now.message.parent_root) }
     ensures unknown { IfErr result (λ stop. Stops stop (block_step store.now block.now)) }
@@ -388,7 +388,7 @@ fn accept(
 
 /// Takes a valid block into the store, unless its root is no name for it alone.
 #[tactic(auto, using(crate::proofs::Steps::is_kept))]
-fn accept_unless(
+pub fn accept_unless(
     alloc: Global,
     store: &mut StoreFields,
     keeper: &mut Keeper<ChainStepper>,

@@ -1,8 +1,10 @@
 -- The stores don't open, the own chain or its split ends the run, or all is told.
-use Rattle.std.proofs.Common.{[]}
+use Rattle.std.proofs.Common.{[], subst, sym}
+use Rattle.spec_fork_choice.specs.Store.{Store}
 use Rattle.spec_fork_choice.specs.GetForkchoiceStore.{genesis_store}
 use Rattle.spec_fork_choice.specs.OnEvent.{genesis_clash}
 use Rattle.beacon_node.specs.inside.Drilled.{chains_to_come}
+use Rattle.beacon_node.specs.inside.Feeds.{Keeps}
 use Rattle.beacon_node.proofs.Drilled.{all_told, drill_memory, not_opened, own_over, split_over, still_new}
 use Rattle.beacon_node.proofs.Following.{outside_behind}
 use Rattle.beacon_node.proofs.Forensics.{ended_outside, made_outside, memory_outside, opening_follows}
@@ -11,6 +13,9 @@ use Rattle.beacon_node.proofs.drill.all_lines.Goals as goal
 
 pub chain_lines-requires-clause-few : goal.chain_lines-requires-clause-few
 chain_lines-requires-clause-few g c = one_kept c.args.config.now c.args.genesis c.in-Ok.store.plain c.in-Ok.ensures.opened.is
+
+pub chain_lines-requires-clause-keeps : goal.chain_lines-requires-clause-keeps
+chain_lines-requires-clause-keeps g c = subst (λ (s : Store). Keeps s c.args.makers.own) (sym c.in-Ok.ensures.opened.is) c.requires.keeps
 
 pub split_lines-requires-clause-new : goal.split_lines-requires-clause-new
 split_lines-requires-clause-new g c = (still_new _ c.args.makers.first c.requires.makers.first, still_new _ c.args.makers.second c.requires.makers.second)

@@ -6,7 +6,7 @@ use Rattle.forensics.specs.Books.{history_of}
 use Rattle.beacon_node.specs.declared.follow.Side.TheVariants.{Second}
 use Rattle.beacon_node.specs.inside.Following.{followed_by}
 use Rattle.beacon_node.proofs.Drilled.{second_over, second_told}
-use Rattle.beacon_node.proofs.Forensics.{ended_outside, made_outside}
+use Rattle.beacon_node.proofs.Forensics.{ended_outside, made_outside, memory_outside}
 use Rattle.beacon_node.proofs.Openings.{beside_first, second_follows, still_first, two_of}
 use Rattle.beacon_node.proofs.drill.second_lines.Goals as goal
 
@@ -30,6 +30,7 @@ returns-in-Ok-found_lines-clause-told g c =
     (c.in-Ok-found_lines.ensures ∙ two_of (Second c.args.first) c.args.book c.follow_made.new.book refl c.follow_made.ensures.same c.args.genesis.now c.args.first.now.plain c.follow_made.new.store.plain c.requires.genesis)
 
 pub returns-clause-told : goal.returns-clause-told
+unfolding history_of
 returns-clause-told g c =
     second_over c.args.genesis.now c.args.second.plain (record { store = c.args.first.now.plain; history = history_of c.args.book 0 }) (Second c.args.first) refl (rw c.requires.genesis at c.requires.first.blocks) (events_to_come 0 (to_come c.args.maker))
     c.in-Err.status (followed_by (Second c.args.first) c.follow_made.new.store.plain c.follow_made.new.book) c.in-Err.ensures.followed
@@ -39,3 +40,6 @@ returns-in-Ok-found_lines-clause-outside g c = made_outside [] _ _ c.in-Ok.ensur
 
 pub returns-clause-outside : goal.returns-clause-outside
 returns-clause-outside g c = ended_outside [] c.in-Err.status c.in-Err.ensures.outside
+
+pub returns-in-Ok-clause-outside : goal.returns-in-Ok-clause-outside
+returns-in-Ok-clause-outside g c = memory_outside [] _ c.in-Ok.ensures.outside

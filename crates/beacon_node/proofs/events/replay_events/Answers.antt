@@ -14,6 +14,7 @@ events-init g c = record {
   few = c.requires.few;
   events = c.requires.events;
   accepted = c.requires.accepted;
+  fits = c.requires.fits;
 }
 
 pub replay_event-requires-clause-opened : goal.replay_event-requires-clause-opened
@@ -28,6 +29,7 @@ events-preserved g c = record {
   few = c.in_default.ensures.goes_on.2;
   events = c.in_default.ensures.goes_on.3;
   accepted = c.in_default.ensures.goes_on.4;
+  fits = c.in_default.ensures.goes_on.5;
 }
 
 pub returns-in-Some-clause-over : goal.returns-in-Some-clause-over

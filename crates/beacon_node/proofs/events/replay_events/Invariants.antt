@@ -12,6 +12,7 @@ invariant-events g l = record {
   few : length l.store.plain.blocks ≤ (g.S.EventSource.seen l.source).events + 1;
   events : l.counts.events ≤ (g.S.EventSource.seen l.source).events;
   accepted : l.counts.accepted ≤ (g.S.EventSource.seen l.source).events;
+  fits : g.S.StoreSource.fits l.source l.store.plain;
 }
 
 abbrev pub decreases-events : goal.decreases-events

@@ -50,9 +50,9 @@ returns-in-Err-Refused-clause-followed c =
 pub returns-in-Err-Limit-clause-over : goal.returns-in-Err-Limit-clause-over
 returns-in-Err-Limit-clause-over c =
     let exact = rw (c.in-Err-Limit.field-0-is, c.as_slice-2.ensures) at c.in-Err-Limit.ensures.exact in
-    rw c.limited.ensures.status (limit_ends (which_of c.args.side) (others_of c.args.side) c.args.number (followed_by c.args.side c.args.store.now.plain c.args.book.now) (outcome_of c.args.store.now.plain c.args.event.now) c.in-Err-Limit.limit exact.1)
+    rw (c.limited.ensures.status, c.in-Err-Limit.field-0-is) (limit_ends (which_of c.args.side) (others_of c.args.side) c.args.number (followed_by c.args.side c.args.store.now.plain c.args.book.now) (outcome_of c.args.store.now.plain c.args.event.now) c.in-Err-Limit.limit exact.1)
 
 pub returns-in-Err-Clash-clause-over : goal.returns-in-Err-Clash-clause-over
 returns-in-Err-Clash-clause-over c =
     let exact = rw (c.in-Err-Clash.field-0-is, c.as_slice-2.ensures) at c.in-Err-Clash.ensures.exact in
-    rw c.clashed.ensures.status (clash_ends (which_of c.args.side) (others_of c.args.side) c.args.number (followed_by c.args.side c.args.store.now.plain c.args.book.now) (outcome_of c.args.store.now.plain c.args.event.now) c.in-Err-Clash.kind exact.1)
+    rw (c.clashed.ensures.status, c.in-Err-Clash.field-0-is) (clash_ends (which_of c.args.side) (others_of c.args.side) c.args.number (followed_by c.args.side c.args.store.now.plain c.args.book.now) (outcome_of c.args.store.now.plain c.args.event.now) c.in-Err-Clash.kind exact.1)
