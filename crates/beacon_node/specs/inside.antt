@@ -12,3 +12,4 @@ pub mod Reading
 pub mod Statuses
 pub mod Drilled
 pub mod Texts
+pub mod Nodes

@@ -6,4 +6,5 @@ pub mod Make
 pub mod AsEvents
 pub mod Taken
 pub mod Maker
+pub mod Deliveries
 pub mod inside

@@ -1,0 +1,96 @@
+-- Nodes that are delivered the events of two made chains: what was done of a node's events, and what its blocks stand for.
+use Rattle.std.specs.Prelude.{◌≡◌, ◌≢◌, ℕ, ◌+◌, false, List, [], ◌∷◌, ◌++◌, All, flat_map, map, reverse, Option, Some, None, Result, Ok, Err}
+use Rattle.bc_preset.specs.declared.configuration.ConfigValues.{ConfigValues}
+use Rattle.record_file.specs.Record as record_file
+use Rattle.record_file.specs.Record.{Events}
+use Rattle.record_file.specs.declared.event.Event.{Event}
+use Rattle.spec_state.specs.declared.plain.PlainState.{PlainState}
+use Rattle.spec_forensics.specs.Histories.{AcceptedBlock}
+use Rattle.spec_forensics.specs.Clash.{clash_among, first_accepted}
+use Rattle.spec_replay.specs.Run.{Run, End, done, record_end, replay_events}
+use Rattle.spec_replay.specs.Drill.{Tally, tally_of}
+use Rattle.spec_replay.specs.Forensic.{Followed, follow_events}
+use Rattle.spec_drill.specs.Deliveries.{delivered}
+use Rattle.spec_replay.specs.Nodes.{Node, chain_of_node}
+use Rattle.safety_law.specs.Follows.{Follows}
+use Rattle.beacon_node.specs.declared.node.Node as code
+use Rattle.beacon_node.specs.declared.node.NodeBlock.{NodeBlock}
+use Rattle.beacon_node.specs.declared.node.Delivered.{Delivered}
+use Rattle.beacon_node.specs.declared.status.Status.{Status}
+use Rattle.beacon_node.specs.declared.status.Status.TheVariants as statuses
+use Rattle.beacon_node.specs.Answers.{breaks_off, end_of}
+
+-- ---- a node's blocks
+
+-- the accepted block that an entry stands for
+abbrev pub added_of : NodeBlock → AcceptedBlock
+added_of b = record { event = b.event; root = b.root; block = b.block.value; state = b.state; entered = b.watch.entered }
+
+-- the history of entries; it has the latest block first
+abbrev pub history_in : List NodeBlock → List AcceptedBlock
+history_in blocks = reverse (map added_of blocks)
+
+-- no block's root is a name for another block among those before it, genesis among them
+abbrev pub AreClear : PlainState → List AcceptedBlock → Type 0
+AreClear genesis [] = Unit {0}
+AreClear genesis (b ∷ earlier) = (clash_among (first_accepted genesis earlier) b.root b.block ≡ None) × AreClear genesis earlier
+
+-- What always holds of a node: its store follows the history that its entries stand for.
+pub record IsNode (config : ConfigValues) (genesis : PlainState) (node : code.Node) : Type 0 where
+  pub follows : Follows config genesis (history_in node.blocks.items) node.store.plain
+  pub clear : AreClear genesis (history_in node.blocks.items)
+  pub watches : All (λ b. b.watch.genesis ≡ genesis) node.blocks.items
+
+-- ---- its events
+
+-- the store and the history of a node
+abbrev pub followed_in : code.Node → Followed
+followed_in node = record { store = node.store.plain; history = history_in node.blocks.items }
+
+-- what is left behind the events that are to come, the first of which has this number
+abbrev pub node_left : ℕ → code.Node → List Event → Result Followed End
+node_left number node events = follow_events node.number [] number (followed_in node) events record_file.done
+
+-- the lines of all of its events
+abbrev pub lines_left : ℕ → code.Node → List Event → List ℕ
+lines_left number node events = node.lines.items ++ (replay_events number node.store.plain events done).lines
+
+-- and how many of them were accepted, with the store behind them
+abbrev pub tally_left : ℕ → code.Node → List Event → Tally
+tally_left given node events = tally_of (record { store = node.store.plain; events = given; accepted = node.accepted }) events
+
+-- So many events were given before, and this one was taken. What comes of all events is what comes of those behind it.
+pub record OneTaken (given : ℕ) (event : Event) (old new : code.Node) : Type 0 where
+  pub number : new.number ≡ old.number
+  pub left : (later : List Event) → node_left (given + 1) old (event ∷ later) ≡ node_left (given + 1 + 1) new later
+  pub lines : (later : List Event) → lines_left (given + 1) old (event ∷ later) ≡ lines_left (given + 1 + 1) new later
+  pub tally : (later : List Event) → tally_left given old (event ∷ later) ≡ tally_left (given + 1) new later
+
+-- The run ends with this status, unless it was broken off.
+abbrev pub NodeEnds : {A : Type 0} → Status → Result A End → Type 0
+NodeEnds status left = breaks_off status ≡ false → (end : End) × (Some end ≡ end_of status) × (left ≡ Err end)
+
+-- One of the events of a chain with this number can't be made, or the run was broken off.
+pub record EndsMaking (status : Status) (which : ℕ) (events : Events) : Type 0 where
+  pub ends : breaks_off status ≡ false → Some (record_end which events.end) ≡ end_of status
+  pub done : status ≢ statuses.Done
+
+-- a node as the definitions have it, which was delivered these events
+abbrev pub plain_node : List Event → code.Node → Node
+plain_node events node = record { number = node.number; events = events; followed = followed_in node }
+
+-- and the one of a number, which was delivered what it gets of two chains
+abbrev pub node_given : ℕ → List Event → List Event → Delivered → Node
+node_given number first second given = plain_node (delivered number given.node.number (chain_of_node given.node.number first second)) given.node
+
+-- ---- lines
+
+-- lines, and then others, unless these end the run
+abbrev pub lines_behind : List (List ℕ) → Result (List (List ℕ)) End → Result (List (List ℕ)) End
+lines_behind lines (Ok more) = Ok (lines ++ more)
+lines_behind lines (Err end) = Err end
+
+-- These lines were made, one after the other; or the run ends.
+abbrev pub LinesTold : {V : Type 0} → (V → List ℕ) → Result V Status → Result (List (List ℕ)) End → Type 0
+LinesTold items (Ok made) lines = (more : List (List ℕ)) × (lines ≡ Ok more) × (items made ≡ flat_map (λ line. line) more)
+LinesTold items (Err status) lines = NodeEnds status lines
