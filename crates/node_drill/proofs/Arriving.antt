@@ -4,26 +4,27 @@ use Rattle.std.proofs.lemmas.List.{drop_more, drop_all}
 use Rattle.record_file.specs.declared.event.Event.{Event}
 use Rattle.spec_drill.specs.declared.delivery.Delivery.{Delivery}
 use Rattle.spec_drill.specs.declared.delivery.Delivery.TheVariants.{Tick, Once, Twice, Late}
-use Rattle.spec_drill.specs.Deliveries.{delivery_of, deliveries, in_order}
+use Rattle.spec_drill.specs.Deliveries.{delivery_of, deliveries}
+use Rattle.node_drill.specs.inside.Arrivals.{arrivals}
 
 -- what was delivered before, and then the rest
-pub tick_comes : (before waiting : List ℕ) (place : ℕ) (later : List Delivery) → ((before ++ place ∷ []) ++ waiting) ++ in_order [] (place + 1) later ≡ before ++ in_order waiting place (Tick ∷ later)
-unfolding in_order
+pub tick_comes : (before waiting : List ℕ) (place : ℕ) (later : List Delivery) → ((before ++ place ∷ []) ++ waiting) ++ arrivals [] (place + 1) later ≡ before ++ arrivals waiting place (Tick ∷ later)
+unfolding arrivals
 tick_comes before waiting place later =
-    append_assoc (before ++ place ∷ []) waiting (in_order [] (place + 1) later) ∙ append_assoc before (place ∷ []) (waiting ++ in_order [] (place + 1) later)
+    append_assoc (before ++ place ∷ []) waiting (arrivals [] (place + 1) later) ∙ append_assoc before (place ∷ []) (waiting ++ arrivals [] (place + 1) later)
 
-pub once_comes : (before waiting : List ℕ) (place : ℕ) (later : List Delivery) → (before ++ place ∷ []) ++ in_order waiting (place + 1) later ≡ before ++ in_order waiting place (Once ∷ later)
-unfolding in_order
-once_comes before waiting place later = append_assoc before (place ∷ []) (in_order waiting (place + 1) later)
+pub once_comes : (before waiting : List ℕ) (place : ℕ) (later : List Delivery) → (before ++ place ∷ []) ++ arrivals waiting (place + 1) later ≡ before ++ arrivals waiting place (Once ∷ later)
+unfolding arrivals
+once_comes before waiting place later = append_assoc before (place ∷ []) (arrivals waiting (place + 1) later)
 
 pub twice_comes : (before waiting : List ℕ) (place : ℕ) (later : List Delivery)
-    → ((before ++ place ∷ []) ++ place ∷ []) ++ in_order waiting (place + 1) later ≡ before ++ in_order waiting place (Twice ∷ later)
-unfolding in_order
+    → ((before ++ place ∷ []) ++ place ∷ []) ++ arrivals waiting (place + 1) later ≡ before ++ arrivals waiting place (Twice ∷ later)
+unfolding arrivals
 twice_comes before waiting place later =
-    append_assoc (before ++ place ∷ []) (place ∷ []) (in_order waiting (place + 1) later) ∙ append_assoc before (place ∷ []) (place ∷ in_order waiting (place + 1) later)
+    append_assoc (before ++ place ∷ []) (place ∷ []) (arrivals waiting (place + 1) later) ∙ append_assoc before (place ∷ []) (place ∷ arrivals waiting (place + 1) later)
 
-pub late_comes : (before waiting : List ℕ) (place : ℕ) (later : List Delivery) → before ++ in_order (waiting ++ place ∷ []) (place + 1) later ≡ before ++ in_order waiting place (Late ∷ later)
-unfolding in_order
+pub late_comes : (before waiting : List ℕ) (place : ℕ) (later : List Delivery) → before ++ arrivals (waiting ++ place ∷ []) (place + 1) later ≡ before ++ arrivals waiting place (Late ∷ later)
+unfolding arrivals
 late_comes before waiting place later = refl
 
 -- the events from a place on, of which this is the first
@@ -31,8 +32,8 @@ pub next_delivery : (events : List Event) (number node i : ℕ) (event : Event) 
 unfolding deliveries
 next_delivery events number node i event = refl
 
-pub all_came : (number node i place : ℕ) (waiting : List ℕ) → in_order waiting place (deliveries number node i []) ≡ waiting
-unfolding deliveries in_order
+pub all_came : (number node i place : ℕ) (waiting : List ℕ) → arrivals waiting place (deliveries number node i []) ≡ waiting
+unfolding deliveries arrivals
 all_came number node i place waiting = refl
 
 -- the event at a place is the first of those from there on
@@ -47,6 +48,6 @@ one_more events number node place event delivery low is comes =
 
 -- behind the last event what waits still comes
 pub what_waits : (events : List Event) (number node place : ℕ) (waiting : List ℕ) → length events ≤ place
-    → waiting ≡ in_order waiting place (deliveries number node (place + 1) (drop place events))
+    → waiting ≡ arrivals waiting place (deliveries number node (place + 1) (drop place events))
 what_waits events number node place waiting end =
-    sym (ap (λ (later : List Event). in_order waiting place (deliveries number node (place + 1) later)) (drop_all place events end) ∙ all_came number node (place + 1) place waiting)
+    sym (ap (λ (later : List Event). arrivals waiting place (deliveries number node (place + 1) later)) (drop_all place events end) ∙ all_came number node (place + 1) place waiting)

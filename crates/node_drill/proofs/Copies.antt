@@ -6,7 +6,9 @@ use Rattle.std.proofs.lemmas.List.Elements.{All-nil, All-cons, All-append, All-p
 use Rattle.record_file.specs.declared.event.Event.{Event}
 use Rattle.spec_drill.specs.declared.delivery.Delivery.{Delivery}
 use Rattle.spec_drill.specs.declared.delivery.Delivery.TheVariants.{Tick, Once, Twice, Late}
-use Rattle.spec_drill.specs.Deliveries.{deliveries, in_order, delivered_places, IsEachOnceOrTwice}
+use Rattle.spec_drill.specs.Deliveries.{deliveries, delivered_places, IsEachOnceOrTwice}
+use Rattle.node_drill.specs.inside.Arrivals.{arrivals}
+use Rattle.node_drill.proofs.Order.{as_they_arrive}
 
 -- how often an event is delivered that comes so
 abbrev times : Delivery → ℕ
@@ -26,25 +28,25 @@ abbrev copies : (ℕ → Bool) → ℕ → List Delivery → ℕ
 copies test place [] = 0
 copies test place (d ∷ later) = times d * cond (test place) 1 0 + copies test (place + 1) later
 
-counted : (ds : List Delivery) (test : ℕ → Bool) (waiting : List ℕ) (place : ℕ) → count_by test (in_order waiting place ds) ≡ count_by test waiting + copies test place ds
-unfolding in_order
+counted : (ds : List Delivery) (test : ℕ → Bool) (waiting : List ℕ) (place : ℕ) → count_by test (arrivals waiting place ds) ≡ count_by test waiting + copies test place ds
+unfolding arrivals
 counted [] test waiting place = sym (add-zero (count_by test waiting))
 counted (Tick ∷ later) test waiting place =
     let pass : ℕ → ℕ = λ x. cond (test x) 1 0 in
-    let rest : List ℕ = in_order [] (place + 1) later in
+    let rest : List ℕ = arrivals [] (place + 1) later in
     let whole = sum_by-cons pass place (waiting ++ rest) in
     let parts = sum_by-append pass waiting rest in
     let others = counted later test [] (place + 1) in
     omega (arith, whole, parts, others)
 counted (Once ∷ later) test waiting place =
     let pass : ℕ → ℕ = λ x. cond (test x) 1 0 in
-    let rest : List ℕ = in_order waiting (place + 1) later in
+    let rest : List ℕ = arrivals waiting (place + 1) later in
     let whole = sum_by-cons pass place rest in
     let others = counted later test waiting (place + 1) in
     omega (arith, whole, others)
 counted (Twice ∷ later) test waiting place =
     let pass : ℕ → ℕ = λ x. cond (test x) 1 0 in
-    let rest : List ℕ = in_order waiting (place + 1) later in
+    let rest : List ℕ = arrivals waiting (place + 1) later in
     let whole = sum_by-cons pass place (place ∷ rest) in
     let again = sum_by-cons pass place rest in
     let others = counted later test waiting (place + 1) in
@@ -83,15 +85,15 @@ some_copies (d ∷ later) place from low high =
     ]
 
 -- nothing else is delivered
-stay_within : (ds : List Delivery) (waiting : List ℕ) (place end : ℕ) → place + length ds ≤ end → All (λ p. p < end) waiting → All (λ p. p < end) (in_order waiting place ds)
-unfolding in_order
+stay_within : (ds : List Delivery) (waiting : List ℕ) (place end : ℕ) → place + length ds ≤ end → All (λ p. p < end) waiting → All (λ p. p < end) (arrivals waiting place ds)
+unfolding arrivals
 stay_within [] waiting place end low all = all
 stay_within (Tick ∷ later) waiting place end low all =
-    All-cons (λ p. p < end) place (waiting ++ in_order [] (place + 1) later) (omega arith) (All-append (λ p. p < end) waiting (in_order [] (place + 1) later) all (stay_within later [] (place + 1) end (omega arith) (All-nil (λ p. p < end))))
+    All-cons (λ p. p < end) place (waiting ++ arrivals [] (place + 1) later) (omega arith) (All-append (λ p. p < end) waiting (arrivals [] (place + 1) later) all (stay_within later [] (place + 1) end (omega arith) (All-nil (λ p. p < end))))
 stay_within (Once ∷ later) waiting place end low all =
-    All-cons (λ p. p < end) place (in_order waiting (place + 1) later) (omega arith) (stay_within later waiting (place + 1) end (omega arith) all)
+    All-cons (λ p. p < end) place (arrivals waiting (place + 1) later) (omega arith) (stay_within later waiting (place + 1) end (omega arith) all)
 stay_within (Twice ∷ later) waiting place end low all =
-    All-cons (λ p. p < end) place (place ∷ in_order waiting (place + 1) later) (omega arith) (All-cons (λ p. p < end) place (in_order waiting (place + 1) later) (omega arith) (stay_within later waiting (place + 1) end (omega arith) all))
+    All-cons (λ p. p < end) place (place ∷ arrivals waiting (place + 1) later) (omega arith) (All-cons (λ p. p < end) place (arrivals waiting (place + 1) later) (omega arith) (stay_within later waiting (place + 1) end (omega arith) all))
 stay_within (Late ∷ later) waiting place end low all =
     stay_within later (waiting ++ place ∷ []) (place + 1) end (omega arith) (All-push (λ p. p < end) waiting place all (omega arith))
 
@@ -102,11 +104,10 @@ length-deliveries (event ∷ later) number node i = ap (λ n. suc n) (length-del
 
 -- each event is delivered once or twice, and nothing else is
 pub each_once_or_twice : (number node : ℕ) (events : List Event) → IsEachOnceOrTwice (length events) (delivered_places number node events)
-unfolding delivered_places
 each_once_or_twice number node events =
     let ds : List Delivery = deliveries number node 1 events in
     let many : length ds ≡ length events = length-deliveries events number node 1 in
-    record {
+    rw (as_they_arrive number node events) record {
       once = λ place low.
           let all = counted ds (is_at place) [] 0 in
           let some = some_copies ds place 0 (omega arith) (omega arith) in

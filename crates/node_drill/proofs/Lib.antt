@@ -1,3 +1,4 @@
 pub mod Arriving
 pub mod Copies
+pub mod Order
 pub mod Ticks

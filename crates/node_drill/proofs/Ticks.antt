@@ -5,15 +5,10 @@ use Rattle.std.proofs.lemmas.List.Elements.{filter-append}
 use Rattle.record_file.specs.declared.event.Event.{Event}
 use Rattle.spec_drill.specs.declared.delivery.Delivery.{Delivery}
 use Rattle.spec_drill.specs.declared.delivery.Delivery.TheVariants.{Tick, Once, Twice, Late}
-use Rattle.spec_drill.specs.Deliveries.{delivery_byte, delivery_by, delivery_of, deliveries, in_order, delivered_places, is_tick, is_tick_at, AreTicksInOrder}
+use Rattle.spec_drill.specs.Deliveries.{delivery_byte, delivery_by, delivery_of, deliveries, delivered_places, comes_as_tick, is_tick, is_tick_at, AreTicksInOrder}
+use Rattle.node_drill.specs.inside.Arrivals.{arrivals}
+use Rattle.node_drill.proofs.Order.{as_they_arrive}
 use Rattle.node_drill.proofs.Copies.{length-deliveries}
-
--- whether an event that comes so is a tick
-abbrev comes_as_tick : Delivery → Bool
-comes_as_tick Tick = true
-comes_as_tick Once = false
-comes_as_tick Twice = false
-comes_as_tick Late = false
 
 -- a test passes at the ticks alone
 abbrev Agrees : (ℕ → Bool) → ℕ → List Delivery → Type 0
@@ -21,13 +16,13 @@ Agrees test place [] = Unit {0}
 Agrees test place (d ∷ later) = (test place ≡ comes_as_tick d) × Agrees test (place + 1) later
 
 in_turn : (ds : List Delivery) (test : ℕ → Bool) (waiting : List ℕ) (place : ℕ) → Agrees test place ds → filter test waiting ≡ []
-    → filter test (in_order waiting place ds) ≡ filter test (range_with_len place (length ds))
-unfolding in_order
+    → filter test (arrivals waiting place ds) ≡ filter test (range_with_len place (length ds))
+unfolding arrivals
 in_turn [] test waiting place agree none = none
 in_turn (Tick ∷ later) test waiting place agree none =
     let rest = in_turn later test [] (place + 1) agree.1 refl in
-    let same : filter test (waiting ++ in_order [] (place + 1) later) ≡ filter test (range_with_len (place + 1) (length later)) =
-    filter-append test waiting (in_order [] (place + 1) later) ∙ rw none rest in
+    let same : filter test (waiting ++ arrivals [] (place + 1) later) ≡ filter test (range_with_len (place + 1) (length later)) =
+    filter-append test waiting (arrivals [] (place + 1) later) ∙ rw none rest in
     ap (λ (xs : List ℕ). cond (test place) (place ∷ xs) xs) same
 in_turn (Once ∷ later) test waiting place agree none =
     let rest = in_turn later test waiting (place + 1) agree.1 none in
@@ -67,8 +62,8 @@ agrees (event ∷ later) number node i place test same =
     )
 
 pub ticks_in_order : (number node : ℕ) (events : List Event) → AreTicksInOrder events (delivered_places number node events)
-unfolding delivered_places
 ticks_in_order number node events = record {
-  ticks = in_turn (deliveries number node 1 events) (is_tick_at events) [] 0 (agrees events number node 1 0 (is_tick_at events) (λ k. let at : 0 + k ≡ k = omega arith in rw at refl)) refl
+  ticks = ap (filter (is_tick_at events)) (as_they_arrive number node events)
+      ∙ in_turn (deliveries number node 1 events) (is_tick_at events) [] 0 (agrees events number node 1 0 (is_tick_at events) (λ k. let at : 0 + k ≡ k = omega arith in rw at refl)) refl
       ∙ ap (λ (n : ℕ). filter (is_tick_at events) (range_with_len 0 n)) (length-deliveries events number node 1);
 }

@@ -2,7 +2,8 @@
 
 ghost use Rattle.std.specs.Prelude.{◌≡◌, ◌+◌, ◌^◌, ◌<◌, ◌∷◌, ◌++◌, List, length, IfOk};
 ghost use Rattle.spec_drill.specs.declared.delivery.Delivery.{Delivery};
-ghost use Rattle.spec_drill.specs.Deliveries.{delivery_byte, delivery_of, in_order, delivered_places, IsEachOnceOrTwice, AreTicksInOrder};
+ghost use Rattle.spec_drill.specs.Deliveries.{delivery_byte, delivery_of, delivered_places, IsEachOnceOrTwice, AreTicksInOrder};
+ghost use Rattle.node_drill.specs.inside.Arrivals.{arrivals};
 
 use bc_words::NoMemory;
 use record_file::Event;
@@ -46,7 +47,7 @@ fn arrive(
     place: u32,
     delivery: Delivery,
 ) -> Result<(), NoMemory>
-    ensures { IfOk result (λ done. (later : List Delivery) → places.new.items ++ in_order waiting.new.items (place + 1) later ≡ places.old.items ++ in_order waiting.old.items place (delivery ∷ later)) }
+    ensures { IfOk result (λ done. (later : List Delivery) → places.new.items ++ arrivals waiting.new.items (place + 1) later ≡ places.old.items ++ arrivals waiting.old.items place (delivery ∷ later)) }
 {
     match delivery {
         Delivery::Tick => {

@@ -1,22 +1,23 @@
 -- The events came one after the other, and at the end those that still waited.
 use Rattle.std.proofs.Common.{ℕ, ◌+◌, List, ◌++◌, length, drop, refl, ap, sym, subst, ◌∙◌}
 use Rattle.spec_drill.specs.declared.delivery.Delivery.{Delivery}
-use Rattle.spec_drill.specs.Deliveries.{deliveries, delivery_of, delivered_places, in_order, IsEachOnceOrTwice, AreTicksInOrder}
+use Rattle.spec_drill.specs.Deliveries.{deliveries, delivery_of, IsEachOnceOrTwice, AreTicksInOrder}
+use Rattle.node_drill.specs.inside.Arrivals.{arrivals}
 use Rattle.node_drill.proofs.Arriving.{one_more, what_waits}
 use Rattle.node_drill.proofs.Copies.{each_once_or_twice}
+use Rattle.node_drill.proofs.Order.{as_they_arrive}
 use Rattle.node_drill.proofs.Ticks.{ticks_in_order}
 use Rattle.node_drill.proofs.order.deliver.Goals as goal
 
 pub loop-index-init : goal.loop-index-init
-unfolding delivered_places
-loop-index-init c = rw (c.new-places.ensures.items, c.new-waiting.ensures.items) refl
+loop-index-init c = rw (c.new-places.ensures.items, c.new-waiting.ensures.items) (sym (as_they_arrive c.args.number c.args.node c.args.events.now))
 
 pub loop-index-preserved : goal.loop-index-preserved
 loop-index-preserved c =
     let place : ℕ = c.loop-index.index in
     let later : List Delivery = deliveries c.args.number c.args.node (place + 1 + 1) (drop (place + 1) c.args.events.now) in
     c.in_ok-arrive.ensures later
-    ∙ (ap (λ (ds : List Delivery). c.loop-index.places.items ++ in_order c.loop-index.waiting.items place ds)
+    ∙ (ap (λ (ds : List Delivery). c.loop-index.places.items ++ arrivals c.loop-index.waiting.items place ds)
     (one_more c.args.events.now c.args.number c.args.node place c.index-events-index.result c.delivery_of-delivery.result c.loop-index-test.true c.index-events-index.is
     (c.delivery_of-delivery.ensures ∙ ap (λ (i : ℕ). delivery_of c.args.number c.args.node (i + 1) c.index-events-index.result) c.from.ensures))
     ∙ c.loop-index.invariant)
