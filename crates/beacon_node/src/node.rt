@@ -5,7 +5,7 @@ ghost use Rattle.record_file.specs.Record.{is_kind, most_events};
 ghost use Rattle.spec_fork_choice.specs.GetForkchoiceStore.{genesis_store};
 ghost use Rattle.spec_fork_choice.specs.OnEvent.{block};
 ghost use Rattle.spec_forensics.specs.Histories.{with_event};
-ghost use Rattle.spec_drill.specs.Deliveries.{delivered};
+ghost use Rattle.node_drill.specs.Deliveries.{delivered};
 ghost use Rattle.spec_replay.specs.Forensic.{follow};
 ghost use Rattle.spec_replay.specs.Nodes.{all_of, node_line};
 ghost use Rattle.safety_law.specs.Follows.{IsAdded};

@@ -2,9 +2,9 @@
 use Rattle.std.proofs.Common.{◌≡◌, ℕ, ◌+◌, ◌<◌, ◌≤◌, List, [], ◌∷◌, ◌++◌, length, get_or, drop, refl, ap, sym, ◌∙◌, append_assoc}
 use Rattle.std.proofs.lemmas.List.{drop_more, drop_all}
 use Rattle.record_file.specs.declared.event.Event.{Event}
-use Rattle.spec_drill.specs.declared.delivery.Delivery.{Delivery}
-use Rattle.spec_drill.specs.declared.delivery.Delivery.TheVariants.{Tick, Once, Twice, Late}
-use Rattle.spec_drill.specs.Deliveries.{delivery_of, deliveries}
+use Rattle.node_drill.specs.declared.delivery.Delivery.{Delivery}
+use Rattle.node_drill.specs.declared.delivery.Delivery.TheVariants.{Tick, Once, Twice, Late}
+use Rattle.node_drill.specs.Deliveries.{delivery_of, deliveries}
 use Rattle.node_drill.specs.inside.Arrivals.{arrivals}
 
 -- what was delivered before, and then the rest

@@ -4,11 +4,11 @@ use Rattle.std.proofs.lemmas.Bool.{cases_eq}
 use Rattle.std.proofs.lemmas.List.Sums.{sum_by-cons, sum_by-append, sum_by_push}
 use Rattle.std.proofs.lemmas.List.Elements.{All-nil, All-cons, All-append, All-push}
 use Rattle.record_file.specs.declared.event.Event.{Event}
-use Rattle.spec_drill.specs.declared.delivery.Delivery.{Delivery}
-use Rattle.spec_drill.specs.declared.delivery.Delivery.TheVariants.{Tick, Once, Twice, Late}
-use Rattle.spec_drill.specs.Deliveries.{deliveries, delivered_places, IsEachOnceOrTwice}
+use Rattle.node_drill.specs.declared.delivery.Delivery.{Delivery}
+use Rattle.node_drill.specs.declared.delivery.Delivery.TheVariants.{Tick, Once, Twice, Late}
+use Rattle.node_drill.specs.Deliveries.{deliveries, delivered_places, IsEachOnceOrTwice}
 use Rattle.node_drill.specs.inside.Arrivals.{arrivals}
-use Rattle.node_drill.proofs.Order.{as_they_arrive}
+use Rattle.node_drill.proofs.PlaceByPlace.{as_they_arrive}
 
 -- how often an event is delivered that comes so
 abbrev times : Delivery → ℕ

@@ -1,4 +1,4 @@
 pub mod Arriving
 pub mod Copies
-pub mod Order
+pub mod PlaceByPlace
 pub mod Ticks

@@ -3,11 +3,11 @@ use Rattle.std.proofs.Common.{◌≡◌, ℕ, suc, ◌+◌, Bool, true, false, c
 use Rattle.std.specs.List.{range_with_len}
 use Rattle.std.proofs.lemmas.List.Elements.{filter-append}
 use Rattle.record_file.specs.declared.event.Event.{Event}
-use Rattle.spec_drill.specs.declared.delivery.Delivery.{Delivery}
-use Rattle.spec_drill.specs.declared.delivery.Delivery.TheVariants.{Tick, Once, Twice, Late}
-use Rattle.spec_drill.specs.Deliveries.{delivery_byte, delivery_by, delivery_of, deliveries, delivered_places, comes_as_tick, is_tick, is_tick_at, AreTicksInOrder}
+use Rattle.node_drill.specs.declared.delivery.Delivery.{Delivery}
+use Rattle.node_drill.specs.declared.delivery.Delivery.TheVariants.{Tick, Once, Twice, Late}
+use Rattle.node_drill.specs.Deliveries.{delivery_byte, delivery_by, delivery_of, deliveries, delivered_places, comes_as_tick, is_tick, is_tick_at, AreTicksInOrder}
 use Rattle.node_drill.specs.inside.Arrivals.{arrivals}
-use Rattle.node_drill.proofs.Order.{as_they_arrive}
+use Rattle.node_drill.proofs.PlaceByPlace.{as_they_arrive}
 use Rattle.node_drill.proofs.Copies.{length-deliveries}
 
 -- a test passes at the ticks alone

@@ -3,8 +3,10 @@
 //! The events come from the makers of chains; the places that `deliver` gives go to the run of the nodes.
 #![tactic(auto)]
 
+mod delivery;
 mod order;
 #[cfg(test)]
 mod tests;
 
+pub use delivery::Delivery;
 pub use order::deliver;

@@ -1,18 +1,18 @@
 //! The order in which a node is delivered the events of a list.
 
 ghost use Rattle.std.specs.Prelude.{◌≡◌, ◌+◌, ◌^◌, ◌<◌, ◌∷◌, ◌++◌, List, length, IfOk};
-ghost use Rattle.spec_drill.specs.declared.delivery.Delivery.{Delivery};
-ghost use Rattle.spec_drill.specs.Deliveries.{delivery_byte, delivery_of, delivered_places, IsEachOnceOrTwice, AreTicksInOrder};
+ghost use Rattle.node_drill.specs.declared.delivery.Delivery.{Delivery};
+ghost use Rattle.node_drill.specs.Deliveries.{delivery_byte, delivery_of, delivered_places, IsEachOnceOrTwice, AreTicksInOrder};
 ghost use Rattle.node_drill.specs.inside.Arrivals.{arrivals};
 
+use crate::delivery::Delivery;
 use bc_words::NoMemory;
 use record_file::Event;
 use sha2::{Digest, Sha256};
-use spec_drill::Delivery;
 use std::alloc::Global;
 
 /// The byte of a node that decides how the event with this number comes to it.
-#[tactic(auto, unfolding(spec_drill::specs::Deliveries::delivery_byte, hash_tree::specs::Merkle::hash, hash_tree::specs::Merkle::uint_to_bytes))]
+#[tactic(auto, unfolding(crate::specs::Deliveries::delivery_byte, hash_tree::specs::Merkle::hash, hash_tree::specs::Merkle::uint_to_bytes))]
 fn delivery_byte(number: u64, node: u64, i: u64) -> u8
     requires { node < 16 }
     ensures { result ≡ delivery_byte number node i }
@@ -25,7 +25,7 @@ fn delivery_byte(number: u64, node: u64, i: u64) -> u8
 }
 
 /// How the event with this number comes to a node.
-#[tactic(auto, unfolding(spec_drill::specs::Deliveries::delivery_of))]
+#[tactic(auto, unfolding(crate::specs::Deliveries::delivery_of))]
 fn delivery_of(number: u64, node: u64, i: u64, event: &Event) -> Delivery
     requires { node < 16 }
     ensures { result ≡ delivery_of number node i event.now }

@@ -6,5 +6,4 @@ pub mod Make
 pub mod AsEvents
 pub mod Taken
 pub mod Maker
-pub mod Deliveries
 pub mod inside

@@ -4,8 +4,6 @@
 //! `chain_maker` proves that it gives these events. The laws of this crate say that a store accepts them.
 #![tactic(auto)]
 
-mod delivery;
 mod laws;
 
-pub use delivery::Delivery;
 pub use laws::{made_ends_well, made_is_accepted};

@@ -26,7 +26,7 @@ use Rattle.spec_drill.specs.Plan.{Plan}
 use Rattle.spec_drill.specs.MakeGenesis.{genesis_of_plan}
 use Rattle.spec_drill.specs.Make.{made}
 use Rattle.spec_drill.specs.AsEvents.{events_to_come}
-use Rattle.spec_drill.specs.Deliveries.{delivered}
+use Rattle.node_drill.specs.Deliveries.{delivered}
 use Rattle.spec_forensics.specs.Histories.{AcceptedBlock}
 use Rattle.spec_forensics.specs.Clash.{clash_among, first_accepted}
 use Rattle.spec_forensics.specs.Verdict.{offences_of}

@@ -10,7 +10,7 @@ use Rattle.spec_forensics.specs.Clash.{clash_among, first_accepted}
 use Rattle.spec_replay.specs.Run.{Run, End, done, record_end, replay_events}
 use Rattle.spec_replay.specs.Drill.{Tally, tally_of}
 use Rattle.spec_replay.specs.Forensic.{Followed, follow_events}
-use Rattle.spec_drill.specs.Deliveries.{delivered}
+use Rattle.node_drill.specs.Deliveries.{delivered}
 use Rattle.spec_replay.specs.Nodes.{Node, chain_of_node}
 use Rattle.safety_law.specs.Follows.{Follows}
 use Rattle.beacon_node.specs.declared.node.Node as code

@@ -1,7 +1,7 @@
 -- The order of delivery, as the events come one after the other.
 use Rattle.std.specs.Prelude.{ℕ, ◌+◌, List, [], ◌∷◌, ◌++◌}
-use Rattle.spec_drill.specs.declared.delivery.Delivery.{Delivery}
-use Rattle.spec_drill.specs.declared.delivery.Delivery.TheVariants.{Tick, Once, Twice, Late}
+use Rattle.node_drill.specs.declared.delivery.Delivery.{Delivery}
+use Rattle.node_drill.specs.declared.delivery.Delivery.TheVariants.{Tick, Once, Twice, Late}
 
 -- The places of events in the order in which they are delivered, where these wait for the next tick and the first of the events has
 -- this place. What is late waits behind those that wait already, and where no tick follows it comes at the end

@@ -1,7 +1,7 @@
 -- So far these events were taken; what comes of all of them is what comes of those behind them.
 use Rattle.std.proofs.Common.{◌≡◌, ◌+◌, ◌≤◌, [], drop, length, slice_get, filter_map}
 use Rattle.spec_fork_choice.specs.GetForkchoiceStore.{genesis_store}
-use Rattle.spec_drill.specs.Deliveries.{delivered}
+use Rattle.node_drill.specs.Deliveries.{delivered}
 use Rattle.spec_replay.specs.Drill.{tally_of}
 use Rattle.spec_replay.specs.Forensic.{follow}
 use Rattle.spec_replay.specs.Nodes.{all_of}

@@ -1,11 +1,11 @@
 -- The events came one after the other, and at the end those that still waited.
-use Rattle.std.proofs.Common.{ℕ, ◌+◌, List, ◌++◌, length, drop, refl, ap, sym, subst, ◌∙◌}
-use Rattle.spec_drill.specs.declared.delivery.Delivery.{Delivery}
-use Rattle.spec_drill.specs.Deliveries.{deliveries, delivery_of, IsEachOnceOrTwice, AreTicksInOrder}
+use Rattle.std.proofs.Common.{ℕ, ◌+◌, List, ◌++◌, length, drop, ap, sym, subst, ◌∙◌}
+use Rattle.node_drill.specs.declared.delivery.Delivery.{Delivery}
+use Rattle.node_drill.specs.Deliveries.{deliveries, delivery_of, IsEachOnceOrTwice, AreTicksInOrder}
 use Rattle.node_drill.specs.inside.Arrivals.{arrivals}
 use Rattle.node_drill.proofs.Arriving.{one_more, what_waits}
 use Rattle.node_drill.proofs.Copies.{each_once_or_twice}
-use Rattle.node_drill.proofs.Order.{as_they_arrive}
+use Rattle.node_drill.proofs.PlaceByPlace.{as_they_arrive}
 use Rattle.node_drill.proofs.Ticks.{ticks_in_order}
 use Rattle.node_drill.proofs.order.deliver.Goals as goal
 

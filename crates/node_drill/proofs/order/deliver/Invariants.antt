@@ -1,5 +1,5 @@
 use Rattle.std.proofs.Common.{◌≡◌, ◌+◌, ◌++◌, drop}
-use Rattle.spec_drill.specs.Deliveries.{deliveries, delivered_places}
+use Rattle.node_drill.specs.Deliveries.{deliveries, delivered_places}
 use Rattle.node_drill.specs.inside.Arrivals.{arrivals}
 use Rattle.node_drill.proofs.order.deliver.Given as goal
 

@@ -2,7 +2,7 @@
 use Rattle.std.proofs.Common.{ℕ, List, [], ◌++◌, ◌∙◌, ap, ap₂, slice_index}
 use Rattle.sha2.specs.Sha256.{sha256}
 use Rattle.hash_tree.specs.Merkle.{hash, uint_to_bytes}
-use Rattle.spec_drill.specs.Deliveries.{delivery_byte}
+use Rattle.node_drill.specs.Deliveries.{delivery_byte}
 use Rattle.node_drill.proofs.order.delivery_byte.Goals as goal
 
 pub returns : goal.returns

@@ -5,8 +5,8 @@ use Rattle.std.specs.List.{All, count_by, filter_map, position_or_len, range_wit
 use Rattle.std.specs.Option.{option_map_or}
 use Rattle.hash_tree.specs.Merkle.{hash, uint_to_bytes}
 use Rattle.record_file.specs.declared.event.Event.{Event}
-use Rattle.spec_drill.specs.declared.delivery.Delivery.{Delivery}
-use Rattle.spec_drill.specs.declared.delivery.Delivery.TheVariants.{Tick, Once, Twice, Late}
+use Rattle.node_drill.specs.declared.delivery.Delivery.{Delivery}
+use Rattle.node_drill.specs.declared.delivery.Delivery.TheVariants.{Tick, Once, Twice, Late}
 
 -- the byte that decides of an event: that of the node's place in hash(number as 8 bytes + the event's number as 8 bytes)
 unfoldable pub delivery_byte : ℕ → ℕ → ℕ → ℕ

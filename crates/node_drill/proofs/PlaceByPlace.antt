@@ -1,16 +1,16 @@
 -- The order of delivery, place by place, is that of the events as they come one after the other.
-use Rattle.std.proofs.Common.{◌≡◌, ℕ, zero, suc, ◌+◌, ◌-◌, ◌<◌, ◌≤◌, Bool, true, false, not, cond, nat_lt, ◌==◌, ◌&&◌, List, [], ◌∷◌, ◌++◌, length, get_or, drop, filter, flat_map, slice_get, refl, ap, sym, inl, inr, ◌∙◌, arith, append_assoc, append-nil, Some}
-use Rattle.std.specs.List.{position_or_len, prefix_len, range_with_len}
+use Rattle.std.proofs.Common.{◌≡◌, ℕ, zero, suc, ◌+◌, ◌-◌, ◌<◌, ◌≤◌, Bool, true, false, not, cond, nat_lt, ◌==◌, ◌&&◌, List, [], ◌∷◌, ◌++◌, length, get_or, drop, filter, flat_map, slice_get, refl, ap, sym, inl, inr, ◌∙◌, arith, append-nil}
+use Rattle.std.specs.List.{range_with_len}
 use Rattle.std.specs.Option.{option_map_or}
-use Rattle.std.proofs.lemmas.Bool.{cases_Bool, cases_eq, cases_lt, eq-eqb, ne_eqb, lt-ltb, le-ltb, and_right, not-true}
+use Rattle.std.proofs.lemmas.Bool.{cases_Bool, cases_eq, cases_lt, eq-eqb, ne_eqb, lt-ltb, le-ltb, and_right}
 use Rattle.std.proofs.lemmas.List.{drop_more, drop_all}
 use Rattle.std.proofs.lemmas.List.Elements.{filter-append}
 use Rattle.std.proofs.lemmas.List.Sums.{prefix_len-drop_yes, prefix_len-drop_no, prefix_len-drop_all}
 use Rattle.std.proofs.lemmas.Option.{slice_get-get_or, slice_get_past}
-use Rattle.spec_drill.specs.declared.delivery.Delivery.{Delivery}
-use Rattle.spec_drill.specs.declared.delivery.Delivery.TheVariants.{Tick, Once, Twice, Late}
+use Rattle.node_drill.specs.declared.delivery.Delivery.{Delivery}
+use Rattle.node_drill.specs.declared.delivery.Delivery.TheVariants.{Tick, Once, Twice, Late}
 use Rattle.record_file.specs.declared.event.Event.{Event}
-use Rattle.spec_drill.specs.Deliveries.{comes_as_tick, comes_late, in_place, next_tick, comes_late_here, delivered_here, in_order, deliveries, delivered_places}
+use Rattle.node_drill.specs.Deliveries.{comes_as_tick, comes_late, in_place, next_tick, comes_late_here, delivered_here, in_order, deliveries, delivered_places}
 use Rattle.node_drill.specs.inside.Arrivals.{arrivals}
 
 -- ---- filters over places
