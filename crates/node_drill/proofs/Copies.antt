@@ -1,6 +1,7 @@
 -- How often each event is delivered.
 use Rattle.std.proofs.Common.{◌≡◌, ℕ, suc, ◌+◌, ◌*◌, ◌<◌, ◌≤◌, Bool, true, false, cond, ◌==◌, List, [], ◌∷◌, ◌++◌, length, All, count_by, refl, ap, sym, inl, inr, arith, add-zero, mul-zero, eq-eqb, ne_eqb}
 use Rattle.std.proofs.lemmas.Bool.{cases_eq}
+use Rattle.std.proofs.lemmas.List.{length-append}
 use Rattle.std.proofs.lemmas.List.Sums.{sum_by-cons, sum_by-append, sum_by_push}
 use Rattle.std.proofs.lemmas.List.Elements.{All-nil, All-cons, All-append, All-push}
 use Rattle.record_file.specs.declared.event.Event.{Event}
@@ -118,3 +119,25 @@ each_once_or_twice number node events =
           omega (arith, all, some.1);
       within = stay_within ds [] 0 (length events) (omega arith) (All-nil (λ p. p < length events));
     }
+
+-- ---- how many places there are
+
+not_many : (ds : List Delivery) (waiting : List ℕ) (place : ℕ) → length (arrivals waiting place ds) ≤ length waiting + 2 * length ds
+unfolding arrivals
+not_many [] waiting place = omega arith
+not_many (Tick ∷ later) waiting place =
+    let joined : length (waiting ++ arrivals [] (place + 1) later) ≡ length waiting + length (arrivals [] (place + 1) later) = length-append waiting (arrivals [] (place + 1) later) in
+    let rest = not_many later [] (place + 1) in
+    omega (arith, joined, rest)
+not_many (Once ∷ later) waiting place = let rest = not_many later waiting (place + 1) in omega (arith, rest)
+not_many (Twice ∷ later) waiting place = let rest = not_many later waiting (place + 1) in omega (arith, rest)
+not_many (Late ∷ later) waiting place =
+    let joined : length (waiting ++ place ∷ []) ≡ length waiting + 1 = length-append waiting (place ∷ []) in
+    let rest = not_many later (waiting ++ place ∷ []) (place + 1) in
+    omega (arith, joined, rest)
+
+pub few_places : (number node : ℕ) (events : List Event) → length (delivered_places number node events) ≤ 2 * length events
+few_places number node events =
+    let many : length (deliveries number node 1 events) ≡ length events = length-deliveries events number node 1 in
+    let most = not_many (deliveries number node 1 events) [] 0 in
+    rw (as_they_arrive number node events) (omega (arith, many, most))

@@ -1,6 +1,6 @@
 //! The order in which a node is delivered the events of a list.
 
-ghost use Rattle.std.specs.Prelude.{◌≡◌, ◌+◌, ◌^◌, ◌<◌, ◌∷◌, ◌++◌, List, length, IfOk};
+ghost use Rattle.std.specs.Prelude.{◌≡◌, ◌+◌, ◌*◌, ◌^◌, ◌<◌, ◌≤◌, ◌∷◌, ◌++◌, List, length, IfOk};
 ghost use Rattle.node_drill.specs.declared.delivery.Delivery.{Delivery};
 ghost use Rattle.node_drill.specs.Deliveries.{delivery_byte, delivery_of, delivered_places, IsEachOnceOrTwice, AreTicksInOrder};
 ghost use Rattle.node_drill.specs.inside.Arrivals.{arrivals};
@@ -88,6 +88,7 @@ pub fn deliver(
     ensures exact { IfOk result (λ places. places.items ≡ delivered_places number node events.now) }
     ensures each { IfOk result (λ places. IsEachOnceOrTwice (length events.now) places.items) }
     ensures ticks { IfOk result (λ places. AreTicksInOrder events.now places.items) }
+    ensures twice { IfOk result (λ places. length places.items ≤ 2 * length events.now) }
 {
     let mut places = Vec::new(alloc);
     let mut waiting = Vec::new(alloc);

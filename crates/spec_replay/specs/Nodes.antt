@@ -30,6 +30,7 @@ use Rattle.node_drill.specs.Deliveries.{delivered}
 use Rattle.spec_forensics.specs.Histories.{AcceptedBlock}
 use Rattle.spec_forensics.specs.Clash.{clash_among, first_accepted}
 use Rattle.spec_forensics.specs.Verdict.{offences_of}
+use Rattle.spec_forensics.specs.declared.verdict.Verdict.{Verdict}
 use Rattle.spec_replay.specs.Drill.{Tally, tally_of}
 use Rattle.spec_replay.specs.Forensic.{Followed, follow, verdict_line, verdict_on}
 use Rattle.spec_replay.specs.Lines.{root_text, checkpoint_text}
@@ -75,19 +76,27 @@ node_of number store first second node =
     let events : List Event = delivered number node (chain_of_node node first second) in
     followed_by node events (follow node [] store (all_of events))
 
+-- the words of a node's number and of its counts
+unfoldable pub counts_text : ℕ → ℕ → ℕ → List ℕ
+counts_text number events accepted = codes "node " ++ (decimal number ++ (codes " events " ++ (decimal events ++ (codes " accepted " ++ decimal accepted))))
+
+-- the words of the head and the checkpoints of its store
+unfoldable pub ends_text : Store → List ℕ
+ends_text store =
+    codes " head " ++ (root_text (get_head store)
+    ++ (codes " justified " ++ (checkpoint_text store.justified_checkpoint
+    ++ (codes " finalized " ++ checkpoint_text store.finalized_checkpoint))))
+
+-- all of them, and a digest
+unfoldable pub node_text : ℕ → ℕ → ℕ → Store → List ℕ → List ℕ
+node_text number events accepted store digest = counts_text number events accepted ++ (ends_text store ++ (codes " lines " ++ (encode_lower digest ++ 10 ∷ [])))
+
 -- The line of a node: how many events it was delivered and how many of them were accepted, the head and the checkpoints of its store
 -- behind them, and SHA-256 of the lines that a run of a record of them writes
 unfoldable pub node_line : Store → Node → List ℕ
 node_line store node =
     let tally : Tally = tally_of (record { store = store; events = 0; accepted = 0 }) node.events in
-    codes "node " ++ (decimal node.number
-    ++ (codes " events " ++ (decimal (length node.events)
-    ++ (codes " accepted " ++ (decimal tally.accepted
-    ++ (codes " head " ++ (root_text (get_head tally.store)
-    ++ (codes " justified " ++ (checkpoint_text tally.store.justified_checkpoint
-    ++ (codes " finalized " ++ (checkpoint_text tally.store.finalized_checkpoint
-    ++ (codes " lines " ++ (encode_lower (hash (with_events 1 store (all_of node.events)).lines)
-    ++ 10 ∷ [])))))))))))))
+    node_text node.number (length node.events) tally.accepted tally.store (hash (with_events 1 store (all_of node.events)).lines)
 
 -- ---- a pair of nodes
 
@@ -102,13 +111,15 @@ unfoldable pub first_clash : List KeptBlock → List AcceptedBlock → Option (�
 first_clash others [] = None
 first_clash others (b ∷ earlier) = option_or (first_clash others earlier) (option_map (λ place. (b.event, place)) (clash_among others b.root b.block))
 
--- the line of a pair: how many offenders there are, and the line of the verdict
+-- the words of a pair's numbers and of how many offenders there are, and the line of a verdict
+unfoldable pub pair_text : ℕ → ℕ → ℕ → Verdict → List ℕ
+pair_text first second offenders verdict =
+    codes "pair " ++ (decimal first ++ (codes " " ++ (decimal second ++ (codes " offenders " ++ (decimal offenders ++ (codes " " ++ verdict_line verdict))))))
+
+-- the line of a pair: what is found of both histories
 unfoldable pub pair_line : PlainState → Node × Node → List ℕ
 pair_line genesis pair =
-    codes "pair " ++ (decimal pair.0.number
-    ++ (codes " " ++ (decimal pair.1.number
-    ++ (codes " offenders " ++ (decimal (length (offences_of genesis pair.0.followed.history pair.1.followed.history))
-    ++ (codes " " ++ verdict_line (verdict_on genesis pair.0.followed pair.1.followed)))))))
+    pair_text pair.0.number pair.1.number (length (offences_of genesis pair.0.followed.history pair.1.followed.history)) (verdict_on genesis pair.0.followed pair.1.followed)
 
 -- a line, unless this event of the second node has a block that clashes with one of the first, at this place
 unfoldable pub unless_pair_clashes : Node × Node → Option (ℕ × ℕ) → List ℕ → Result (List ℕ) End

@@ -4,7 +4,7 @@ use Rattle.node_drill.specs.declared.delivery.Delivery.{Delivery}
 use Rattle.node_drill.specs.Deliveries.{deliveries, delivery_of, IsEachOnceOrTwice, AreTicksInOrder}
 use Rattle.node_drill.specs.inside.Arrivals.{arrivals}
 use Rattle.node_drill.proofs.Arriving.{one_more, what_waits}
-use Rattle.node_drill.proofs.Copies.{each_once_or_twice}
+use Rattle.node_drill.proofs.Copies.{each_once_or_twice, few_places}
 use Rattle.node_drill.proofs.PlaceByPlace.{as_they_arrive}
 use Rattle.node_drill.proofs.Ticks.{ticks_in_order}
 use Rattle.node_drill.proofs.order.deliver.Goals as goal
@@ -31,6 +31,11 @@ pub returns-clause-each : goal.returns-clause-each
 returns-clause-each c =
     let P : List ℕ → Type 0 = λ places. IsEachOnceOrTwice (length c.args.events.now) places in
     subst P (sym (returns-clause-exact c)) (each_once_or_twice c.args.number c.args.node c.args.events.now)
+
+pub returns-clause-twice : goal.returns-clause-twice
+returns-clause-twice c =
+    let few = few_places c.args.number c.args.node c.args.events.now in
+    rw (returns-clause-exact c) few
 
 pub returns-clause-ticks : goal.returns-clause-ticks
 returns-clause-ticks c =
