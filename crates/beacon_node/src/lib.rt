@@ -15,6 +15,7 @@ mod lines;
 mod made_events;
 mod make_genesis;
 mod node;
+mod node_lines;
 mod node_pairs;
 mod nodes;
 mod offence_lines;

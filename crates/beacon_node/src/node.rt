@@ -1,24 +1,28 @@
 //! A node: a store of its own, which is delivered events, and what a book wants of the blocks that it accepts.
 
-ghost use Rattle.std.specs.Prelude.{◌≡◌, ◌<◌, ◌≤◌, ◌+◌, ◌-◌, ◌^◌, [], ◌∷◌, All, length, true, Ok, IfOk, IfErr};
+ghost use Rattle.std.specs.Prelude.{◌≡◌, ◌<◌, ◌≤◌, ◌+◌, ◌^◌, [], ◌∷◌, ◌++◌, All, List, length, true, Ok, IfOk, IfErr};
 ghost use Rattle.record_file.specs.Record.{is_kind, most_events};
+ghost use Rattle.record_file.specs.declared.event.Event as plain_event;
 ghost use Rattle.spec_fork_choice.specs.GetForkchoiceStore.{genesis_store};
-ghost use Rattle.spec_fork_choice.specs.OnEvent.{block};
+ghost use Rattle.spec_fork_choice.specs.OnEvent.{block, genesis_clash};
 ghost use Rattle.spec_forensics.specs.Histories.{with_event};
 ghost use Rattle.node_drill.specs.Deliveries.{delivered};
 ghost use Rattle.spec_replay.specs.Forensic.{follow};
+ghost use Rattle.spec_replay.specs.Lines.{accepted_text, event_line, refusal_text};
 ghost use Rattle.spec_replay.specs.Nodes.{all_of, node_line};
+ghost use Rattle.fork_store.specs.Events.{accepted_of};
 ghost use Rattle.safety_law.specs.Follows.{IsAdded};
-ghost use Rattle.beacon_node.specs.inside.Histories.{IsGenesis, IsOpened};
+ghost use Rattle.beacon_node.specs.inside.Histories.{IsGenesis, IsOpened, OpeningEnds};
 ghost use Rattle.beacon_node.specs.inside.Following.{IsInside};
-ghost use Rattle.beacon_node.specs.inside.Nodes.{AreClear, IsNode, NodeEnds, OneTaken, history_in, node_left, plain_node};
+ghost use Rattle.beacon_node.specs.inside.Nodes.{AreKept, CanKeep, HasRun, IsNode, NodeEnds, OneTaken, history_in, node_left, plain_node};
 
-use crate::head::head_of;
+use crate::follow::are_bytes;
 use crate::histories::store_at;
-use crate::lines::{accepted_line, push_checkpoint, push_number, push_root, refused_line};
+use crate::lines::{accepted_line, refused_line};
+use crate::node_lines::node_line;
 use crate::status::Status;
 use bc_preset::Config;
-use bc_words::{NoMemory, StoreStop};
+use bc_words::{NoMemory, Refusal, StoreStop};
 use beacon_body::BeaconBlock;
 use beacon_state::State;
 use forensics::Watch;
@@ -26,7 +30,6 @@ use fork_store::{Accepted, BlockIn, Store};
 use hash_tree::Root;
 use node_drill::deliver;
 use record_file::Event;
-use sha2::{Digest, Sha256};
 use std::alloc::Global;
 use std::snapshot::Snapshot;
 use transition::Watched;
@@ -71,7 +74,12 @@ impl<'a> Node<'a> {
     ) -> Result<Node<'a>, Status>
         requires { IsGenesis config.now genesis.now }
         ensures opened { IfOk result (λ node. IsOpened config.now genesis.now node.store.plain) }
+        ensures number { IfOk result (λ node. node.number ≡ number) }
+        ensures blocks { IfOk result (λ node. node.blocks.items ≡ []) }
+        ensures accepted { IfOk result (λ node. node.accepted ≡ 0) }
+        ensures lines { IfOk result (λ node. node.lines.items ≡ []) }
         ensures is { IfOk result (λ node. IsNode config.now genesis.now node) }
+        ensures over { IfErr result (λ status. OpeningEnds status (genesis_clash genesis.now)) }
     {
         let store = store_at(alloc, config, genesis)?;
         Ok(Node {
@@ -93,10 +101,13 @@ impl<'a> Node<'a> {
     ) -> Result<(), NoMemory>
         requires added { IsAdded self.old.store.plain.config genesis.now (history_in self.old.blocks.items) self.old.store.plain number given.now }
         requires watched { watch ≡ record { genesis = genesis.now; entered = given.now.entered } }
+        requires kept { AreKept genesis.now self.old.blocks.items }
+        ensures number { self.new.number ≡ self.old.number }
         ensures store { self.new.store.plain ≡ self.old.store.plain }
+        ensures accepted { self.new.accepted ≡ self.old.accepted }
+        ensures lines { self.new.lines.items ≡ self.old.lines.items }
         ensures history { IfOk result (λ _. history_in self.new.blocks.items ≡ with_event number (history_in self.old.blocks.items) self.old.store.plain (block given.now)) }
-        ensures clear { IfOk result (λ _. AreClear genesis.now (history_in self.old.blocks.items) → AreClear genesis.now (history_in self.new.blocks.items)) }
-        ensures others { (self.new.number ≡ self.old.number) × (self.new.accepted ≡ self.old.accepted) × (self.new.lines.items ≡ self.old.lines.items) }
+        ensures kept { IfOk result (λ _. AreKept genesis.now self.new.blocks.items) }
     {
         let state = match self.store.state(given.root())? {
             Some(state) => state,
@@ -105,23 +116,18 @@ impl<'a> Node<'a> {
         let Some(block) = self.store.block(given.root()) else {
             unreachable!();
         };
+        let block = Snapshot::of(block);
         self.blocks.push(NodeBlock {
             event: number,
             root: given.root(),
-            block: Snapshot::of(block),
+            block,
             state,
             watch,
         })?;
         Ok(())
     }
 
-    /// Writes the line of an event behind the others.
-    fn write(&mut self, line: Result<Vec<u8>, NoMemory>) -> Result<(), NoMemory> {
-        self.lines.extend_from_slice(&line?)?;
-        Ok(())
-    }
-
-    /// Takes an accepted event.
+    /// Writes the line of an event that the store accepted, counts it, and keeps what a book wants of its block.
     fn accept(
         &mut self,
         alloc: Global,
@@ -130,105 +136,99 @@ impl<'a> Node<'a> {
         kind: u8,
         given: Accepted,
         watch: Watch<'a>,
-    ) -> Result<(), NoMemory> {
+    ) -> Result<(), NoMemory>
+        requires few { self.old.accepted < 2 ^ 32 - 1 }
+        requires can { CanKeep genesis.now self.old.blocks.items self.old.store.plain number watch (accepted_of given) }
+        requires kept { AreKept genesis.now self.old.blocks.items }
+        ensures number { self.new.number ≡ self.old.number }
+        ensures store { self.new.store.plain ≡ self.old.store.plain }
+        ensures accepted { self.new.accepted ≡ self.old.accepted + 1 }
+        ensures lines { IfOk result (λ _. self.new.lines.items ≡ self.old.lines.items ++ event_line number kind (accepted_text (accepted_of given)) self.old.store.plain) }
+        ensures history { IfOk result (λ _. history_in self.new.blocks.items ≡ with_event number (history_in self.old.blocks.items) self.old.store.plain (accepted_of given)) }
+        ensures kept { IfOk result (λ _. AreKept genesis.now self.new.blocks.items) }
+    {
         self.accepted += 1;
-        let line = accepted_line(alloc, u64::from(number), kind, &given, &mut self.store);
-        self.write(line)?;
+        let line = accepted_line(alloc, u64::from(number), kind, &given, &mut self.store)?;
+        self.lines.extend_from_slice(&line)?;
         match given {
             Accepted::Block(block) => self.keep(genesis, number, &block, watch),
             Accepted::Other => Ok(()),
         }
     }
 
-    /// Hands the event with this number to the store. The status where it ends the run.
+    /// Writes the line of an event that the store refused.
+    fn refuse(
+        &mut self,
+        alloc: Global,
+        number: u32,
+        kind: u8,
+        refusal: Refusal,
+    ) -> Result<(), NoMemory>
+        ensures number { self.new.number ≡ self.old.number }
+        ensures store { self.new.store.plain ≡ self.old.store.plain }
+        ensures blocks { self.new.blocks.items ≡ self.old.blocks.items }
+        ensures accepted { self.new.accepted ≡ self.old.accepted }
+        ensures lines { IfOk result (λ _. self.new.lines.items ≡ self.old.lines.items ++ event_line number kind (refusal_text refusal) self.old.store.plain) }
+    {
+        let line = refused_line(alloc, u64::from(number), kind, refusal, &mut self.store)?;
+        self.lines.extend_from_slice(&line)?;
+        Ok(())
+    }
+
+    /// Hands an event to the store, behind so many. The status where it ends the run.
+    #[tactic(auto, using(spec_fork_choice::proofs::Grows::event_keeps_one_more, record_file::proofs::Supplying::kind_first, record_file::proofs::Supplying::kind_last))]
     fn take(
         &mut self,
         alloc: Global,
         genesis: &'a State,
-        number: u32,
+        before: u32,
         event: &Event,
     ) -> Result<(), Status>
         requires few { length self.old.store.plain.blocks < 2 ^ 32 - 1 }
-        requires number { 1 ≤ number }
+        requires low { before < 2 ^ 32 - 1 }
+        requires accepted { self.old.accepted ≤ before }
         requires kind { is_kind event.now.kind ≡ true }
         requires is { IsNode self.old.store.plain.config genesis.now self.old }
-        ensures is { IfOk result (λ _. IsNode self.old.store.plain.config genesis.now self.new) }
         ensures few { IfOk result (λ _. length self.new.store.plain.blocks ≤ length self.old.store.plain.blocks + 1) }
-        ensures taken { IfOk result (λ _. OneTaken (number - 1) event.now self.old self.new) }
-        ensures over { IfErr result (λ status. NodeEnds status (node_left number self.old (event.now ∷ []))) }
+        ensures accepted { IfOk result (λ _. self.new.accepted ≤ before + 1) }
+        ensures is { IfOk result (λ _. IsNode self.old.store.plain.config genesis.now self.new) }
+        ensures taken { IfOk result (λ _. OneTaken before event.now self.old self.new) }
+        ensures over { IfErr result (λ status. (later : List plain_event) → NodeEnds status (node_left (before + 1) self.old (event.now ∷ later))) }
         ensures inside { IfErr result (λ status. IsInside status) }
     {
+        are_bytes(event.payload.as_slice());
+        let number = before + 1;
         let mut watched = Watched::new(Watch::new(genesis));
-        let payload = event.payload.as_slice();
-        let outcome = match self
+        match self
             .store
-            .visit_event(alloc, event.kind, payload, &mut watched)
+            .visit_event(alloc, event.kind, event.payload.as_slice(), &mut watched)
         {
-            Ok(given) => { self.accept(alloc, genesis, number, event.kind, given, watched.visitor) }
+            Ok(given) => {
+                match self.accept(alloc, genesis, number, event.kind, given, watched.visitor) {
+                    Ok(()) => Ok(()),
+                    Err(NoMemory) => Err(Status::NoMemory),
+                }
+            }
             Err(StoreStop::Refused(refusal)) => {
-                let line = refused_line(
-                    alloc,
-                    u64::from(number),
-                    event.kind,
-                    refusal,
-                    &mut self.store,
-                );
-                self.write(line)
+                match self.refuse(alloc, number, event.kind, refusal) {
+                    Ok(()) => Ok(()),
+                    Err(NoMemory) => Err(Status::NoMemory),
+                }
             }
-            Err(StoreStop::Limit(limit)) => {
-                return Err(Status::Limit {
-                    which: self.number,
-                    event: number,
-                    limit,
-                });
-            }
-            Err(StoreStop::Clash(kind)) => {
-                return Err(Status::Clash {
-                    which: self.number,
-                    event: number,
-                    kind,
-                    kept_which: self.number,
-                });
-            }
-            Err(StoreStop::NoMemory) => Err(NoMemory),
-        };
-        match outcome {
-            Ok(()) => Ok(()),
-            Err(NoMemory) => Err(Status::NoMemory),
+            Err(StoreStop::Limit(limit)) => Err(Status::Limit {
+                which: self.number,
+                event: number,
+                limit,
+            }),
+            Err(StoreStop::Clash(kind)) => Err(Status::Clash {
+                which: self.number,
+                event: number,
+                kind,
+                kept_which: self.number,
+            }),
+            Err(StoreStop::NoMemory) => Err(Status::NoMemory),
         }
     }
-
-    /// The node's line, where it was delivered so many events.
-    #[tactic(auto, unfolding(spec_replay::specs::Nodes::node_line))]
-    fn line(&mut self, alloc: Global, events: usize) -> Result<Vec<u8>, NoMemory> {
-        let head = head_of(&mut self.store);
-        let digest = digest_of(&self.lines);
-        let digits = hex::encode(alloc, &digest)?;
-        let mut line = Vec::new(alloc);
-        line.extend_from_slice(b"node ")?;
-        push_number(&mut line, alloc, u64::from(self.number))?;
-        line.extend_from_slice(b" events ")?;
-        push_number(&mut line, alloc, events as u64)?;
-        line.extend_from_slice(b" accepted ")?;
-        push_number(&mut line, alloc, u64::from(self.accepted))?;
-        line.extend_from_slice(b" head ")?;
-        push_root(&mut line, alloc, &head)?;
-        line.extend_from_slice(b" justified ")?;
-        push_checkpoint(&mut line, alloc, &self.store.justified())?;
-        line.extend_from_slice(b" finalized ")?;
-        push_checkpoint(&mut line, alloc, &self.store.finalized())?;
-        line.extend_from_slice(b" lines ")?;
-        line.extend_from_slice(digits.as_bytes())?;
-        line.push(b'\n')?;
-        Ok(line)
-    }
-}
-
-/// SHA-256 of some lines.
-fn digest_of(lines: &[u8]) -> Root {
-    let mut hasher = Sha256::new();
-    hasher.update(lines);
-    hasher.finalize()
 }
 
 /// A node with its line.
@@ -250,12 +250,14 @@ pub fn delivered_node<'a>(
     events: &[Event],
 ) -> Result<Delivered<'a>, Status>
     requires genesis { IsGenesis config.now genesis.now }
+    requires none { genesis_clash genesis.now ≡ None }
     requires node { node < 16 }
     requires few { length events.now ≤ most_events }
     requires kinds { All (λ event. is_kind event.kind ≡ true) events.now }
     ensures followed { IfOk result (λ given. follow node [] (genesis_store config.now genesis.now) (all_of (delivered number node events.now)) ≡ Ok (plain_node (delivered number node events.now) given.node).followed) }
     ensures line { IfOk result (λ given. given.line.items ≡ node_line (genesis_store config.now genesis.now) (plain_node (delivered number node events.now) given.node)) }
-    ensures is { IfOk result (λ given. IsNode config.now genesis.now given.node × (given.node.number ≡ node)) }
+    ensures has_run { IfOk result (λ given. HasRun config.now genesis.now given.node) }
+    ensures number { IfOk result (λ given. given.node.number ≡ node) }
     ensures over { IfErr result (λ status. NodeEnds status (follow node [] (genesis_store config.now genesis.now) (all_of (delivered number node events.now)))) }
     ensures inside { IfErr result (λ status. IsInside status) }
 {
@@ -265,9 +267,16 @@ pub fn delivered_node<'a>(
     };
     let mut given = Node::new(alloc, config, genesis, node)?;
     for (index, place) in places.iter().enumerate() {
-        given.take(alloc, genesis, index as u32 + 1, &events[*place as usize])?;
+        given.take(alloc, genesis, index as u32, &events[*place as usize])?;
     }
-    match given.line(alloc, places.len()) {
+    match node_line(
+        alloc,
+        u64::from(node),
+        places.len() as u64,
+        u64::from(given.accepted),
+        &mut given.store,
+        &given.lines,
+    ) {
         Ok(line) => Ok(Delivered { node: given, line }),
         Err(NoMemory) => Err(Status::NoMemory),
     }

@@ -1,19 +1,18 @@
 //! Pairs of nodes: a book takes the blocks that both stores accepted, with their states and what was seen on the way to them, and a line
 //! says what it finds. No transition is run again.
 
-ghost use Rattle.std.specs.Prelude.{◌≡◌, ◌<◌, ◌≤◌, ◌^◌, [], All, length, map, None, Ok, IfOk, IfErr};
+ghost use Rattle.std.specs.Prelude.{◌≡◌, ◌<◌, ◌-◌, ◌^◌, [], All, length, map, None, Ok, IfOk, IfErr};
 ghost use Rattle.spec_fork_choice.specs.OnEvent.{genesis_clash};
 ghost use Rattle.spec_forensics.specs.Clash.{first_accepted};
-ghost use Rattle.spec_replay.specs.Nodes.{all_or_end, first_clash, pair_line, pair_of, pairs_of};
-ghost use Rattle.forensics.specs.Books.{begun, history_of};
+ghost use Rattle.spec_replay.specs.Nodes.{all_or_end, first_clash, pair_of, pairs_of};
+ghost use Rattle.forensics.specs.Books.{history_of};
 ghost use Rattle.beacon_node.specs.inside.Following.{IsInside};
 ghost use Rattle.beacon_node.specs.inside.Histories.{HasFound, IsGenesis};
-ghost use Rattle.beacon_node.specs.inside.Nodes.{IsNode, LinesTold, NodeEnds, history_in, plain_node};
+ghost use Rattle.beacon_node.specs.inside.Nodes.{HasRun, IsNode, LinesTold, NodeEnds, history_in, plain_node};
 
 use crate::histories::{Findings, book_at, find};
-use crate::lines::push_number;
 use crate::node::{Delivered, Node};
-use crate::offence_lines::verdict_line;
+use crate::node_lines::pair_text;
 use crate::status::Status;
 use bc_preset::Config;
 use bc_words::{ClashKind, NoMemory};
@@ -22,9 +21,15 @@ use forensics::VoteBook;
 use std::alloc::Global;
 
 /// The first event of the second node whose block has the root of another block of the first one, with that block's place.
-fn first_clash(first: &Node<'_>, second: &Node<'_>) -> Option<(u32, u32)>
-    requires few { length first.now.store.plain.blocks < 2 ^ 32 }
-    ensures { result ≡ first_clash first.now.store.plain.blocks (history_in second.now.blocks.items) }
+fn first_clash(
+    config: &Config,
+    genesis: &State,
+    first: &Node<'_>,
+    second: &Node<'_>,
+) -> Option<(u32, u32)>
+    requires first { HasRun config.now genesis.now first.now }
+    requires second { HasRun config.now genesis.now second.now }
+    ensures { result ≡ first_clash (first_accepted genesis.now (history_in first.now.blocks.items)) (history_in second.now.blocks.items) }
 {
     for added in &second.blocks {
         let Some(block) = second.store.block(added.root) else {
@@ -45,8 +50,12 @@ fn add_blocks(
     book: &mut VoteBook,
 ) -> Result<(), NoMemory>
     requires which { which < 2 }
+    requires is { IsNode book.old.config book.old.genesis node.now }
     requires begun { history_of book.old which ≡ [] }
+    requires order { which ≡ 0 → book.old.second ≡ [] }
+    requires apart { which ≡ 1 → first_clash (first_accepted book.old.genesis book.old.first) (history_in node.now.blocks.items) ≡ None }
     ensures added { IfOk result (λ _. history_of book.new which ≡ history_in node.now.blocks.items) }
+    ensures other { history_of book.new (1 - which) ≡ history_of book.old (1 - which) }
     ensures config { book.new.config ≡ book.old.config }
     ensures genesis { book.new.genesis ≡ book.old.genesis }
 {
@@ -76,7 +85,7 @@ fn found(
     second: &Node<'_>,
 ) -> Result<Findings, Status>
     requires genesis { IsGenesis config.now genesis.now }
-    requires opened { genesis_clash genesis.now ≡ None }
+    requires none { genesis_clash genesis.now ≡ None }
     requires first { IsNode config.now genesis.now first.now }
     requires second { IsNode config.now genesis.now second.now }
     requires apart { first_clash (first_accepted genesis.now (history_in first.now.blocks.items)) (history_in second.now.blocks.items) ≡ None }
@@ -98,21 +107,6 @@ fn found(
     }
 }
 
-/// The line of a pair.
-#[tactic(auto, unfolding(spec_replay::specs::Nodes::pair_line))]
-fn line_of(alloc: Global, first: u8, second: u8, findings: &Findings) -> Result<Vec<u8>, NoMemory> {
-    let mut line = Vec::new(alloc);
-    line.extend_from_slice(b"pair ")?;
-    push_number(&mut line, alloc, u64::from(first))?;
-    line.extend_from_slice(b" ")?;
-    push_number(&mut line, alloc, u64::from(second))?;
-    line.extend_from_slice(b" offenders ")?;
-    push_number(&mut line, alloc, findings.offences.len() as u64)?;
-    line.extend_from_slice(b" ")?;
-    line.extend_from_slice(&verdict_line(alloc, &findings.verdict)?)?;
-    Ok(line)
-}
-
 /// The line of a pair of nodes, unless a block of the second clashes with one of the first.
 fn pair_line(
     alloc: Global,
@@ -122,14 +116,14 @@ fn pair_line(
     second: &Node<'_>,
 ) -> Result<Vec<u8>, Status>
     requires genesis { IsGenesis config.now genesis.now }
-    requires opened { genesis_clash genesis.now ≡ None }
-    requires first { IsNode config.now genesis.now first.now }
-    requires second { IsNode config.now genesis.now second.now }
+    requires none { genesis_clash genesis.now ≡ None }
+    requires first { HasRun config.now genesis.now first.now }
+    requires second { HasRun config.now genesis.now second.now }
     ensures line { IfOk result (λ line. pair_of genesis.now (plain_node [] first.now, plain_node [] second.now) ≡ Ok line.items) }
     ensures over { IfErr result (λ status. NodeEnds status (pair_of genesis.now (plain_node [] first.now, plain_node [] second.now))) }
     ensures inside { IfErr result (λ status. IsInside status) }
 {
-    if let Some((event, place)) = first_clash(first, second) {
+    if let Some((event, place)) = first_clash(config, genesis, first, second) {
         return Err(Status::Clash {
             which: second.number,
             event,
@@ -138,10 +132,36 @@ fn pair_line(
         });
     }
     let findings = found(alloc, config, genesis, first, second)?;
-    match line_of(alloc, first.number, second.number, &findings) {
+    match pair_text(alloc, first.number, second.number, &findings) {
         Ok(line) => Ok(line),
         Err(NoMemory) => Err(Status::NoMemory),
     }
+}
+
+/// Puts the lines of a node's pairs with these others behind those that were made before.
+fn lines_with(
+    alloc: Global,
+    config: &Config,
+    genesis: &State,
+    first: &Node<'_>,
+    others: &[Delivered<'_>],
+) -> Result<Vec<u8>, Status>
+    requires genesis { IsGenesis config.now genesis.now }
+    requires none { genesis_clash genesis.now ≡ None }
+    requires first { HasRun config.now genesis.now first.now }
+    requires each { All (λ given. HasRun config.now genesis.now given.node) others.now }
+    ensures told { LinesTold (λ lines. lines.items) result (all_or_end (map (λ given. pair_of genesis.now (plain_node [] first.now, plain_node [] given.node)) others.now)) }
+    ensures inside { IfErr result (λ status. IsInside status) }
+{
+    let mut lines = Vec::new(alloc);
+    for second in others {
+        let line = pair_line(alloc, config, genesis, first, &second.node)?;
+        match lines.extend_from_slice(&line) {
+            Ok(()) => {}
+            Err(_) => return Err(Status::NoMemory),
+        }
+    }
+    Ok(lines)
 }
 
 /// The lines of all pairs of nodes, the earlier node of a pair first.
@@ -152,19 +172,17 @@ pub fn pair_lines(
     nodes: &[Delivered<'_>],
 ) -> Result<Vec<u8>, Status>
     requires genesis { IsGenesis config.now genesis.now }
-    requires opened { genesis_clash genesis.now ≡ None }
-    requires each { All (λ given. IsNode config.now genesis.now given.node) nodes.now }
+    requires none { genesis_clash genesis.now ≡ None }
+    requires each { All (λ given. HasRun config.now genesis.now given.node) nodes.now }
     ensures told { LinesTold (λ lines. lines.items) result (all_or_end (map (pair_of genesis.now) (pairs_of (map (λ given. plain_node [] given.node) nodes.now)))) }
     ensures inside { IfErr result (λ status. IsInside status) }
 {
     let mut lines = Vec::new(alloc);
     for (index, first) in nodes.iter().enumerate() {
-        for second in &nodes[index + 1..] {
-            let line = pair_line(alloc, config, genesis, &first.node, &second.node)?;
-            match lines.extend_from_slice(&line) {
-                Ok(()) => {}
-                Err(_) => return Err(Status::NoMemory),
-            }
+        let more = lines_with(alloc, config, genesis, &first.node, &nodes[index + 1..])?;
+        match lines.extend_from_slice(&more) {
+            Ok(()) => {}
+            Err(_) => return Err(Status::NoMemory),
         }
     }
     Ok(lines)

@@ -14,7 +14,7 @@ ghost use Rattle.beacon_node.specs.Answers.{OutsideKeeps, Replayed, whole_of};
 ghost use Rattle.beacon_node.specs.inside.Drilled.{DrillTold, Finished};
 ghost use Rattle.beacon_node.specs.inside.Following.{IsInside};
 ghost use Rattle.beacon_node.specs.inside.Histories.{IsGenesis};
-ghost use Rattle.beacon_node.specs.inside.Nodes.{IsNode, LinesTold, NodeEnds, lines_behind, node_given, plain_node};
+ghost use Rattle.beacon_node.specs.inside.Nodes.{HasRun, IsSplit, LinesTold, NodeEnds, behind_ones, node_given, plain_node};
 
 use crate::events::unwritten;
 use crate::histories::store_at;
@@ -37,15 +37,19 @@ const FULL_BALANCE: u64 = 32_000_000_000;
 
 /// The makers of the two chains of a number's split, and the genesis of both.
 #[derive(Drop)]
-struct Split {
-    first: Maker,
-    second: Maker,
-    genesis: State,
+pub struct Split {
+    /// Of the first chain.
+    pub first: Maker,
+    /// Of the second one.
+    pub second: Maker,
+    /// The genesis state.
+    pub genesis: State,
 }
 
 /// The split of a number under a configuration.
 fn split_of(alloc: Global, number: u64, config: &Config) -> Result<Split, NoMemory>
     requires { config.now.ejection_balance < 32_000_000_000 }
+    ensures { IfOk result (λ split. IsSplit (record { config = config.now; number = number; which = None }) split) }
 {
     let maker = Maker::new(alloc, number, config)?;
     Ok(Split {
@@ -65,12 +69,13 @@ fn all_nodes<'a>(
     second: &[Event],
 ) -> Result<Vec<Delivered<'a>>, Status>
     requires genesis { IsGenesis config.now genesis.now }
+    requires none { genesis_clash genesis.now ≡ None }
     requires few { (length first.now ≤ most_events) × (length second.now ≤ most_events) }
     requires kinds { All (λ event. is_kind event.kind ≡ true) first.now × All (λ event. is_kind event.kind ≡ true) second.now }
     ensures nodes { IfOk result (λ nodes. all_or_end (map (node_of words.now.number (genesis_store config.now genesis.now) first.now second.now) (range_with_len 0 words.now.count))
         ≡ Ok (map (node_given words.now.number first.now second.now) nodes.items)) }
     ensures lines { IfOk result (λ nodes. flat_map (λ given. given.line.items) nodes.items ≡ flat_map (node_line (genesis_store config.now genesis.now)) (map (node_given words.now.number first.now second.now) nodes.items)) }
-    ensures each { IfOk result (λ nodes. All (λ given. IsNode config.now genesis.now given.node) nodes.items) }
+    ensures each { IfOk result (λ nodes. All (λ given. HasRun config.now genesis.now given.node) nodes.items) }
     ensures over { IfErr result (λ status. NodeEnds status (all_or_end (map (node_of words.now.number (genesis_store config.now genesis.now) first.now second.now) (range_with_len 0 words.now.count)))) }
     ensures inside { IfErr result (λ status. IsInside status) }
 {
@@ -94,9 +99,9 @@ fn lines_of(
     nodes: &[Delivered<'_>],
 ) -> Result<Vec<u8>, Status>
     requires genesis { IsGenesis config.now genesis.now }
-    requires opened { genesis_clash genesis.now ≡ None }
-    requires each { All (λ given. IsNode config.now genesis.now given.node) nodes.now }
-    ensures told { LinesTold (λ lines. lines.items) result (lines_behind (map (λ given. given.line.items) nodes.now) (all_or_end (map (pair_of genesis.now) (pairs_of (map (λ given. plain_node [] given.node) nodes.now))))) }
+    requires none { genesis_clash genesis.now ≡ None }
+    requires each { All (λ given. HasRun config.now genesis.now given.node) nodes.now }
+    ensures told { LinesTold (λ lines. lines.items) result (behind_ones (map (λ given. given.line.items) nodes.now) (all_or_end (map (pair_of genesis.now) (pairs_of (map (λ given. plain_node [] given.node) nodes.now))))) }
     ensures inside { IfErr result (λ status. IsInside status) }
 {
     let mut lines = Vec::new(alloc);

@@ -1,21 +1,29 @@
 -- Nodes that are delivered the events of two made chains: what was done of a node's events, and what its blocks stand for.
-use Rattle.std.specs.Prelude.{◌≡◌, ◌≢◌, ℕ, ◌+◌, false, List, [], ◌∷◌, ◌++◌, All, flat_map, map, reverse, Option, Some, None, Result, Ok, Err}
+use Rattle.std.specs.Prelude.{◌≡◌, ◌≢◌, ℕ, ◌+◌, ◌<◌, ◌^◌, false, List, [], ◌∷◌, ◌++◌, All, flat_map, length, map, reverse, Option, Some, None, Result, Ok, Err}
 use Rattle.bc_preset.specs.declared.configuration.ConfigValues.{ConfigValues}
 use Rattle.record_file.specs.Record as record_file
 use Rattle.record_file.specs.Record.{Events}
 use Rattle.record_file.specs.declared.event.Event.{Event}
+use Rattle.spec_state.specs.Genesis.{genesis_fault}
 use Rattle.spec_state.specs.declared.plain.PlainState.{PlainState}
+use Rattle.spec_fork_choice.specs.Store.{Store}
+use Rattle.spec_fork_choice.specs.OnEvent.{Accepted, block, other}
 use Rattle.spec_forensics.specs.Histories.{AcceptedBlock}
 use Rattle.spec_forensics.specs.Clash.{clash_among, first_accepted}
+use Rattle.spec_drill.specs.MakeGenesis.{genesis_of_plan}
+use Rattle.spec_drill.specs.Maker.{new_maker}
+use Rattle.spec_drill.specs.Plan.{Plan}
 use Rattle.spec_replay.specs.Run.{Run, End, done, record_end, replay_events}
 use Rattle.spec_replay.specs.Drill.{Tally, tally_of}
 use Rattle.spec_replay.specs.Forensic.{Followed, follow_events}
 use Rattle.node_drill.specs.Deliveries.{delivered}
 use Rattle.spec_replay.specs.Nodes.{Node, chain_of_node}
-use Rattle.safety_law.specs.Follows.{Follows}
+use Rattle.safety_law.specs.Follows.{Follows, IsAdded}
+use Rattle.forensics.specs.Watches.{PlainWatch}
 use Rattle.beacon_node.specs.declared.node.Node as code
 use Rattle.beacon_node.specs.declared.node.NodeBlock.{NodeBlock}
 use Rattle.beacon_node.specs.declared.node.Delivered.{Delivered}
+use Rattle.beacon_node.specs.declared.nodes.Split.{Split}
 use Rattle.beacon_node.specs.declared.status.Status.{Status}
 use Rattle.beacon_node.specs.declared.status.Status.TheVariants as statuses
 use Rattle.beacon_node.specs.Answers.{breaks_off, end_of}
@@ -35,11 +43,26 @@ abbrev pub AreClear : PlainState → List AcceptedBlock → Type 0
 AreClear genesis [] = Unit {0}
 AreClear genesis (b ∷ earlier) = (clash_among (first_accepted genesis earlier) b.root b.block ≡ None) × AreClear genesis earlier
 
+-- What always holds of a node's entries.
+pub record AreKept (genesis : PlainState) (blocks : List NodeBlock) : Type 0 where
+  pub clear : AreClear genesis (history_in blocks)
+  pub watches : All (λ b. b.watch.genesis ≡ genesis) blocks
+
+-- An accepted event can be kept, behind which the store is this one: a block is added to the history, and the watch saw the states that
+-- were entered on the way to it.
+abbrev pub CanKeep : PlainState → List NodeBlock → Store → ℕ → PlainWatch → Accepted → Type 0
+CanKeep genesis blocks store number watch other = Unit {0}
+CanKeep genesis blocks store number watch (block given) = IsAdded store.config genesis (history_in blocks) store number given × (watch ≡ record { genesis = genesis; entered = given.entered })
+
 -- What always holds of a node: its store follows the history that its entries stand for.
 pub record IsNode (config : ConfigValues) (genesis : PlainState) (node : code.Node) : Type 0 where
   pub follows : Follows config genesis (history_in node.blocks.items) node.store.plain
-  pub clear : AreClear genesis (history_in node.blocks.items)
-  pub watches : All (λ b. b.watch.genesis ≡ genesis) node.blocks.items
+  pub kept : AreKept genesis node.blocks.items
+
+-- What holds of one that was delivered all of its events.
+pub record HasRun (config : ConfigValues) (genesis : PlainState) (node : code.Node) : Type 0 where
+  pub is : IsNode config genesis node
+  pub few : length node.store.plain.blocks < 2 ^ 32
 
 -- ---- its events
 
@@ -83,14 +106,23 @@ plain_node events node = record { number = node.number; events = events; followe
 abbrev pub node_given : ℕ → List Event → List Event → Delivered → Node
 node_given number first second given = plain_node (delivered number given.node.number (chain_of_node given.node.number first second)) given.node
 
--- ---- lines
+-- ---- one after the other
 
--- lines, and then others, unless these end the run
-abbrev pub lines_behind : List (List ℕ) → Result (List (List ℕ)) End → Result (List (List ℕ)) End
-lines_behind lines (Ok more) = Ok (lines ++ more)
-lines_behind lines (Err end) = Err end
+-- these, and then others, unless they end the run
+abbrev pub behind_ones : {A : Type 0} → List A → Result (List A) End → Result (List A) End
+behind_ones ones (Ok more) = Ok (ones ++ more)
+behind_ones ones (Err end) = Err end
 
 -- These lines were made, one after the other; or the run ends.
 abbrev pub LinesTold : {V : Type 0} → (V → List ℕ) → Result V Status → Result (List (List ℕ)) End → Type 0
 LinesTold items (Ok made) lines = (more : List (List ℕ)) × (lines ≡ Ok more) × (items made ≡ flat_map (λ line. line) more)
 LinesTold items (Err status) lines = NodeEnds status lines
+
+-- ---- the chains
+
+-- The makers of a plan's split, which gave nothing yet, and the genesis of both.
+pub record IsSplit (plan : Plan) (split : Split) : Type 0 where
+  pub first : split.first ≡ new_maker (record plan { which = Some 0 })
+  pub second : split.second ≡ new_maker (record plan { which = Some 1 })
+  pub genesis : split.genesis ≡ genesis_of_plan plan
+  pub passes : genesis_fault split.genesis ≡ None

@@ -1,0 +1,106 @@
+//! The text of the lines of nodes and of their pairs.
+
+ghost use Rattle.std.specs.Prelude.{◌≡◌, ◌++◌, length, IfOk, OnOk};
+ghost use Rattle.hash_tree.specs.Merkle.{hash};
+ghost use Rattle.spec_replay.specs.Nodes.{counts_text, ends_text, node_text, pair_text};
+
+use crate::histories::Findings;
+use crate::lines::{push_checkpoint, push_head, push_number};
+use crate::offence_lines::verdict_line;
+use bc_words::NoMemory;
+use fork_store::Store;
+use hash_tree::Root;
+use sha2::{Digest, Sha256};
+use std::alloc::{AllocError, Global};
+
+/// SHA-256 of some lines.
+#[tactic(auto, unfolding(hash_tree::specs::Merkle::hash))]
+fn digest_of(lines: &[u8]) -> Root
+    ensures { result ≡ hash lines.now }
+{
+    let mut hasher = Sha256::new();
+    hasher.update(lines);
+    hasher.finalize()
+}
+
+/// Appends the words of a node's number and of its counts.
+#[tactic(auto, unfolding(spec_replay::specs::Nodes::counts_text))]
+fn push_counts(
+    line: &mut Vec<u8>,
+    alloc: Global,
+    number: u64,
+    events: u64,
+    accepted: u64,
+) -> Result<(), AllocError>
+    ensures { OnOk result (line.new.items ≡ line.old.items ++ counts_text number events accepted) }
+{
+    line.extend_from_slice(b"node ")?;
+    push_number(line, alloc, number)?;
+    line.extend_from_slice(b" events ")?;
+    push_number(line, alloc, events)?;
+    line.extend_from_slice(b" accepted ")?;
+    push_number(line, alloc, accepted)
+}
+
+/// Appends the words of a store's head and checkpoints.
+#[tactic(auto, unfolding(spec_replay::specs::Nodes::ends_text))]
+fn push_ends(line: &mut Vec<u8>, alloc: Global, store: &mut Store) -> Result<(), NoMemory>
+    ensures line { OnOk result (line.new.items ≡ line.old.items ++ ends_text store.old.plain) }
+    ensures same { store.new.plain ≡ store.old.plain }
+{
+    line.extend_from_slice(b" head ")?;
+    push_head(line, alloc, store)?;
+    line.extend_from_slice(b" justified ")?;
+    push_checkpoint(line, alloc, &store.justified())?;
+    line.extend_from_slice(b" finalized ")?;
+    push_checkpoint(line, alloc, &store.finalized())?;
+    Ok(())
+}
+
+/// The line of a node: its number, how many events it was delivered and how many of them its store accepted, the store behind them, and
+/// the digest of the lines that a run of a record of them writes.
+#[tactic(auto, unfolding(spec_replay::specs::Nodes::node_text))]
+pub fn node_line(
+    alloc: Global,
+    number: u64,
+    events: u64,
+    accepted: u64,
+    store: &mut Store,
+    lines: &[u8],
+) -> Result<Vec<u8>, NoMemory>
+    ensures line { IfOk result (λ line. line.items ≡ node_text number events accepted store.old.plain (hash lines.now)) }
+    ensures same { store.new.plain ≡ store.old.plain }
+{
+    let digest = digest_of(lines);
+    let digits = hex::encode(alloc, &digest)?;
+    let mut line = Vec::new(alloc);
+    push_counts(&mut line, alloc, number, events, accepted)?;
+    push_ends(&mut line, alloc, store)?;
+    line.extend_from_slice(b" lines ")?;
+    line.extend_from_slice(digits.as_bytes())?;
+    line.push(b'\n')?;
+    Ok(line)
+}
+
+/// The line of a pair of nodes: how many offences there are, and the verdict.
+#[tactic(auto, unfolding(spec_replay::specs::Nodes::pair_text))]
+pub fn pair_text(
+    alloc: Global,
+    first: u8,
+    second: u8,
+    findings: &Findings,
+) -> Result<Vec<u8>, NoMemory>
+    ensures { IfOk result (λ line. line.items ≡ pair_text first second (length findings.now.offences.items) findings.now.verdict) }
+{
+    let verdict = verdict_line(alloc, &findings.verdict)?;
+    let mut line = Vec::new(alloc);
+    line.extend_from_slice(b"pair ")?;
+    push_number(&mut line, alloc, u64::from(first))?;
+    line.extend_from_slice(b" ")?;
+    push_number(&mut line, alloc, u64::from(second))?;
+    line.extend_from_slice(b" offenders ")?;
+    push_number(&mut line, alloc, findings.offences.len() as u64)?;
+    line.extend_from_slice(b" ")?;
+    line.extend_from_slice(&verdict)?;
+    Ok(line)
+}
