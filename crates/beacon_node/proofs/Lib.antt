@@ -18,6 +18,6 @@ pub mod Beginnings
 pub mod Following
 pub mod Forensics
 pub mod Findings
-pub mod Nodes
+pub mod Delivering
 pub mod Openings
 pub mod Convictions

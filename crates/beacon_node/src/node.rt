@@ -19,7 +19,7 @@ ghost use Rattle.beacon_node.specs.inside.Nodes.{AreKept, CanKeep, HasRun, IsNod
 use crate::follow::are_bytes;
 use crate::histories::store_at;
 use crate::lines::{accepted_line, refused_line};
-use crate::node_lines::node_line;
+use crate::node_lines::{digest_of, node_line};
 use crate::status::Status;
 use bc_preset::Config;
 use bc_words::{NoMemory, Refusal, StoreStop};
@@ -269,13 +269,16 @@ pub fn delivered_node<'a>(
     for (index, place) in places.iter().enumerate() {
         given.take(alloc, genesis, index as u32, &events[*place as usize])?;
     }
+    let digest = digest_of(&given.lines);
+    let accepted = u64::from(given.accepted);
+    let events = places.len() as u64;
     match node_line(
         alloc,
         u64::from(node),
-        places.len() as u64,
-        u64::from(given.accepted),
+        events,
+        accepted,
         &mut given.store,
-        &given.lines,
+        &digest,
     ) {
         Ok(line) => Ok(Delivered { node: given, line }),
         Err(NoMemory) => Err(Status::NoMemory),

@@ -1,13 +1,16 @@
 //! The text of the lines of nodes and of their pairs.
 
 ghost use Rattle.std.specs.Prelude.{◌≡◌, ◌++◌, length, IfOk, OnOk};
+ghost use Rattle.std.specs.Fmt.{decimal};
 ghost use Rattle.hash_tree.specs.Merkle.{hash};
+ghost use Rattle.spec_replay.specs.Lines.{checkpoint_text};
 ghost use Rattle.spec_replay.specs.Nodes.{counts_text, ends_text, node_text, pair_text};
 
 use crate::histories::Findings;
 use crate::lines::{push_checkpoint, push_head, push_number};
-use crate::offence_lines::verdict_line;
+use crate::offence_lines::{push_two, verdict_line};
 use bc_words::NoMemory;
+use beacon_types::Checkpoint;
 use fork_store::Store;
 use hash_tree::Root;
 use sha2::{Digest, Sha256};
@@ -15,12 +18,38 @@ use std::alloc::{AllocError, Global};
 
 /// SHA-256 of some lines.
 #[tactic(auto, unfolding(hash_tree::specs::Merkle::hash))]
-fn digest_of(lines: &[u8]) -> Root
+pub fn digest_of(lines: &[u8]) -> Root
     ensures { result ≡ hash lines.now }
 {
     let mut hasher = Sha256::new();
     hasher.update(lines);
     hasher.finalize()
+}
+
+/// Appends a word and a number.
+fn push_number_word(
+    line: &mut Vec<u8>,
+    alloc: Global,
+    word: &str,
+    number: u64,
+) -> Result<(), AllocError>
+    ensures { OnOk result (line.new.items ≡ line.old.items ++ (word.now ++ decimal number)) }
+{
+    line.extend_from_slice(word.as_bytes())?;
+    push_number(line, alloc, number)
+}
+
+/// Appends a word and a checkpoint.
+fn push_checkpoint_word(
+    line: &mut Vec<u8>,
+    alloc: Global,
+    word: &str,
+    checkpoint: &Checkpoint,
+) -> Result<(), AllocError>
+    ensures { OnOk result (line.new.items ≡ line.old.items ++ (word.now ++ checkpoint_text checkpoint.now)) }
+{
+    line.extend_from_slice(word.as_bytes())?;
+    push_checkpoint(line, alloc, checkpoint)
 }
 
 /// Appends the words of a node's number and of its counts.
@@ -34,12 +63,9 @@ fn push_counts(
 ) -> Result<(), AllocError>
     ensures { OnOk result (line.new.items ≡ line.old.items ++ counts_text number events accepted) }
 {
-    line.extend_from_slice(b"node ")?;
-    push_number(line, alloc, number)?;
-    line.extend_from_slice(b" events ")?;
-    push_number(line, alloc, events)?;
-    line.extend_from_slice(b" accepted ")?;
-    push_number(line, alloc, accepted)
+    push_number_word(line, alloc, "node ", number)?;
+    push_number_word(line, alloc, " events ", events)?;
+    push_number_word(line, alloc, " accepted ", accepted)
 }
 
 /// Appends the words of a store's head and checkpoints.
@@ -50,10 +76,8 @@ fn push_ends(line: &mut Vec<u8>, alloc: Global, store: &mut Store) -> Result<(),
 {
     line.extend_from_slice(b" head ")?;
     push_head(line, alloc, store)?;
-    line.extend_from_slice(b" justified ")?;
-    push_checkpoint(line, alloc, &store.justified())?;
-    line.extend_from_slice(b" finalized ")?;
-    push_checkpoint(line, alloc, &store.finalized())?;
+    push_checkpoint_word(line, alloc, " justified ", &store.justified())?;
+    push_checkpoint_word(line, alloc, " finalized ", &store.finalized())?;
     Ok(())
 }
 
@@ -66,13 +90,12 @@ pub fn node_line(
     events: u64,
     accepted: u64,
     store: &mut Store,
-    lines: &[u8],
+    digest: &Root,
 ) -> Result<Vec<u8>, NoMemory>
-    ensures line { IfOk result (λ line. line.items ≡ node_text number events accepted store.old.plain (hash lines.now)) }
+    ensures line { IfOk result (λ line. line.items ≡ node_text number events accepted store.old.plain digest.now) }
     ensures same { store.new.plain ≡ store.old.plain }
 {
-    let digest = digest_of(lines);
-    let digits = hex::encode(alloc, &digest)?;
+    let digits = hex::encode(alloc, digest)?;
     let mut line = Vec::new(alloc);
     push_counts(&mut line, alloc, number, events, accepted)?;
     push_ends(&mut line, alloc, store)?;
@@ -95,11 +118,13 @@ pub fn pair_text(
     let verdict = verdict_line(alloc, &findings.verdict)?;
     let mut line = Vec::new(alloc);
     line.extend_from_slice(b"pair ")?;
-    push_number(&mut line, alloc, u64::from(first))?;
-    line.extend_from_slice(b" ")?;
-    push_number(&mut line, alloc, u64::from(second))?;
-    line.extend_from_slice(b" offenders ")?;
-    push_number(&mut line, alloc, findings.offences.len() as u64)?;
+    push_two(&mut line, alloc, u64::from(first), u64::from(second))?;
+    push_number_word(
+        &mut line,
+        alloc,
+        " offenders ",
+        findings.offences.len() as u64,
+    )?;
     line.extend_from_slice(b" ")?;
     line.extend_from_slice(&verdict)?;
     Ok(line)
