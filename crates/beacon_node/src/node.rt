@@ -1,8 +1,7 @@
 //! A node: a store of its own, which is delivered events, and what a book wants of the blocks that it accepts.
 
-ghost use Rattle.std.specs.Prelude.{◌≡◌, ◌<◌, ◌≤◌, ◌+◌, ◌^◌, [], ◌∷◌, ◌++◌, All, List, length, true, Ok, IfOk, IfErr};
+ghost use Rattle.std.specs.Prelude.{◌≡◌, ◌<◌, ◌≤◌, ◌+◌, ◌^◌, [], ◌++◌, All, length, true, Ok, IfOk, IfErr, None};
 ghost use Rattle.record_file.specs.Record.{is_kind, most_events};
-ghost use Rattle.record_file.specs.declared.event.Event as plain_event;
 ghost use Rattle.spec_fork_choice.specs.GetForkchoiceStore.{genesis_store};
 ghost use Rattle.spec_fork_choice.specs.OnEvent.{block, genesis_clash};
 ghost use Rattle.spec_forensics.specs.Histories.{with_event};
@@ -14,7 +13,8 @@ ghost use Rattle.fork_store.specs.Events.{accepted_of};
 ghost use Rattle.safety_law.specs.Follows.{IsAdded};
 ghost use Rattle.beacon_node.specs.inside.Histories.{IsGenesis, IsOpened, OpeningEnds};
 ghost use Rattle.beacon_node.specs.inside.Following.{IsInside};
-ghost use Rattle.beacon_node.specs.inside.Nodes.{AreKept, CanKeep, HasRun, IsNode, NodeEnds, OneTaken, history_in, node_left, plain_node};
+ghost use Rattle.beacon_node.specs.inside.Progress.{outcome_of};
+ghost use Rattle.beacon_node.specs.inside.Nodes.{AreKept, CanKeep, HasRun, IsNode, NodeEnds, OneTaken, StopsAt, history_in, plain_node};
 
 use crate::follow::are_bytes;
 use crate::histories::store_at;
@@ -193,8 +193,7 @@ impl<'a> Node<'a> {
         ensures accepted { IfOk result (λ _. self.new.accepted ≤ before + 1) }
         ensures is { IfOk result (λ _. IsNode self.old.store.plain.config genesis.now self.new) }
         ensures taken { IfOk result (λ _. OneTaken before event.now self.old self.new) }
-        ensures over { IfErr result (λ status. (later : List plain_event) → NodeEnds status (node_left (before + 1) self.old (event.now ∷ later))) }
-        ensures inside { IfErr result (λ status. IsInside status) }
+        ensures over { IfErr result (λ status. StopsAt status self.old.number (before + 1) (outcome_of self.old.store.plain event.now)) }
     {
         are_bytes(event.payload.as_slice());
         let number = before + 1;
@@ -267,7 +266,10 @@ pub fn delivered_node<'a>(
     };
     let mut given = Node::new(alloc, config, genesis, node)?;
     for (index, place) in places.iter().enumerate() {
-        given.take(alloc, genesis, index as u32, &events[*place as usize])?;
+        match given.take(alloc, genesis, index as u32, &events[*place as usize]) {
+            Ok(()) => {}
+            Err(status) => return Err(status),
+        }
     }
     let digest = digest_of(&given.lines);
     let accepted = u64::from(given.accepted);

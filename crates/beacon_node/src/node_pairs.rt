@@ -155,7 +155,10 @@ fn lines_with(
 {
     let mut lines = Vec::new(alloc);
     for second in others {
-        let line = pair_line(alloc, config, genesis, first, &second.node)?;
+        let line = match pair_line(alloc, config, genesis, first, &second.node) {
+            Ok(line) => line,
+            Err(status) => return Err(status),
+        };
         match lines.extend_from_slice(&line) {
             Ok(()) => {}
             Err(_) => return Err(Status::NoMemory),
@@ -179,7 +182,10 @@ pub fn pair_lines(
 {
     let mut lines = Vec::new(alloc);
     for (index, first) in nodes.iter().enumerate() {
-        let more = lines_with(alloc, config, genesis, &first.node, &nodes[index + 1..])?;
+        let more = match lines_with(alloc, config, genesis, &first.node, &nodes[index + 1..]) {
+            Ok(more) => more,
+            Err(status) => return Err(status),
+        };
         match lines.extend_from_slice(&more) {
             Ok(()) => {}
             Err(_) => return Err(Status::NoMemory),

@@ -9,7 +9,7 @@ ghost use Rattle.spec_fork_choice.specs.GetForkchoiceStore.{genesis_store};
 ghost use Rattle.spec_fork_choice.specs.OnEvent.{genesis_clash};
 ghost use Rattle.spec_drill.specs.AsEvents.{events_to_come};
 ghost use Rattle.spec_drill.specs.Maker.{new_maker, to_come};
-ghost use Rattle.spec_replay.specs.Nodes.{all_or_end, node_line, node_of, nodes_config, nodes_run, nodes_store, pair_of, pairs_of};
+ghost use Rattle.spec_replay.specs.Nodes.{all_or_end, chain_of_node, node_line, node_of, nodes_config, nodes_run, nodes_store, pair_of, pairs_of};
 ghost use Rattle.beacon_node.specs.Answers.{OutsideKeeps, Replayed, whole_of};
 ghost use Rattle.beacon_node.specs.inside.Drilled.{DrillTold, Finished};
 ghost use Rattle.beacon_node.specs.inside.Following.{IsInside};
@@ -59,7 +59,15 @@ fn split_of(alloc: Global, number: u64, config: &Config) -> Result<Split, NoMemo
     })
 }
 
-/// All nodes, one after the other: those with an even number are delivered the first chain, the others the second.
+/// The chain that a node is delivered: the first where its number is even, and else the second.
+#[tactic(auto, unfolding(spec_replay::specs::Nodes::chain_of_node))]
+fn chain_of<'e>(node: u8, first: &'e [Event], second: &'e [Event]) -> &'e [Event]
+    ensures { result.now ≡ chain_of_node node first.now second.now }
+{
+    if node % 2 == 0 { first } else { second }
+}
+
+/// All nodes, one after the other.
 fn all_nodes<'a>(
     alloc: Global,
     config: &Config,
@@ -81,8 +89,11 @@ fn all_nodes<'a>(
 {
     let mut nodes = Vec::new(alloc);
     for node in 0..words.count as u8 {
-        let events = if node % 2 == 0 { first } else { second };
-        let given = delivered_node(alloc, config, genesis, words.number, node, events)?;
+        let events = chain_of(node, first, second);
+        let given = match delivered_node(alloc, config, genesis, words.number, node, events) {
+            Ok(given) => given,
+            Err(status) => return Err(status),
+        };
         match nodes.push(given) {
             Ok(()) => {}
             Err(_) => return Err(Status::NoMemory),
@@ -129,6 +140,7 @@ fn all_lines(
     requires new { (split.first ≡ new_maker split.first.plan) × (split.second ≡ new_maker split.second.plan) }
     ensures told { DrillTold (λ lines. lines.items) result (nodes_store (genesis_clash split.genesis) words.now.number words.now.count split.genesis (genesis_store config.now split.genesis)
         (events_to_come 0 (to_come split.first)) (events_to_come 0 (to_come split.second))) }
+    ensures inside { IfErr result (λ status. IsInside status) }
 {
     let Split {
         first,

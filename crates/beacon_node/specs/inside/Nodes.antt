@@ -1,6 +1,7 @@
 -- Nodes that are delivered the events of two made chains: what was done of a node's events, and what its blocks stand for.
-use Rattle.std.specs.Prelude.{◌≡◌, ◌≢◌, ℕ, ◌+◌, ◌<◌, ◌^◌, false, List, [], ◌∷◌, ◌++◌, All, flat_map, length, map, reverse, Option, Some, None, Result, Ok, Err}
+use Rattle.std.specs.Prelude.{◌≡◌, ℕ, ◌+◌, ◌<◌, ◌^◌, false, List, [], ◌∷◌, ◌++◌, All, flat_map, length, map, reverse, Option, Some, None, Result, Ok, Err}
 use Rattle.bc_preset.specs.declared.configuration.ConfigValues.{ConfigValues}
+use Rattle.bc_words.specs.Events.{EventOutcome, event_limited, event_clashes}
 use Rattle.record_file.specs.Record as record_file
 use Rattle.record_file.specs.Record.{Events}
 use Rattle.record_file.specs.declared.event.Event.{Event}
@@ -27,6 +28,7 @@ use Rattle.beacon_node.specs.declared.nodes.Split.{Split}
 use Rattle.beacon_node.specs.declared.status.Status.{Status}
 use Rattle.beacon_node.specs.declared.status.Status.TheVariants as statuses
 use Rattle.beacon_node.specs.Answers.{breaks_off, end_of}
+use Rattle.beacon_node.specs.inside.Following.{IsInside}
 
 -- ---- a node's blocks
 
@@ -93,10 +95,17 @@ pub record OneTaken (given : ℕ) (event : Event) (old new : code.Node) : Type 0
 abbrev pub NodeEnds : {A : Type 0} → Status → Result A End → Type 0
 NodeEnds status left = breaks_off status ≡ false → (end : End) × (Some end ≡ end_of status) × (left ≡ Err end)
 
+-- The run ends with this status at the event with this number of a node with that number: at a bound, a clash, or for want of memory.
+abbrev pub StopsAt : Status → ℕ → ℕ → EventOutcome (Store × Accepted) → Type 0
+StopsAt (statuses.Limit which event limit) node number outcome = (which ≡ node) × (event ≡ number) × (outcome ≡ event_limited limit)
+StopsAt (statuses.Clash which event kind kept_which) node number outcome = (which ≡ node) × (event ≡ number) × (kept_which ≡ node) × (outcome ≡ event_clashes kind)
+StopsAt statuses.NoMemory node number outcome = Unit {0}
+StopsAt _ node number outcome = ⊥
+
 -- One of the events of a chain with this number can't be made, or the run was broken off.
 pub record EndsMaking (status : Status) (which : ℕ) (events : Events) : Type 0 where
   pub ends : breaks_off status ≡ false → Some (record_end which events.end) ≡ end_of status
-  pub done : status ≢ statuses.Done
+  pub inside : IsInside status
 
 -- a node as the definitions have it, which was delivered these events
 abbrev pub plain_node : List Event → code.Node → Node
@@ -113,7 +122,13 @@ abbrev pub behind_ones : {A : Type 0} → List A → Result (List A) End → Res
 behind_ones ones (Ok more) = Ok (ones ++ more)
 behind_ones ones (Err end) = Err end
 
--- These lines were made, one after the other; or the run ends.
+-- So far these lines were made, one after the other, and this is left of all.
+pub record LinesSoFar (lines : List ℕ) (left all : Result (List (List ℕ)) End) : Type 0 where
+  pub made : List (List ℕ)
+  pub are : lines ≡ flat_map (λ line. line) made
+  pub all_is : all ≡ behind_ones made left
+
+-- All lines were made, one after the other; or the run ends.
 abbrev pub LinesTold : {V : Type 0} → (V → List ℕ) → Result V Status → Result (List (List ℕ)) End → Type 0
 LinesTold items (Ok made) lines = (more : List (List ℕ)) × (lines ≡ Ok more) × (items made ≡ flat_map (λ line. line) more)
 LinesTold items (Err status) lines = NodeEnds status lines
