@@ -19,5 +19,7 @@ pub mod Following
 pub mod Forensics
 pub mod Findings
 pub mod Delivering
+pub mod Pairing
+pub mod ManyNodes
 pub mod Openings
 pub mod Convictions

@@ -122,12 +122,13 @@ pair_line genesis pair =
     pair_text pair.0.number pair.1.number (length (offences_of genesis pair.0.followed.history pair.1.followed.history)) (verdict_on genesis pair.0.followed pair.1.followed)
 
 -- a line, unless this event of the second node has a block that clashes with one of the first, at this place
-unfoldable pub unless_pair_clashes : Node × Node → Option (ℕ × ℕ) → List ℕ → Result (List ℕ) End
-unless_pair_clashes pair (Some at) line = Err (clash pair.1.number at.0 (Kept at.1) pair.0.number)
-unless_pair_clashes pair None line = Ok line
+unfoldable pub unless_pair_clashes : ℕ → ℕ → Option (ℕ × ℕ) → List ℕ → Result (List ℕ) End
+unless_pair_clashes first second (Some at) line = Err (clash second at.0 (Kept at.1) first)
+unless_pair_clashes first second None line = Ok line
 
 unfoldable pub pair_of : PlainState → Node × Node → Result (List ℕ) End
-pair_of genesis pair = unless_pair_clashes pair (first_clash (first_accepted genesis pair.0.followed.history) pair.1.followed.history) (pair_line genesis pair)
+pair_of genesis pair =
+    unless_pair_clashes pair.0.number pair.1.number (first_clash (first_accepted genesis pair.0.followed.history) pair.1.followed.history) (pair_line genesis pair)
 
 -- ---- the run
 
