@@ -1,8 +1,9 @@
 -- The run of many nodes: the two chains are made, the nodes are delivered them in turn, and the run ends or its lines are told.
-use Rattle.std.proofs.Common.{◌≡◌, ◌≢◌, ◌∙◌, ◌⊎◌, ℕ, zero, suc, ◌+◌, ◌-◌, ◌<◌, ◌≤◌, Bool, true, false, List, [], ◌∷◌, ◌++◌, length, map, nat_lt, if◌then◌else◌, Option, Some, None, Result, Ok, Err, refl, ap, ap₂, sym, subst, append_assoc, append-nil, inl, inr, arith}
+use Rattle.std.proofs.Common.{◌≡◌, ◌≢◌, ◌∙◌, ◌⊎◌, ℕ, zero, suc, ◌+◌, ◌-◌, ◌<◌, ◌≤◌, ◌%◌, ◌==◌, Bool, true, false, List, [], ◌∷◌, ◌++◌, length, map, nat_lt, if◌then◌else◌, Option, Some, None, Result, Ok, Err, refl, ap, ap₂, sym, subst, append_assoc, append-nil, inl, inr, arith}
 use Rattle.std.specs.Prelude.{All, flat_map}
 use Rattle.std.specs.List.{range_with_len}
 use Rattle.std.proofs.lemmas.List.{map_push, flat_map_more}
+use Rattle.std.proofs.lemmas.List.Concat.{flat_map-append}
 use Rattle.std.proofs.lemmas.List.Folds.{flat_map-map}
 use Rattle.bc_outside.specs.Told.{ShelfTold, SinkTold}
 use Rattle.bc_outside.specs.Calls.{Rose}
@@ -78,6 +79,9 @@ never_rose : {A : Type 0} → Rose 0 0 → A
 never_rose (inl less) = absurd (omega (arith, less))
 never_rose (inr is) = absurd (omega (arith, is))
 
+pub no_memory_to_make : (which : ℕ) (whole : Events) → EndsMaking statuses.NoMemory which whole
+no_memory_to_make which whole = record { ends = λ on. absurd cc; inside = record { done = λ is. cc; words = λ is. cc; read = λ is. cc; write = λ is. cc } }
+
 -- one can't be made
 pub not_made : (which : ℕ) (stop : SourceStop) (events : List Event) (whole : Events) (old new : MadeSource) (told : ShelfTold) → whole ≡ record { events = events ++ (still_made old).events; end = (still_made old).end }
     → NextOf (Err stop) (made_source old) (made_source new) told told → SourceStopsBy {T = Unit {0}} (Err stop) 0 0 → EndsMaking (no_event_of which stop) which whole
@@ -90,13 +94,7 @@ not_made which (stops.Limit event bound) events whole old new told is h causes =
   inside = record { done = λ is. cc; words = λ is. cc; read = λ is. cc; write = λ is. cc };
 }
 not_made which stops.ReadFault events whole old new told is h causes = never_rose causes.1
-not_made which stops.NoMemory events whole old new told is h causes = memory_ends_making which whole
-  where
-    memory_ends_making : (which : ℕ) (whole : Events) → EndsMaking statuses.NoMemory which whole
-    memory_ends_making which whole = record { ends = λ on. absurd cc; inside = record { done = λ is. cc; words = λ is. cc; read = λ is. cc; write = λ is. cc } }
-
-pub no_memory_to_make : (which : ℕ) (whole : Events) → EndsMaking statuses.NoMemory which whole
-no_memory_to_make which whole = record { ends = λ on. absurd cc; inside = record { done = λ is. cc; words = λ is. cc; read = λ is. cc; write = λ is. cc } }
+not_made which stops.NoMemory events whole old new told is h causes = no_memory_to_make which whole
 
 pub memory_is_inside : IsInside statuses.NoMemory
 memory_is_inside = record { done = λ is. cc; words = λ is. cc; read = λ is. cc; write = λ is. cc }
@@ -164,12 +162,8 @@ pub both_told : (nodes : List Delivered) (made : List ℕ) (pairs : Result (List
 both_told nodes made pairs part told is = (
   map (λ (d : Delivered). d.line.items) nodes ++ told.0,
   ap (behind_ones (map (λ (d : Delivered). d.line.items) nodes)) told.1,
-  is ∙ (ap₂ (λ (xs ys : List ℕ). xs ++ ys) (sym (flat_map-map (λ (line : List ℕ). line) (λ (d : Delivered). d.line.items) nodes)) told.2 ∙ sym (joined (map (λ (d : Delivered). d.line.items) nodes) told.0)),
+  is ∙ (ap₂ (λ (xs ys : List ℕ). xs ++ ys) (sym (flat_map-map (λ (line : List ℕ). line) (λ (d : Delivered). d.line.items) nodes)) told.2 ∙ sym (flat_map-append (λ (line : List ℕ). line) (map (λ (d : Delivered). d.line.items) nodes) told.0)),
 )
-  where
-    joined : (xs ys : List (List ℕ)) → flat_map (λ (line : List ℕ). line) (xs ++ ys) ≡ flat_map (λ (line : List ℕ). line) xs ++ flat_map (λ (line : List ℕ). line) ys
-    joined [] ys = refl
-    joined (x ∷ xs) ys = ap (λ (rest : List ℕ). x ++ rest) (joined xs ys) ∙ sym (append_assoc x (flat_map (λ (line : List ℕ). line) xs) (flat_map (λ (line : List ℕ). line) ys))
 
 pub pairs_end : (status : Status) (ones : List (List ℕ)) (pairs : Result (List (List ℕ)) End) → NodeEnds status pairs → NodeEnds status (behind_ones ones pairs)
 pairs_end status ones pairs h = λ on. let e = h on in (e.0, e.1, ap (behind_ones ones) e.2)
@@ -237,6 +231,20 @@ unfolding nodes_store nodes_of_chains nodes_on
 no_files (Some kind) number count genesis store first second = refl
 no_files None number count genesis store first second = behind-files _ _ (behind-files _ _ (nodes-files genesis store _))
 
+told_of : (lines : List (List ℕ)) (pairs : Result (List (List ℕ)) End) (made front : List ℕ) → flat_map (λ (line : List ℕ). line) lines ≡ front
+    → (told : (more : List (List ℕ)) × (behind_ones lines pairs ≡ Ok more) × (made ≡ flat_map (λ (line : List ℕ). line) more)) → with_pairs front pairs ≡ record { lines = made; end = Some done; files = 0 }
+unfolding with_pairs
+told_of lines (Err end) made front same told = absurd (let no = told.1 in cc)
+told_of lines (Ok more) made front same told =
+    let whole : lines ++ more ≡ told.0 = (let is = told.1 in cc) in
+    let all : made ≡ front ++ flat_map (λ (line : List ℕ). line) more =
+    told.2 ∙ (ap (flat_map (λ (line : List ℕ). line)) (sym whole) ∙ (flat_map-append (λ (line : List ℕ). line) lines more ∙ ap (λ (xs : List ℕ). xs ++ flat_map (λ (line : List ℕ). line) more) same)) in
+    ap (λ (xs : List ℕ). record { lines = xs; end = Some done; files = 0 }) (sym all)
+
+end_stays : (lines : List (List ℕ)) (pairs : Result (List (List ℕ)) End) (end : End) → behind_ones lines pairs ≡ Err end → pairs ≡ Err end
+end_stays lines (Ok more) end is = absurd cc
+end_stays lines (Err other) end is = is
+
 module _ (clashes : Option ClashKind) (number count : ℕ) (genesis : PlainState) (store : Store) (first second : Events) where
   abbrev pub run_of_nodes : Run
   run_of_nodes = nodes_store clashes number count genesis store first second
@@ -249,14 +257,20 @@ module _ (clashes : Option ClashKind) (number count : ℕ) (genesis : PlainState
   module _ (none : clashes ≡ None) where
     pub first_not_made : (status : Status) → EndsMaking status 0 first → DrillEnds status run_of_nodes
     unfolding nodes_store nodes_of_chains
-    first_not_made status h = (no_files clashes number count genesis store first second, λ on.
-        (record_end 0 first.end, h.ends on, rw none (ends_behind status (record_end 0 first.end) _ h.inside.done on (h.ends on))))
+    first_not_made status h = (
+      no_files clashes number count genesis store first second,
+      λ on.
+          (record_end 0 first.end, h.ends on, rw none (ends_behind status (record_end 0 first.end) _ h.inside.done on (h.ends on))),
+    )
 
     module _ (events : List Event) (first_is : first ≡ all_of events) where
       pub second_not_made : (status : Status) → EndsMaking status 1 second → DrillEnds status run_of_nodes
       unfolding nodes_store nodes_of_chains behind_events
-      second_not_made status h = (no_files clashes number count genesis store first second, λ on.
-          (record_end 1 second.end, h.ends on, rw (none, first_is) (ends_behind status (record_end 1 second.end) _ h.inside.done on (h.ends on))))
+      second_not_made status h = (
+        no_files clashes number count genesis store first second,
+        λ on.
+            (record_end 1 second.end, h.ends on, rw (none, first_is) (ends_behind status (record_end 1 second.end) _ h.inside.done on (h.ends on))),
+      )
 
       module _ (others : List Event) (second_is : second ≡ all_of others) where
         abbrev all : Result (List Node) End
@@ -281,29 +295,12 @@ module _ (clashes : Option ClashKind) (number count : ℕ) (genesis : PlainState
           pub lines_over : (status : Status) (lines : List (List ℕ)) → NodeEnds status (behind_ones lines pairs) → DrillEnds status run_of_nodes
           unfolding with_pairs
           lines_over status lines h = (no_files clashes number count genesis store first second, λ on. let e = h on in (e.0, e.1, with_pairs_is ∙ ap (with_pairs (flat_map (node_line store) (map (node_given number events others) nodes))) (end_stays lines pairs e.0 e.2)))
-            where
-              end_stays : (lines : List (List ℕ)) (pairs : Result (List (List ℕ)) End) (end : End) → behind_ones lines pairs ≡ Err end → pairs ≡ Err end
-              end_stays lines (Ok more) end is = absurd cc
-              end_stays lines (Err other) end is = is
 
           pub lines_told : (made : List ℕ) → flat_map (λ (d : Delivered). d.line.items) nodes ≡ flat_map (node_line store) (map (node_given number events others) nodes)
               → (told : (more : List (List ℕ)) × (behind_ones (map (λ (d : Delivered). d.line.items) nodes) pairs ≡ Ok more) × (made ≡ flat_map (λ (line : List ℕ). line) more)) → run_of_nodes ≡ record { lines = made; end = Some done; files = 0 }
-          unfolding with_pairs
-          lines_told made same told = with_pairs_is ∙ all_told pairs refl
-            where
-              all_told : (ps : Result (List (List ℕ)) End) → pairs ≡ ps → with_pairs (flat_map (node_line store) (map (node_given number events others) nodes)) ps ≡ record { lines = made; end = Some done; files = 0 }
-              all_told (Err end) is = absurd (let no = rw is at told.1 in cc)
-              all_told (Ok more) is =
-                  let whole : map (λ (d : Delivered). d.line.items) nodes ++ more ≡ told.0 = (let e = rw is at told.1 in cc) in
-                  let lines : made ≡ flat_map (node_line store) (map (node_given number events others) nodes) ++ flat_map (λ (line : List ℕ). line) more =
-                      told.2
-                      ∙ (ap (flat_map (λ (line : List ℕ). line)) (sym whole)
-                      ∙ (joined (map (λ (d : Delivered). d.line.items) nodes) more
-                      ∙ ap (λ (xs : List ℕ). xs ++ flat_map (λ (line : List ℕ). line) more) (flat_map-map (λ (line : List ℕ). line) (λ (d : Delivered). d.line.items) nodes ∙ same))) in
-                  ap (λ (xs : List ℕ). record { lines = xs; end = Some done; files = 0 }) (sym lines)
-              joined : (xs ys : List (List ℕ)) → flat_map (λ (line : List ℕ). line) (xs ++ ys) ≡ flat_map (λ (line : List ℕ). line) xs ++ flat_map (λ (line : List ℕ). line) ys
-              joined [] ys = refl
-              joined (x ∷ xs) ys = ap (λ (rest : List ℕ). x ++ rest) (joined xs ys) ∙ sym (append_assoc x (flat_map (λ (line : List ℕ). line) xs) (flat_map (λ (line : List ℕ). line) ys))
+          lines_told made same told =
+              with_pairs_is
+              ∙ told_of (map (λ (d : Delivered). d.line.items) nodes) pairs made (flat_map (node_line store) (map (node_given number events others) nodes)) (flat_map-map (λ (line : List ℕ). line) (λ (d : Delivered). d.line.items) nodes ∙ same) told
 
 -- ---- the configuration
 

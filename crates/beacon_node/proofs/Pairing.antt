@@ -2,7 +2,9 @@
 use Rattle.std.proofs.Common.{◌≡◌, ◌∙◌, ℕ, zero, suc, ◌+◌, ◌-◌, ◌<◌, ◌≤◌, List, [], ◌∷◌, ◌++◌, length, get_or, take, drop, map, reverse, Option, Some, None, Result, Ok, Err, refl, ap, ap₂, sym, subst, append_assoc, append-nil, arith}
 use Rattle.std.specs.Prelude.{All, Contains, flat_map}
 use Rattle.std.specs.Option.{option_map, option_or}
-use Rattle.std.proofs.lemmas.List.{map_push, map-append, reverse-append, drop_more, drop_all, take-append-drop, take_more, flat_map_more, map-map}
+use Rattle.std.proofs.lemmas.List.{map_push, map-append, reverse-append, drop_more, drop_all, take-append-drop, take_more, flat_map_more}
+use Rattle.std.proofs.lemmas.List.Concat.{flat_map-append}
+use Rattle.std.proofs.lemmas.Simd.{map-map}
 use Rattle.std.proofs.lemmas.List.Elements.{All-get_or, Contains-get_or}
 use Rattle.bc_preset.specs.declared.configuration.ConfigValues.{ConfigValues}
 use Rattle.bc_words.specs.declared.store_stop.ClashKind.TheVariants.{Kept}
@@ -58,7 +60,7 @@ still_found : (others : List KeptBlock) (more history : List AcceptedBlock) (at 
 still_found others [] history at is = is
 still_found others (b ∷ more) history at is = one_found others b (more ++ history) ∙ ap (λ (o : Option (ℕ × ℕ)). option_or o (here_found others b)) (still_found others more history at is)
 
-none_here : (found : Option ℕ) (event : ℕ) → option_map (λ (place : ℕ). (event, place)) found ≡ None → found ≡ None
+none_here : (found : Option ℕ) (event : ℕ) → option_map {U = ℕ × ℕ} (λ (place : ℕ). (event, place)) found ≡ None → found ≡ None
 none_here (Some place) event is = absurd cc
 none_here None event is = refl
 
@@ -138,12 +140,12 @@ module _ (config : ConfigValues) (genesis : PlainState) (node : code.Node) (is :
     pub none_so_far : first_clash others before ≡ None → None ≡ clash_among others entry.root entry.block.value → first_clash others (history_in (take (i + 1) node.blocks.items)) ≡ None
     none_so_far none clear =
         ap (first_clash others) (history_next node.blocks.items i entry low here)
-        ∙ (one_found others (added_of entry) before ∙ ap₂ (λ (a b : Option (ℕ × ℕ)). option_or a b) none (ap (option_map (λ (place : ℕ). (entry.event, place))) (sym clear)))
+        ∙ (one_found others (added_of entry) before ∙ ap₂ (λ (a b : Option (ℕ × ℕ)). option_or a b) none (ap (option_map {U = ℕ × ℕ} (λ (place : ℕ). (entry.event, place))) (sym clear)))
 
     pub found_here : (place : ℕ) → first_clash others before ≡ None → Some place ≡ clash_among others entry.root entry.block.value → Some (entry.event, place) ≡ first_clash others (history_in node.blocks.items)
     found_here place none clashes =
         let at : first_clash others (added_of entry ∷ before) ≡ Some (entry.event, place) =
-        one_found others (added_of entry) before ∙ ap₂ (λ (a b : Option (ℕ × ℕ)). option_or a b) none (ap (option_map (λ (place : ℕ). (entry.event, place))) (sym clashes)) in
+        one_found others (added_of entry) before ∙ ap₂ (λ (a b : Option (ℕ × ℕ)). option_or a b) none (ap (option_map {U = ℕ × ℕ} (λ (place : ℕ). (entry.event, place))) (sym clashes)) in
         sym (ap (first_clash others) cut ∙ still_found others behind (added_of entry ∷ before) (entry.event, place) at)
 
 -- ---- the book
@@ -246,31 +248,35 @@ pub none_of_all : {A : Type 0} → all_or_end {A = A} [] ≡ Ok []
 unfolding all_or_end
 none_of_all = refl
 
+behind_first : {A : Type 0} (x : A) (more : List A) (left : Result (List A) End) → and_others (Ok x) (behind_ones more left) ≡ behind_ones (x ∷ more) left
+unfolding and_others
+behind_first x more (Ok rest) = refl
+behind_first x more (Err end) = refl
+
+made_behind : {A : Type 0} (x : A) (all joined rest : Result (List A) End) (made : List A) → and_others (Ok x) all ≡ Ok made → ((more : List A) → all ≡ Ok more → joined ≡ behind_ones more rest) → and_others (Ok x) joined ≡ behind_ones made rest
+unfolding and_others
+made_behind x (Err end) joined rest made is so = absurd cc
+made_behind x (Ok more) joined rest made is so =
+    let same : x ∷ more ≡ made = cc in
+    rw (← same) (ap (and_others (Ok x)) (so more refl) ∙ behind_first x more rest)
+
+ends_so : {A : Type 0} (x : A) (all joined : Result (List A) End) (end : End) → and_others (Ok x) all ≡ Err end → ((other : End) → all ≡ Err other → joined ≡ Err other) → and_others (Ok x) joined ≡ Err end
+unfolding and_others
+ends_so x (Ok more) joined end is so = absurd cc
+ends_so x (Err other) joined end is so = let same : other ≡ end = cc in ap (and_others (Ok x)) (so other refl) ∙ ap Err same
+
 -- a list of them in two parts
 pub both_made : {A : Type 0} (xs ys : List (Result A End)) (made : List A) → all_or_end xs ≡ Ok made → all_or_end (xs ++ ys) ≡ behind_ones made (all_or_end ys)
 unfolding all_or_end and_others
 both_made [] ys made is = let none : [] ≡ made = cc in rw (← none) (none_before (all_or_end ys))
 both_made (Err end ∷ xs) ys made is = absurd cc
-both_made (Ok x ∷ xs) ys made is = rest_made x xs ys (all_or_end xs) refl made is
-  where
-    rest_made : {A : Type 0} (x : A) (xs ys : List (Result A End)) (all : Result (List A) End) → all_or_end xs ≡ all → (made : List A) → and_others (Ok x) all ≡ Ok made → and_others (Ok x) (all_or_end (xs ++ ys)) ≡ behind_ones made (all_or_end ys)
-    rest_made x xs ys (Err end) of made is = absurd cc
-    rest_made x xs ys (Ok more) of made is =
-        let same : x ∷ more ≡ made = cc in
-        rw (← same) (ap (and_others (Ok x)) (both_made xs ys more of) ∙ behind_one x more (all_or_end ys))
-    behind_one : {A : Type 0} (x : A) (more : List A) (left : Result (List A) End) → and_others (Ok x) (behind_ones more left) ≡ behind_ones (x ∷ more) left
-    behind_one x more (Ok rest) = refl
-    behind_one x more (Err end) = refl
+both_made (Ok x ∷ xs) ys made is = made_behind x (all_or_end xs) (all_or_end (xs ++ ys)) (all_or_end ys) made is (λ more of. both_made xs ys more of)
 
 pub first_part_ends : {A : Type 0} (xs ys : List (Result A End)) (end : End) → all_or_end xs ≡ Err end → all_or_end (xs ++ ys) ≡ Err end
 unfolding all_or_end and_others
 first_part_ends [] ys end is = absurd cc
 first_part_ends (Err other ∷ xs) ys end is = is
-first_part_ends (Ok x ∷ xs) ys end is = rest_ends x xs ys (all_or_end xs) refl end is
-  where
-    rest_ends : {A : Type 0} (x : A) (xs ys : List (Result A End)) (all : Result (List A) End) → all_or_end xs ≡ all → (end : End) → and_others (Ok x) all ≡ Err end → and_others (Ok x) (all_or_end (xs ++ ys)) ≡ Err end
-    rest_ends x xs ys (Ok more) of end is = absurd cc
-    rest_ends x xs ys (Err other) of end is = let same : other ≡ end = cc in ap (and_others (Ok x)) (first_part_ends xs ys other of) ∙ ap Err same
+first_part_ends (Ok x ∷ xs) ys end is = ends_so x (all_or_end xs) (all_or_end (xs ++ ys)) end is (λ other of. first_part_ends xs ys other of)
 
 -- ---- lines
 
@@ -298,13 +304,9 @@ pub lines_more : (lines new part : List ℕ) (xs ys : List (Result (List ℕ) En
     → new ≡ lines ++ part → LinesSoFar new (all_or_end ys) all
 lines_more lines new part xs ys left all is h told new_is = record {
   made = h.made ++ told.0;
-  are = new_is ∙ ap₂ (λ (xs ys : List ℕ). xs ++ ys) h.are told.2 ∙ sym (joined h.made told.0);
+  are = new_is ∙ ap₂ (λ (xs ys : List ℕ). xs ++ ys) h.are told.2 ∙ sym (flat_map-append (λ (line : List ℕ). line) h.made told.0);
   all_is = h.all_is ∙ ap (behind_ones h.made) (is ∙ both_made xs ys told.0 told.1) ∙ some_before h.made told.0 (all_or_end ys);
 }
-  where
-    joined : (xs ys : List (List ℕ)) → flat_map (λ (line : List ℕ). line) (xs ++ ys) ≡ flat_map (λ (line : List ℕ). line) xs ++ flat_map (λ (line : List ℕ). line) ys
-    joined [] ys = refl
-    joined (x ∷ xs) ys = ap (λ (rest : List ℕ). x ++ rest) (joined xs ys) ∙ sym (append_assoc x (flat_map (λ (line : List ℕ). line) xs) (flat_map (λ (line : List ℕ). line) ys))
 
 pub part_ends : (status : Status) (lines : List ℕ) (xs ys : List (Result (List ℕ) End)) (left all : Result (List (List ℕ)) End) → left ≡ all_or_end (xs ++ ys) → LinesSoFar lines left all → NodeEnds status (all_or_end xs) → NodeEnds status all
 part_ends status lines xs ys left all is h ends = λ on.

@@ -1,6 +1,6 @@
 //! A node: a store of its own, which is delivered events, and what a book wants of the blocks that it accepts.
 
-ghost use Rattle.std.specs.Prelude.{◌≡◌, ◌<◌, ◌≤◌, ◌+◌, ◌^◌, [], ◌++◌, All, length, true, Ok, IfOk, IfErr, None};
+ghost use Rattle.std.specs.Prelude.{◌≡◌, ◌<◌, ◌≤◌, ◌+◌, ◌-◌, ◌^◌, [], ◌++◌, All, length, true, Ok, IfOk, IfErr, None};
 ghost use Rattle.record_file.specs.Record.{is_kind, most_events};
 ghost use Rattle.spec_fork_choice.specs.GetForkchoiceStore.{genesis_store};
 ghost use Rattle.spec_fork_choice.specs.OnEvent.{block, genesis_clash};

@@ -1,9 +1,11 @@
 //! The text of the lines of nodes and of their pairs.
 
-ghost use Rattle.std.specs.Prelude.{◌≡◌, ◌++◌, length, IfOk, OnOk};
+ghost use Rattle.std.specs.Prelude.{◌≡◌, ◌++◌, codes, length, IfOk, OnOk};
 ghost use Rattle.std.specs.Fmt.{decimal};
 ghost use Rattle.hash_tree.specs.Merkle.{hash};
-ghost use Rattle.spec_replay.specs.Lines.{checkpoint_text};
+ghost use Rattle.spec_fork_choice.specs.GetHead.{get_head};
+ghost use Rattle.spec_replay.specs.Forensic.{verdict_line};
+ghost use Rattle.spec_replay.specs.Lines.{checkpoint_text, root_text};
 ghost use Rattle.spec_replay.specs.Nodes.{counts_text, ends_text, node_text, pair_text};
 
 use crate::histories::Findings;
@@ -68,14 +70,22 @@ fn push_counts(
     push_number_word(line, alloc, " accepted ", accepted)
 }
 
+/// Appends the word of a store's head and its root.
+fn push_head_word(line: &mut Vec<u8>, alloc: Global, store: &mut Store) -> Result<(), NoMemory>
+    ensures line { OnOk result (line.new.items ≡ line.old.items ++ (codes " head " ++ root_text (get_head store.old.plain))) }
+    ensures same { store.new.plain ≡ store.old.plain }
+{
+    line.extend_from_slice(b" head ")?;
+    push_head(line, alloc, store)
+}
+
 /// Appends the words of a store's head and checkpoints.
 #[tactic(auto, unfolding(spec_replay::specs::Nodes::ends_text))]
 fn push_ends(line: &mut Vec<u8>, alloc: Global, store: &mut Store) -> Result<(), NoMemory>
     ensures line { OnOk result (line.new.items ≡ line.old.items ++ ends_text store.old.plain) }
     ensures same { store.new.plain ≡ store.old.plain }
 {
-    line.extend_from_slice(b" head ")?;
-    push_head(line, alloc, store)?;
+    push_head_word(line, alloc, store)?;
     push_checkpoint_word(line, alloc, " justified ", &store.justified())?;
     push_checkpoint_word(line, alloc, " finalized ", &store.finalized())?;
     Ok(())
@@ -105,6 +115,24 @@ pub fn node_line(
     Ok(line)
 }
 
+/// Appends the word of a pair and the numbers of its nodes.
+fn push_pair(line: &mut Vec<u8>, alloc: Global, first: u64, second: u64) -> Result<(), AllocError>
+    ensures { OnOk result (line.new.items ≡ line.old.items ++ (codes "pair " ++ (decimal first ++ (codes " " ++ decimal second)))) }
+{
+    line.extend_from_slice(b"pair ")?;
+    push_two(line, alloc, first, second)
+}
+
+/// Appends how many offences there are, and the line of the verdict.
+fn push_found(line: &mut Vec<u8>, alloc: Global, findings: &Findings) -> Result<(), AllocError>
+    ensures { OnOk result (line.new.items ≡ line.old.items ++ (codes " offenders " ++ (decimal (length findings.now.offences.items) ++ (codes " " ++ verdict_line findings.now.verdict)))) }
+{
+    let verdict = verdict_line(alloc, &findings.verdict)?;
+    push_number_word(line, alloc, " offenders ", findings.offences.len() as u64)?;
+    line.extend_from_slice(b" ")?;
+    line.extend_from_slice(&verdict)
+}
+
 /// The line of a pair of nodes: how many offences there are, and the verdict.
 #[tactic(auto, unfolding(spec_replay::specs::Nodes::pair_text))]
 pub fn pair_text(
@@ -112,20 +140,11 @@ pub fn pair_text(
     first: u8,
     second: u8,
     findings: &Findings,
-) -> Result<Vec<u8>, NoMemory>
+) -> Result<Vec<u8>, AllocError>
     ensures { IfOk result (λ line. line.items ≡ pair_text first second (length findings.now.offences.items) findings.now.verdict) }
 {
-    let verdict = verdict_line(alloc, &findings.verdict)?;
     let mut line = Vec::new(alloc);
-    line.extend_from_slice(b"pair ")?;
-    push_two(&mut line, alloc, u64::from(first), u64::from(second))?;
-    push_number_word(
-        &mut line,
-        alloc,
-        " offenders ",
-        findings.offences.len() as u64,
-    )?;
-    line.extend_from_slice(b" ")?;
-    line.extend_from_slice(&verdict)?;
+    push_pair(&mut line, alloc, u64::from(first), u64::from(second))?;
+    push_found(&mut line, alloc, findings)?;
     Ok(line)
 }

@@ -134,7 +134,7 @@ fn pair_line(
     let findings = found(alloc, config, genesis, first, second)?;
     match pair_text(alloc, first.number, second.number, &findings) {
         Ok(line) => Ok(line),
-        Err(NoMemory) => Err(Status::NoMemory),
+        Err(_) => Err(Status::NoMemory),
     }
 }
 
