@@ -7,6 +7,7 @@ use Rattle.std.proofs.lemmas.List.Concat.{flat_map-append}
 use Rattle.std.proofs.lemmas.List.Folds.{flat_map-map}
 use Rattle.bc_outside.specs.Told.{ShelfTold, SinkTold}
 use Rattle.bc_outside.specs.Calls.{Rose}
+use Rattle.bc_outside.proofs.Keeping.{keeps_none}
 use Rattle.bc_preset.specs.Configs.{config_of}
 use Rattle.bc_preset.specs.Presets.{IsPreset}
 use Rattle.bc_preset.specs.declared.configuration.ConfigValues.{ConfigValues}
@@ -42,8 +43,8 @@ use Rattle.beacon_node.specs.declared.status.Status.{Status}
 use Rattle.beacon_node.specs.declared.status.Status.TheVariants as statuses
 use Rattle.beacon_node.specs.Answers.{OutsideKeeps, breaks_off, end_of}
 use Rattle.beacon_node.specs.inside.AtEnd.{EndsOver}
-use Rattle.beacon_node.specs.inside.Drilled.{DrillEnds, Finished}
-use Rattle.beacon_node.specs.inside.Following.{IsInside}
+use Rattle.beacon_node.specs.inside.Drilled.{DrillEnds, DrillTold, Finished}
+use Rattle.beacon_node.specs.inside.Following.{FollowsOutside, IsInside}
 use Rattle.beacon_node.specs.inside.Histories.{IsGenesis, OpeningEnds}
 use Rattle.beacon_node.specs.inside.Reading.{ReadOf, Unread}
 use Rattle.beacon_node.specs.inside.Statuses.{no_event_of, unread}
@@ -302,6 +303,11 @@ module _ (clashes : Option ClashKind) (number count : ℕ) (genesis : PlainState
               with_pairs_is
               ∙ told_of (map (λ (d : Delivered). d.line.items) nodes) pairs made (flat_map (node_line store) (map (node_given number events others) nodes)) (flat_map-map (λ (line : List ℕ). line) (λ (d : Delivered). d.line.items) nodes ∙ same) told
 
+          pub all_told : {V : Type 0} (items : V → List ℕ) (result : Result V Status) → flat_map (λ (d : Delivered). d.line.items) nodes ≡ flat_map (node_line store) (map (node_given number events others) nodes)
+              → LinesTold items result (behind_ones (map (λ (d : Delivered). d.line.items) nodes) pairs) → DrillTold items result run_of_nodes
+          all_told items (Ok made) same told = lines_told (items made) same told
+          all_told items (Err status) same told = lines_over status (map (λ (d : Delivered). d.line.items) nodes) told
+
 -- ---- the configuration
 
 module _ (number count : ℕ) (config : ConfigValues) where
@@ -352,6 +358,14 @@ module _ (number count : ℕ) (name : List ℕ) where
 pub bad_file : (number count : ℕ) (reason : ConfigFault) (w : List ℕ) → Finished (statuses.Config reason) (nodes_config number count (Err reason)) w w
 unfolding nodes_config
 bad_file number count reason w = nothing_written (statuses.Config reason) (bad_config reason) w refl refl refl refl
+
+-- the run ends as the other one does
+pub ends_as : (status : Status) (run other : Run) → other ≡ run → DrillEnds status other → DrillEnds status run
+ends_as status run other same h = subst (λ (r : Run). DrillEnds status r) same h
+
+-- where no file was read
+pub nothing_read : (s : ShelfTold) → FollowsOutside {T = Unit {0}} [] (Ok tt) s s
+nothing_read s = record { shelf = keeps_none s; read = tt; others = tt }
 
 -- nothing was read and nothing written
 pub inside_outside : (status : Status) (s : ShelfTold) (p : SinkTold) → IsInside status → OutsideKeeps [] (Some status) s s p p

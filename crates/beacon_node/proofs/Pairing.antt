@@ -1,5 +1,5 @@
 -- Two nodes whose blocks a book takes, and what is said of all pairs.
-use Rattle.std.proofs.Common.{◌≡◌, ◌∙◌, ℕ, zero, suc, ◌+◌, ◌-◌, ◌<◌, ◌≤◌, List, [], ◌∷◌, ◌++◌, length, get_or, take, drop, map, reverse, Option, Some, None, Result, Ok, Err, refl, ap, ap₂, sym, subst, append_assoc, append-nil, arith}
+use Rattle.std.proofs.Common.{◌≡◌, ◌∙◌, ℕ, zero, suc, ◌+◌, ◌-◌, ◌<◌, ◌≤◌, List, [], ◌∷◌, ◌++◌, length, get_or, take, drop, map, reverse, Option, Some, None, Result, Ok, Err, IfErr, refl, ap, ap₂, sym, subst, append_assoc, append-nil, arith}
 use Rattle.std.specs.Prelude.{All, Contains, flat_map}
 use Rattle.std.specs.Option.{option_map, option_or}
 use Rattle.std.proofs.lemmas.List.{map_push, map-append, reverse-append, drop_more, drop_all, take-append-drop, take_more, flat_map_more}
@@ -217,6 +217,10 @@ module _ (genesis : PlainState) (first second : Node) where
 
 pub no_memory_ends : {A : Type 0} (left : Result A End) → NodeEnds statuses.NoMemory left
 no_memory_ends left = λ on. absurd cc
+
+pub memory_over : {V A : Type 0} (result : Result V Status) (left : Result A End) → IfErr result (λ status. status ≡ statuses.NoMemory) → IfErr result (λ status. NodeEnds status left)
+memory_over (Ok made) left is = tt
+memory_over (Err status) left is = rw is (no_memory_ends left)
 
 -- ---- one after the other
 

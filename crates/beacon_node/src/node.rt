@@ -264,7 +264,10 @@ pub fn delivered_node<'a>(
         Ok(places) => places,
         Err(NoMemory) => return Err(Status::NoMemory),
     };
-    let mut given = Node::new(alloc, config, genesis, node)?;
+    let mut given = match Node::new(alloc, config, genesis, node) {
+        Ok(given) => given,
+        Err(status) => return Err(status),
+    };
     for (index, place) in places.iter().enumerate() {
         match given.take(alloc, genesis, index as u32, &events[*place as usize]) {
             Ok(()) => {}

@@ -107,6 +107,31 @@ fn found(
     }
 }
 
+/// The line of a pair of nodes of which no block of the second clashes with one of the first.
+fn found_line(
+    alloc: Global,
+    config: &Config,
+    genesis: &State,
+    first: &Node<'_>,
+    second: &Node<'_>,
+) -> Result<Vec<u8>, Status>
+    requires genesis { IsGenesis config.now genesis.now }
+    requires none { genesis_clash genesis.now ≡ None }
+    requires first { IsNode config.now genesis.now first.now }
+    requires second { IsNode config.now genesis.now second.now }
+    requires apart { first_clash (first_accepted genesis.now (history_in first.now.blocks.items)) (history_in second.now.blocks.items) ≡ None }
+    ensures line { IfOk result (λ line. pair_of genesis.now (plain_node [] first.now, plain_node [] second.now) ≡ Ok line.items) }
+    ensures over { IfErr result (λ status. status ≡ Status.NoMemory) }
+{
+    match found(alloc, config, genesis, first, second) {
+        Ok(findings) => match pair_text(alloc, first.number, second.number, &findings) {
+            Ok(line) => Ok(line),
+            Err(_) => Err(Status::NoMemory),
+        },
+        Err(status) => Err(status),
+    }
+}
+
 /// The line of a pair of nodes, unless a block of the second clashes with one of the first.
 fn pair_line(
     alloc: Global,
@@ -123,22 +148,18 @@ fn pair_line(
     ensures over { IfErr result (λ status. NodeEnds status (pair_of genesis.now (plain_node [] first.now, plain_node [] second.now))) }
     ensures inside { IfErr result (λ status. IsInside status) }
 {
-    if let Some((event, place)) = first_clash(config, genesis, first, second) {
-        return Err(Status::Clash {
+    match first_clash(config, genesis, first, second) {
+        Some((event, place)) => Err(Status::Clash {
             which: second.number,
             event,
             kind: ClashKind::Kept(place),
             kept_which: first.number,
-        });
-    }
-    let findings = found(alloc, config, genesis, first, second)?;
-    match pair_text(alloc, first.number, second.number, &findings) {
-        Ok(line) => Ok(line),
-        Err(_) => Err(Status::NoMemory),
+        }),
+        None => found_line(alloc, config, genesis, first, second),
     }
 }
 
-/// Puts the lines of a node's pairs with these others behind those that were made before.
+/// The lines of a node's pairs with these others.
 fn lines_with(
     alloc: Global,
     config: &Config,

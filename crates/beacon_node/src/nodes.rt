@@ -122,10 +122,12 @@ fn lines_of(
             Err(_) => return Err(Status::NoMemory),
         }
     }
-    let pairs = pair_lines(alloc, config, genesis, nodes)?;
-    match lines.extend_from_slice(&pairs) {
-        Ok(()) => Ok(lines),
-        Err(_) => Err(Status::NoMemory),
+    match pair_lines(alloc, config, genesis, nodes) {
+        Ok(pairs) => match lines.extend_from_slice(&pairs) {
+            Ok(()) => Ok(lines),
+            Err(_) => Err(Status::NoMemory),
+        },
+        Err(status) => Err(status),
     }
 }
 
@@ -147,11 +149,22 @@ fn all_lines(
         second,
         genesis,
     } = split;
-    let _opens = store_at(alloc, config, &genesis)?;
-    let first = made_events(alloc, 0, first)?;
-    let second = made_events(alloc, 1, second)?;
-    let nodes = all_nodes(alloc, config, &genesis, words, &first, &second)?;
-    lines_of(alloc, config, &genesis, &nodes)
+    let _store = match store_at(alloc, config, &genesis) {
+        Ok(store) => store,
+        Err(status) => return Err(status),
+    };
+    let first = match made_events(alloc, 0, first) {
+        Ok(events) => events,
+        Err(status) => return Err(status),
+    };
+    let second = match made_events(alloc, 1, second) {
+        Ok(events) => events,
+        Err(status) => return Err(status),
+    };
+    match all_nodes(alloc, config, &genesis, words, &first, &second) {
+        Ok(nodes) => lines_of(alloc, config, &genesis, &nodes),
+        Err(status) => Err(status),
+    }
 }
 
 /// Makes the chains of a number under this configuration, unless it would eject the made validators, and writes what became of the nodes.
@@ -169,6 +182,7 @@ fn nodes_config<F: Shelf, O: Sink>(
     if config.ejection_balance() >= FULL_BALANCE {
         return Status::Config(ConfigFault::OutOfRange(Key::EjectionBalance));
     }
+    let _preset = config.preset();
     let split = match split_of(alloc, words.number, config) {
         Ok(split) => split,
         Err(_) => return Status::NoMemory,
