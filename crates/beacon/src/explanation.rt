@@ -90,6 +90,12 @@ fn origins_of<'a>(command: &Option<Command<'a>>) -> Origins<'a> {
             Origin::Made("the made chain"),
             Origin::Made("the second chain of the split"),
         ),
+        Some(Command::Nodes(words)) => (
+            words.config,
+            Origin::Made("the made genesis"),
+            Origin::Made("the events of the first chain or node"),
+            Origin::Made("the events of a later chain or node"),
+        ),
         Some(Command::Genesis(files)) => (files.config, Origin::File(files.deposits), none, none),
         Some(Command::Duties(words)) => (words.config, Origin::File(words.state), none, none),
         Some(Command::Forensic(files)) => (
@@ -176,7 +182,10 @@ fn write_config<W: fmt::Write>(
     fault: ConfigFault,
 ) -> fmt::Result {
     match (command, fault) {
-        (Some(Command::Drill(_)), ConfigFault::OutOfRange(Key::EjectionBalance)) => write!(
+        (
+            Some(Command::Drill(_) | Command::Nodes(_)),
+            ConfigFault::OutOfRange(Key::EjectionBalance),
+        ) => write!(
             f,
             "Config: {config}: EJECTION_BALANCE is out of range: expected less than 32000000000, the balance of the made validators"
         ),

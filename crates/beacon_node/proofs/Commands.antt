@@ -1,7 +1,7 @@
 -- The command words as the first step of a run.
 use Rattle.std.proofs.Common.{◌≡◌, ℕ, List, [], Option, Some, None, Err, true, false, refl, sym, ◌∙◌, append-nil, arith}
 use Rattle.bc_outside.specs.Told.{FileHanded, ShelfTold}
-use Rattle.command_words.specs.Commands.{AnchorFiles, Command, DrillWords, DutiesWords, ForensicFiles, GenesisFiles, ReplayFiles, anchor, command_of, drill, duties, forensic, genesis, names_of, replay}
+use Rattle.command_words.specs.Commands.{AnchorFiles, Command, DrillWords, DutiesWords, ForensicFiles, GenesisFiles, NodesWords, ReplayFiles, anchor, command_of, drill, duties, forensic, genesis, names_of, nodes, replay}
 use Rattle.command_words.specs.inside.Reading.{ReadsCommand}
 use Rattle.command_words.specs.declared.command.WordsStop.{WordsStop}
 use Rattle.command_words.specs.declared.command.WordsStop.TheVariants.{NoCommand, NoMemory}
@@ -11,6 +11,7 @@ use Rattle.spec_replay.specs.Drill.{drill_run}
 use Rattle.spec_replay.specs.Duties.{duties_run}
 use Rattle.spec_replay.specs.Forensic.{forensic_run}
 use Rattle.spec_replay.specs.Genesis.{genesis_run}
+use Rattle.spec_replay.specs.Nodes.{nodes_run}
 use Rattle.spec_replay.specs.Run.{Run, with_files}
 use Rattle.beacon_node.specs.declared.status.Status.{Status}
 use Rattle.beacon_node.specs.declared.status.Status.TheVariants as statuses
@@ -62,6 +63,13 @@ pub forensic_answers : (words : List (List ℕ)) (files : ForensicFiles) (status
     → Replayed (λ contents. run_of contents words) (taken_run_of status words) (names_of (command_of words)) status s t w x
 unfolding run_of with_command taken_run_of
 forensic_answers words files status s t w x is h = record { opened = h.opened; files = h.files; answers = λ c a. rw is (h.answers c a) }
+
+-- the words are the command `nodes`
+pub nodes_answers : (words : List (List ℕ)) (named : NodesWords) (status : Status) (s t : ShelfTold) (w x : List ℕ) → command_of words ≡ Some (nodes named)
+    → Replayed (λ contents. nodes_run named.number named.count (contents named.config)) (λ contents opened. whole_of status (nodes_run named.number named.count (contents named.config))) (names_of (Some (nodes named))) status s t w x
+    → Replayed (λ contents. run_of contents words) (taken_run_of status words) (names_of (command_of words)) status s t w x
+unfolding run_of with_command taken_run_of
+nodes_answers words named status s t w x is h = record { opened = h.opened; files = h.files; answers = λ c a. rw is (h.answers c a) }
 
 -- they are another command
 pub not_forensic : {A : Type 0} (words : List (List ℕ)) (command : Command) (files : ForensicFiles) → command_of words ≡ Some command → (command ≡ forensic files → ⊥) → command_of words ≡ Some (forensic files) → A

@@ -320,7 +320,7 @@ pub makers_still : (plan : Plan) (makers : Makers) → AreMakers plan makers →
 makers_still plan makers are = subst (λ (p : Plan). AreMakers p makers) (sym (plan_is plan makers.own are.own)) are
 
 -- what they give are the plan's chains
-given_by : (plan : Plan) (maker : PlainMaker) → maker ≡ new_maker plan → events_to_come 0 (to_come maker) ≡ events_to_come 0 (made plan)
+pub given_by : (plan : Plan) (maker : PlainMaker) → maker ≡ new_maker plan → events_to_come 0 (to_come maker) ≡ events_to_come 0 (made plan)
 unfolding new_maker
 given_by plan maker is = ap (events_to_come 0) (ap to_come is ∙ sym (new_has_given plan))
 
@@ -371,7 +371,7 @@ module _ (number : ℕ) (config : ConfigValues) where
 -- ---- the configuration's file
 
 -- a run whose files are all read
-finished : (run : Run) (status : Status) (s : ShelfTold) (w x : List ℕ) → Finished status run w x → EndsOver (λ contents. run) [] status s s w x
+pub finished : (run : Run) (status : Status) (s : ShelfTold) (w x : List ℕ) → Finished status run w x → EndsOver (λ contents. run) [] status s s w x
 finished run status s w x h = record {
   opened = [];
   files = sym (append-nil s.files);

@@ -19,5 +19,8 @@ pub mod Beginnings
 pub mod Following
 pub mod Forensics
 pub mod Findings
+pub mod Delivering
+pub mod Pairing
+pub mod ManyNodes
 pub mod Openings
 pub mod Convictions

@@ -13,3 +13,4 @@ pub mod Reading
 pub mod Statuses
 pub mod Drilled
 pub mod Texts
+pub mod Nodes

@@ -61,7 +61,7 @@ impl<'a> Side<'a> {
 }
 
 /// Bytes are below 256.
-fn are_bytes(bytes: &[u8])
+pub fn are_bytes(bytes: &[u8])
     ensures { IsBytes bytes.now }
 {}
 

@@ -56,7 +56,7 @@ pub fn store_at(alloc: Global, config: &Config, genesis: &State) -> Result<Store
 }
 
 /// A book without blocks on the genesis, with which a store opened.
-fn book_at(alloc: Global, config: &Config, genesis: &State) -> Result<VoteBook, Status>
+pub fn book_at(alloc: Global, config: &Config, genesis: &State) -> Result<VoteBook, Status>
     requires genesis { IsGenesis config.now genesis.now }
     requires opened { genesis_clash genesis.now ≡ None }
     ensures book { IfOk result (λ book. book ≡ begun config.now genesis.now) }

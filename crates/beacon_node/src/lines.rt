@@ -89,7 +89,7 @@ fn push_finalized_label(line: &mut Vec<u8>) -> Result<(), AllocError>
 }
 
 /// Appends the head of the store.
-fn push_head(line: &mut Vec<u8>, alloc: Global, store: &mut Store) -> Result<(), NoMemory>
+pub fn push_head(line: &mut Vec<u8>, alloc: Global, store: &mut Store) -> Result<(), NoMemory>
     ensures line { OnOk result (line.new.items ≡ line.old.items ++ root_text (get_head store.old.plain)) }
     ensures same { store.new.plain ≡ store.old.plain }
 {

@@ -132,7 +132,12 @@ fn push_moved(
 }
 
 /// Appends two numbers in decimal, the second behind a space.
-fn push_two(line: &mut Vec<u8>, alloc: Global, first: u64, second: u64) -> Result<(), AllocError>
+pub fn push_two(
+    line: &mut Vec<u8>,
+    alloc: Global,
+    first: u64,
+    second: u64,
+) -> Result<(), AllocError>
     ensures { OnOk result (line.new.items ≡ line.old.items ++ (decimal first ++ (codes " " ++ decimal second))) }
 {
     push_number(line, alloc, first)?;

@@ -10,6 +10,7 @@ use crate::anchor::anchor;
 use crate::drill::drill;
 use crate::forensic::forensic;
 use crate::make_genesis::make_genesis;
+use crate::nodes::nodes;
 use crate::replay::replay;
 use crate::status::Status;
 use crate::tell_duties::tell_duties;
@@ -58,6 +59,7 @@ pub fn beacon_main<F: Shelf, O: Sink>(
         Ok(Command::Duties(words)) => tell_duties(alloc, &words, shelf, out),
         Ok(Command::Anchor(files)) => anchor(alloc, &files, shelf, out),
         Ok(Command::Forensic(files)) => forensic(alloc, &files, shelf, out),
+        Ok(Command::Nodes(words)) => nodes(alloc, &words, shelf, out),
         Err(WordsStop::NoCommand) => Status::Words,
         Err(WordsStop::NoMemory) => Status::NoMemory,
     }

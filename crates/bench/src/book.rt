@@ -33,9 +33,24 @@ struct Votes {
 
 /// What was measured of a run.
 #[derive(Clone, Copy)]
-struct Times {
+pub struct Times {
     steps: Time,
     adds: Time,
+}
+
+impl Times {
+    /// Nothing yet.
+    pub fn none() -> Times {
+        Times {
+            steps: Time::none(),
+            adds: Time::none(),
+        }
+    }
+
+    /// What adding the blocks took.
+    pub fn adds(&self) -> Time {
+        self.adds
+    }
 }
 
 /// The attesters of an attestation, by a state of its epoch or the next one.
@@ -135,7 +150,7 @@ fn add_written(
 }
 
 /// Adds the blocks among these events.
-fn add_all(
+pub fn add_all(
     rt: &(impl AllocGlobal + CpuClock),
     book: &mut ChainBook,
     events: &[Event],
@@ -268,10 +283,7 @@ fn measure_book(
     genesis: &Genesis,
     events: &[Event],
 ) -> Result<()> {
-    let mut times = Times {
-        steps: Time::none(),
-        adds: Time::none(),
-    };
+    let mut times = Times::none();
     let grown = fill(rt, book, events, &mut times)?;
     let votes = gather(rt.alloc(), genesis, events)?;
     tell_blocks(rt, &times, grown, votes.count())?;

@@ -35,6 +35,15 @@ fn maker_of(alloc: Global, config: &Config) -> Result<Maker>
     Ok(Maker::new(alloc, NUMBER, config)?)
 }
 
+/// The events of one of the two chains of the split of the number's maker.
+pub fn split_events(alloc: Global, config: &Config, which: u8) -> Result<Vec<Event>>
+    requires { which < 2 }
+{
+    let maker = maker_of(alloc, config)?;
+    let mut split = maker.split(alloc, which)?;
+    make_slots(alloc, &mut split, u64::MAX)
+}
+
 /// The next event of a maker.
 fn next_of(alloc: Global, maker: &mut Maker) -> Result<Option<Event>> {
     match maker.next_event(alloc) {
@@ -68,7 +77,7 @@ fn make_slots(alloc: Global, maker: &mut Maker, slots: u64) -> Result<Vec<Event>
 
 /// A maker's genesis, with its configuration.
 #[tactic(auto, using(spec_drill::proofs::Genesis::slot_zero), unfolding(spec_drill::specs::MakeGenesis::genesis_of_plan))]
-fn genesis_of(alloc: Global, config: &Config) -> Result<Genesis>
+pub fn genesis_of(alloc: Global, config: &Config) -> Result<Genesis>
     ensures { IfOk result (λ genesis. genesis.state.preset ≡ genesis.config.preset) }
 {
     let maker = maker_of(alloc, config)?;

@@ -2,7 +2,8 @@
 //!
 //! The word behind the program's name says what to measure: `pairs`, `shuffle`, `state`, `registry`, `change`, `iter`, `many`,
 //! `slots`, `block`, `attestation`, `operations`, `epoch`, `head`, `record`, `events`, `bodies`,
-//! `mainnet`, `drill`, `drill_mainnet`, `deposits`, `anchor`, `duties`, `book`, `forensic` or `forensic_mainnet`. Without a word nothing is measured.
+//! `mainnet`, `drill`, `drill_mainnet`, `deposits`, `anchor`, `duties`, `book`, `forensic`, `forensic_mainnet` or `nodes`. Without a word
+//! nothing is measured.
 #![tactic(auto)]
 
 mod anchor;
@@ -21,6 +22,7 @@ mod genesis;
 mod hashes;
 mod head;
 mod memory;
+mod nodes;
 mod operations;
 mod pairs;
 mod ratio;
@@ -44,7 +46,7 @@ use std::time::CpuClock;
 
 /// What is printed where no word names a measurement.
 const USAGE: &str =
-    "name what to measure: pairs, shuffle, state, registry, change, iter, many, slots, block, attestation, operations, epoch, head, record, events, bodies, mainnet, drill, drill_mainnet, deposits, anchor, duties, book, forensic or forensic_mainnet";
+    "name what to measure: pairs, shuffle, state, registry, change, iter, many, slots, block, attestation, operations, epoch, head, record, events, bodies, mainnet, drill, drill_mainnet, deposits, anchor, duties, book, forensic, forensic_mainnet or nodes";
 
 /// Measures what a word names.
 fn measure(rt: &(impl AllocGlobal + Print + CpuClock + Files), word: &str) -> Result<()> {
@@ -60,6 +62,7 @@ fn measure(rt: &(impl AllocGlobal + Print + CpuClock + Files), word: &str) -> Re
         "book" => book::measure(rt),
         "forensic" => forensic::measure(rt),
         "forensic_mainnet" => forensic::measure_mainnet(rt),
+        "nodes" => nodes::measure(rt),
         _ => measure_steps(rt, word),
     }
 }

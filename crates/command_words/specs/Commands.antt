@@ -1,5 +1,5 @@
 -- The commands of the program, and which one the words are. A word is the list of its bytes.
-use Rattle.std.specs.Prelude.{◌≡◌, ◌-◌, ◌^◌, ℕ, true, false, List, [], ◌∷◌, map, Option, Some, None, codes, option_map, option_and_then, if◌then◌else◌}
+use Rattle.std.specs.Prelude.{◌≡◌, ◌-◌, ◌^◌, ◌≤◌, ◌||◌, ℕ, nat_lt, true, false, List, [], ◌∷◌, map, Option, Some, None, codes, option_map, option_and_then, if◌then◌else◌}
 use Rattle.std.specs.Str.{bytes_eq}
 use Rattle.std.specs.Str.Parse.{digits_value, without_leading_plus}
 use Rattle.clap.specs.Words.{App, Kinds, Row, Rule, Shape, fault_of, first_of, new_rule, subcommand_of, takes}
@@ -7,15 +7,24 @@ use Rattle.clap.specs.Simple.{new_shape}
 use Rattle.clap.specs.ValueTests.{is_unsigned_in}
 use Rattle.clap.specs.declared.builder.value_parser.ValueParser.TheVariants as parsers
 
--- what a command asks for at a place, with the label under which the usage shows it: the name of a file, or a number
+-- what a command asks for at a place, with the label under which the usage shows it: the name of a file, a number, or a
+-- number from one to another
 pub data Argument : Type 0 where
   file : List ℕ → Argument
   number : List ℕ → Argument
+  within : List ℕ → ℕ → ℕ → Argument
 
 -- a command: its name, and what it asks for in order
 pub record Form : Type 0 where
   pub name : List ℕ
   pub arguments : List Argument
+
+-- how many nodes there can be
+abbrev pub least_nodes : ℕ
+least_nodes = 2
+
+abbrev pub most_nodes : ℕ
+most_nodes = 16
 
 -- the commands
 abbrev pub forms : List Form
@@ -25,16 +34,19 @@ forms =
     ∷ record { name = codes "genesis"; arguments = file (codes "CONFIG") ∷ file (codes "DEPOSITS") ∷ [] }
     ∷ record { name = codes "duties"; arguments = file (codes "CONFIG") ∷ file (codes "STATE") ∷ number (codes "EPOCH") ∷ [] }
     ∷ record { name = codes "anchor"; arguments = file (codes "CONFIG") ∷ file (codes "STATE") ∷ file (codes "BLOCK") ∷ file (codes "RECORD") ∷ [] }
-    ∷ record { name = codes "forensic"; arguments = file (codes "CONFIG") ∷ file (codes "GENESIS") ∷ file (codes "A") ∷ file (codes "B") ∷ [] } ∷ []
+    ∷ record { name = codes "forensic"; arguments = file (codes "CONFIG") ∷ file (codes "GENESIS") ∷ file (codes "A") ∷ file (codes "B") ∷ [] }
+    ∷ record { name = codes "nodes"; arguments = number (codes "NUMBER") ∷ within (codes "COUNT") least_nodes most_nodes ∷ file (codes "CONFIG") ∷ [] } ∷ []
 
 -- the greatest number that an argument can be
 abbrev pub greatest_number : ℕ
 greatest_number = 2 ^ 64 - 1
 
--- an argument for clap: it is required, and stands at its place; a number is read by clap's parser of u64
+-- an argument for clap: it is required, and stands at its place; a number is read by clap's parser of u64,
+-- with its bounds
 abbrev pub rule_of_argument : Argument → Rule
 rule_of_argument (file label) = record (new_rule label) { required = true }
 rule_of_argument (number label) = record (new_rule label) { required = true; parser = Some (parsers.Unsigned 0 greatest_number) }
+rule_of_argument (within label least most) = record (new_rule label) { required = true; parser = Some (parsers.Unsigned least most) }
 
 -- a command for clap
 abbrev pub shape_of_form : Form → Shape
@@ -83,6 +95,12 @@ pub record ForensicFiles : Type 0 where
   pub first : List ℕ
   pub second : List ℕ
 
+-- what the command `nodes NUMBER COUNT CONFIG` names: the number that the chains are made from, how many nodes there are, and a file
+pub record NodesWords : Type 0 where
+  pub number : ℕ
+  pub count : ℕ
+  pub config : List ℕ
+
 -- a command with its arguments
 pub data Command : Type 0 where
   replay : ReplayFiles → Command
@@ -91,6 +109,7 @@ pub data Command : Type 0 where
   duties : DutiesWords → Command
   anchor : AnchorFiles → Command
   forensic : ForensicFiles → Command
+  nodes : NodesWords → Command
 
 -- the number that u64's parser reads from a text
 abbrev pub number_in : List ℕ → Option ℕ
@@ -136,6 +155,24 @@ forensic_in rows =
     option_and_then (λ config. option_and_then (λ genesis. option_and_then (λ first. option_map (λ second. forensic (record { config = config; genesis = genesis; first = first; second = second }))
     (first_of (codes "B") rows)) (first_of (codes "A") rows)) (first_of (codes "GENESIS") rows)) (first_of (codes "CONFIG") rows)
 
+-- so many nodes there can be
+pub record IsNodeCount (count : ℕ) : Type 0 where
+  pub least : least_nodes ≤ count
+  pub most : count ≤ most_nodes
+
+-- the value of the argument with this label, where it is a number of nodes
+abbrev pub node_count_in : ℕ → Option ℕ
+node_count_in count = if nat_lt count least_nodes || nat_lt most_nodes count then None else Some count
+
+abbrev pub node_count_of : List ℕ → List Row → Option ℕ
+node_count_of label rows = option_and_then node_count_in (number_of label rows)
+
+-- `nodes`, likewise
+abbrev pub nodes_in : List Row → Option Command
+nodes_in rows =
+    option_and_then (λ number. option_and_then (λ count. option_map (λ config. nodes (record { number = number; count = count; config = config }))
+    (first_of (codes "CONFIG") rows)) (node_count_of (codes "COUNT") rows)) (number_of (codes "NUMBER") rows)
+
 -- the command of a name, with the arguments that clap found
 abbrev pub named_command : List ℕ × List Row → Option Command
 named_command p =
@@ -144,7 +181,8 @@ named_command p =
     else if bytes_eq p.0 (codes "genesis") then genesis_in p.1
     else if bytes_eq p.0 (codes "duties") then duties_in p.1
     else if bytes_eq p.0 (codes "anchor") then anchor_in p.1
-    else if bytes_eq p.0 (codes "forensic") then forensic_in p.1 else None
+    else if bytes_eq p.0 (codes "forensic") then forensic_in p.1
+    else if bytes_eq p.0 (codes "nodes") then nodes_in p.1 else None
 
 -- the command that clap's own function of the words gives
 abbrev pub given_command : List (List ℕ) → Option Command
@@ -172,3 +210,4 @@ names_of (Some (genesis files)) = files.config ∷ files.deposits ∷ []
 names_of (Some (duties words)) = words.config ∷ words.state ∷ []
 names_of (Some (anchor files)) = files.config ∷ files.state ∷ files.block ∷ files.events ∷ []
 names_of (Some (forensic files)) = files.config ∷ files.genesis ∷ files.first ∷ files.second ∷ []
+names_of (Some (nodes words)) = words.config ∷ []

@@ -1,11 +1,13 @@
 //! The command that the words are.
 
-ghost use Rattle.std.specs.Prelude.{◌≡◌, ◌↔◌, Some, None, Result, Ok, Err, map, option_map, string_bytes, true};
+ghost use Rattle.std.specs.Prelude.{◌≡◌, ◌↔◌, Some, None, Result, Ok, Err, map, option_map, string_bytes, true, IfSome};
 ghost use Rattle.clap.specs.Words.{first_of, found_of, kind_of, rows_of, takes};
-ghost use Rattle.command_words.specs.Commands.{anchor_in, command_line, drill_in, duties_in, forensic_in, genesis_in, named_command, number_in, number_of, replay_in};
+ghost use Rattle.command_words.specs.Commands.{anchor_in, command_line, drill_in, duties_in, forensic_in, genesis_in, IsNodeCount, named_command, node_count_of, nodes_in, number_in, number_of, replay_in};
 ghost use Rattle.command_words.specs.inside.Reading.{command_value, ReadsCommand};
 
+use crate::forms::{LEAST_NODES, MOST_NODES};
 use crate::line::line;
+use crate::nodes_words::NodesWords;
 use clap::error::ErrorKind;
 use clap::{ArgMatches, Error};
 use std::alloc::Global;
@@ -91,6 +93,8 @@ pub enum Command<'a> {
     Anchor(AnchorFiles<'a>),
     /// Two records on a genesis state.
     Forensic(ForensicFiles<'a>),
+    /// Nodes that are delivered two made chains.
+    Nodes(NodesWords<'a>),
 }
 
 /// Why the words give no command.
@@ -189,6 +193,29 @@ fn forensic_in<'a>(found: &ArgMatches<'a>) -> Option<Command<'a>>
     }))
 }
 
+/// The first value of the argument with this label, where it is a number of nodes.
+fn node_count_of(found: &ArgMatches<'_>, label: &str) -> Option<u64>
+    ensures exact { result ≡ node_count_of label.now (rows_of (found_of found.now)) }
+    ensures few { IfSome result (λ count. IsNodeCount count) }
+{
+    let count = number_of(found, label)?;
+    if count < LEAST_NODES || count > MOST_NODES {
+        return None;
+    }
+    Some(count)
+}
+
+/// The command `nodes`, where each of its arguments has a value.
+fn nodes_in<'a>(found: &ArgMatches<'a>) -> Option<Command<'a>>
+    ensures { option_map command_value result ≡ nodes_in (rows_of (found_of found.now)) }
+{
+    Some(Command::Nodes(NodesWords {
+        number: number_of(found, "NUMBER")?,
+        count: node_count_of(found, "COUNT")?,
+        config: text_of(found, "CONFIG")?,
+    }))
+}
+
 /// The command of this name, with the arguments that were found.
 fn named<'a>(name: &str, found: &ArgMatches<'a>) -> Option<Command<'a>>
     ensures { option_map command_value result ≡ named_command (name.now, rows_of (found_of found.now)) }
@@ -205,6 +232,8 @@ fn named<'a>(name: &str, found: &ArgMatches<'a>) -> Option<Command<'a>>
         anchor_in(found)
     } else if name == "forensic" {
         forensic_in(found)
+    } else if name == "nodes" {
+        nodes_in(found)
     } else {
         None
     }

@@ -13,6 +13,8 @@ pub enum Argument {
     File(&'static str),
     /// A number that `u64` can hold, in decimal.
     Number(&'static str),
+    /// A number from this one to that one, in decimal.
+    Within(&'static str, u64, u64),
 }
 
 /// A command: its name, and what it asks for in order.
@@ -27,7 +29,9 @@ pub struct Form {
 impl fmt::Display for Argument {
     fn fmt<W: fmt::Write>(&self, f: &mut fmt::Formatter<W>) -> fmt::Result {
         match self {
-            Argument::File(label) | Argument::Number(label) => f.write_str(label),
+            Argument::File(label) | Argument::Number(label) | Argument::Within(label, _, _) => {
+                f.write_str(label)
+            }
         }
     }
 }
@@ -42,8 +46,14 @@ impl fmt::Display for Form {
     }
 }
 
+/// How many nodes there can be, at least.
+pub const LEAST_NODES: u64 = 2;
+
+/// And at most.
+pub const MOST_NODES: u64 = 16;
+
 /// The commands.
-pub static COMMANDS: [Form; 6] = [
+pub static COMMANDS: [Form; 7] = [
     Form {
         name: "replay",
         arguments: &[
@@ -84,6 +94,14 @@ pub static COMMANDS: [Form; 6] = [
             Argument::File("GENESIS"),
             Argument::File("A"),
             Argument::File("B"),
+        ],
+    },
+    Form {
+        name: "nodes",
+        arguments: &[
+            Argument::Number("NUMBER"),
+            Argument::Within("COUNT", LEAST_NODES, MOST_NODES),
+            Argument::File("CONFIG"),
         ],
     },
 ];

@@ -7,11 +7,13 @@
 mod command;
 mod forms;
 mod line;
+mod nodes_words;
 mod refusal;
 
 pub use command::{
     AnchorFiles, Command, DrillWords, DutiesWords, ForensicFiles, GenesisFiles, ReplayFiles,
     WordsStop, read_command,
 };
-pub use forms::{Argument, COMMANDS, Form};
+pub use forms::{Argument, COMMANDS, Form, LEAST_NODES, MOST_NODES};
+pub use nodes_words::NodesWords;
 pub use refusal::what_is_wrong;

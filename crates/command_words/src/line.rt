@@ -21,6 +21,9 @@ fn argument<'a>(alloc: Global, argument: &Argument) -> Arg<'a>
         Argument::Number(label) => Arg::new(alloc, label)
             .required(true)
             .value_parser(ValueParser::unsigned(0, u64::MAX)),
+        Argument::Within(label, least, most) => Arg::new(alloc, label)
+            .required(true)
+            .value_parser(ValueParser::unsigned(*least, *most)),
     }
 }
 

@@ -5,5 +5,6 @@ pub mod Duties
 pub mod Forensic
 pub mod Genesis
 pub mod Lines
+pub mod Nodes
 pub mod OffenceLines
 pub mod Run

@@ -1,8 +1,8 @@
 //! Single calls on recorded states and bytes, compared with what an independent implementation gives.
 //!
 //! A case is a folder of `data/calls`: `call` names the call, with a word behind some, `pre.ssz` is the state before it, `input.ssz`
-//! what it takes beside the state, `config.yaml` the configuration, and `answer` what it answers. A case has the files
-//! that its call takes. All states but those of `read_state` and of made chains
+//! what it takes beside the state, `record` a list of events, `config.yaml` the configuration, and `answer` what it answers. A case
+//! has the files that its call takes. All states but those of `read_state` and of made chains
 //! are of the minimal preset.
 //!
 //! A module here, which bears the name of the cases' folder, has the calls of one kind.
@@ -11,6 +11,7 @@ mod answers;
 mod blocks;
 mod chains;
 mod closing;
+mod deliveries;
 mod deposit_trees;
 mod deposits;
 mod exits;
@@ -85,6 +86,7 @@ fn answer_of(alloc: Global, given: &Given) -> Result<String> {
     match given.name.as_str() {
         "read_state" => states::answer(alloc, given),
         "read_block" => blocks::answer(alloc, given),
+        "deliver" => deliveries::answer(alloc, given),
         "deposit_tree" => deposit_trees::answer(alloc, given),
         name if chains::is_chain(name) => chains::answer(alloc, given),
         _ => match State::read(alloc, &Preset::minimal(), given.state()?) {

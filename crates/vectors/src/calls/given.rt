@@ -15,6 +15,7 @@ pub struct Given {
     pub word: String,
     state: Option<Vec<u8>>,
     input: Option<Vec<u8>>,
+    record: Option<Vec<u8>>,
     config: Option<Vec<u8>>,
 }
 
@@ -43,6 +44,7 @@ impl Given {
             word: String::new(alloc),
             state: None,
             input: None,
+            record: None,
             config: None,
         };
         given.name.push_str(name)?;
@@ -54,6 +56,7 @@ impl Given {
     fn load_files<R: Files + AllocGlobal>(&mut self, rt: &R, case: &str) -> Result<()> {
         self.state = read_file(rt, case, "pre.ssz")?;
         self.input = read_file(rt, case, "input.ssz")?;
+        self.record = read_file(rt, case, "record")?;
         self.config = read_file(rt, case, "config.yaml")?;
         Ok(())
     }
@@ -79,6 +82,11 @@ impl Given {
     /// The bytes of what the call takes beside the state.
     pub fn input(&self) -> Result<&Vec<u8>> {
         self.input.as_ref().context("no input")
+    }
+
+    /// The bytes of a record of events.
+    pub fn record(&self) -> Result<&Vec<u8>> {
+        self.record.as_ref().context("no record")
     }
 
     /// The configuration.

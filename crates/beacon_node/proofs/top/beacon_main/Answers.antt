@@ -1,5 +1,5 @@
 -- The words are a command, and the rest is its run, or they are none, or memory ran out before they were read.
-use Rattle.beacon_node.proofs.Commands.{replay_answers, drill_answers, genesis_answers, duties_answers, anchor_answers, forensic_answers, not_forensic, are_none, no_answers, unread_words}
+use Rattle.beacon_node.proofs.Commands.{replay_answers, drill_answers, genesis_answers, duties_answers, anchor_answers, forensic_answers, nodes_answers, not_forensic, are_none, no_answers, unread_words}
 use Rattle.beacon_node.proofs.top.beacon_main.Goals as goal
 
 pub returns-in-Ok-Replay-clause-answers : goal.returns-in-Ok-Replay-clause-answers
@@ -20,6 +20,9 @@ returns-in-Ok-Anchor-clause-answers g c = anchor_answers _ _ _ _ _ _ _ (rw c.in-
 pub returns-in-Ok-Forensic-clause-answers : goal.returns-in-Ok-Forensic-clause-answers
 returns-in-Ok-Forensic-clause-answers g c = forensic_answers _ _ _ _ _ _ _ (rw c.in-Ok-Forensic.field-0-is at c.in-Ok-Forensic.ensures) c.forensic.ensures.answers
 
+pub returns-in-Ok-Nodes-clause-answers : goal.returns-in-Ok-Nodes-clause-answers
+returns-in-Ok-Nodes-clause-answers g c = nodes_answers _ _ _ _ _ _ _ (rw c.in-Ok-Nodes.field-0-is at c.in-Ok-Nodes.ensures) c.nodes.ensures.answers
+
 pub returns-in-Ok-Forensic-clause-convicts : goal.returns-in-Ok-Forensic-clause-convicts
 returns-in-Ok-Forensic-clause-convicts g c = λ files is done. c.forensic.ensures.findings done
 
@@ -37,6 +40,9 @@ returns-in-Ok-Duties-clause-convicts g c = λ files is done. not_forensic _ _ fi
 
 pub returns-in-Ok-Anchor-clause-convicts : goal.returns-in-Ok-Anchor-clause-convicts
 returns-in-Ok-Anchor-clause-convicts g c = λ files is done. not_forensic _ _ files (rw c.in-Ok-Anchor.field-0-is at c.in-Ok-Anchor.ensures) (λ same. cc) is
+
+pub returns-in-Ok-Nodes-clause-convicts : goal.returns-in-Ok-Nodes-clause-convicts
+returns-in-Ok-Nodes-clause-convicts g c = λ files is done. not_forensic _ _ files (rw c.in-Ok-Nodes.field-0-is at c.in-Ok-Nodes.ensures) (λ same. cc) is
 
 pub returns-in-Err-NoCommand-clause-answers : goal.returns-in-Err-NoCommand-clause-answers
 returns-in-Err-NoCommand-clause-answers g c = no_answers _ _ _ (are_none _ _ c.in-Err-NoCommand.field-0-is c.in-Err-NoCommand.ensures)

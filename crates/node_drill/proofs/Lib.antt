@@ -1,0 +1,4 @@
+pub mod Arriving
+pub mod Copies
+pub mod PlaceByPlace
+pub mod Ticks

@@ -1,0 +1,2 @@
+-- Words of this crate's own contracts.
+pub mod Arrivals
