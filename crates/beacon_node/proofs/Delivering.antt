@@ -1,5 +1,5 @@
 -- A node takes its events one after the other.
-use Rattle.std.proofs.Common.{◌≡◌, ◌∙◌, ℕ, zero, suc, ◌+◌, ◌-◌, ◌<◌, ◌≤◌, Bool, true, false, List, [], ◌∷◌, ◌++◌, length, get_or, drop, map, reverse, filter_map, slice_get, Option, Some, None, Result, Ok, Err, refl, ap, ap₂, sym, subst, append_assoc, append-nil, arith}
+use Rattle.std.proofs.Common.{◌≡◌, ◌∙◌, ℕ, zero, suc, ◌+◌, ◌-◌, ◌<◌, ◌≤◌, ◌^◌, Bool, true, false, List, [], ◌∷◌, ◌++◌, length, get_or, drop, map, reverse, filter_map, slice_get, Option, Some, None, Result, Ok, Err, refl, ap, ap₂, sym, subst, append_assoc, append-nil, arith}
 use Rattle.std.specs.Prelude.{All}
 use Rattle.std.specs.Option.{option_map, option_and_then}
 use Rattle.std.proofs.lemmas.List.{map_push, reverse-append, drop_more, drop_all}
@@ -39,9 +39,10 @@ use Rattle.beacon_node.specs.declared.status.Status.TheVariants as statuses
 use Rattle.beacon_node.specs.inside.Following.{EventFollowed, IsInside}
 use Rattle.beacon_node.specs.inside.Histories.{IsGenesis, IsOpened, OpeningEnds}
 use Rattle.beacon_node.specs.inside.Progress.{HasLine, IsCounted, outcome_of}
-use Rattle.beacon_node.specs.inside.Nodes.{AreKept, CanKeep, IsNode, NodeEnds, OneTaken, StopsAt, added_of, followed_in, history_in, lines_left, node_left, plain_node, tally_left}
+use Rattle.beacon_node.specs.inside.Nodes.{AreKept, CanKeep, HasRun, IsNode, NodeEnds, OneTaken, StopsAt, added_of, followed_in, history_in, lines_left, node_left, plain_node, tally_left}
 use Rattle.beacon_node.proofs.Beginnings.{begins}
 use Rattle.beacon_node.proofs.Following.{none_among}
+use Rattle.beacon_node.proofs.Openings.{one_kept}
 
 -- ---- a node that was delivered nothing
 
@@ -231,8 +232,72 @@ next_event events places index place event low at inside is =
 pub none_left : (events : List Event) (places : List ℕ) (index : ℕ) → length places ≤ index → filter_map (slice_get events) (drop index places) ≡ []
 none_left events places index past = rw (drop_all index places past) refl
 
--- the line of a node that was delivered these events
-pub line_of_all : (store : Store) (events : List Event) (node : code.Node) (many : ℕ) → length events ≡ many → (with_events 1 store (all_of events)).lines ≡ node.lines.items → tally_of (record { store = store; events = 0; accepted = 0 }) events ≡ record { store = node.store.plain; events = many; accepted = node.accepted }
-    → node_text node.number many node.accepted node.store.plain (hash node.lines.items) ≡ node_line store (plain_node events node)
-unfolding node_line
-line_of_all store events node many counted lines tally = rw (counted, lines, tally) refl
+-- ---- so many of them, and then the others
+
+-- So many of a node's events were taken, and these are to come: what comes of all of them is what comes of these.
+pub record AreTaken (config : ConfigValues) (genesis : PlainState) (node : ℕ) (all : List Event) (taken : ℕ) (given : code.Node) (later : List Event) : Type 0 where
+  pub number : given.number ≡ node
+  pub is : IsNode config genesis given
+  pub few : length given.store.plain.blocks ≤ taken + 1
+  pub accepted : given.accepted ≤ taken
+  pub left : follow node [] (genesis_store config genesis) (all_of all) ≡ node_left (taken + 1) given later
+  pub lines : (with_events 1 (genesis_store config genesis) (all_of all)).lines ≡ lines_left (taken + 1) given later
+  pub tally : tally_of (record { store = genesis_store config genesis; events = 0; accepted = 0 }) all ≡ tally_left taken given later
+  pub counted : length all ≡ taken + length later
+
+-- none yet
+pub none_taken : (config : ConfigValues) (genesis : PlainState) (node : ℕ) (all later : List Event) (given : code.Node) → later ≡ all → given.number ≡ node → IsNode config genesis given → IsOpened config genesis given.store.plain
+    → given.blocks.items ≡ [] → given.accepted ≡ 0 → given.lines.items ≡ [] → AreTaken config genesis node all 0 given later
+none_taken config genesis node all later given same number is opened blocks accepted lines = record {
+  number = number;
+  is = is;
+  few = one_kept config genesis given.store.plain opened.is;
+  accepted = omega (arith, accepted);
+  left = rw (same, number, opened.is, blocks) refl;
+  lines = rw (same, opened.is, lines) refl;
+  tally = rw (same, opened.is, accepted) refl;
+  counted = rw same (omega arith);
+}
+
+-- the configuration is the store's
+pub own_config : (config : ConfigValues) (genesis : PlainState) (node : code.Node) → IsNode config genesis node → IsNode node.store.plain.config genesis node
+own_config config genesis node is = subst (λ (c : ConfigValues). IsNode c genesis node) (sym is.follows.config_is) is
+
+module _ (config : ConfigValues) (genesis : PlainState) (node : ℕ) (all : List Event) (taken : ℕ) (event : Event) (old : code.Node) (later : List Event) (h : AreTaken config genesis node all taken old (event ∷ later)) where
+  -- one more
+  pub one_more_taken : (new : code.Node) → OneTaken taken event old new → IsNode old.store.plain.config genesis new → length new.store.plain.blocks ≤ length old.store.plain.blocks + 1 → new.accepted ≤ taken + 1
+      → AreTaken config genesis node all (taken + 1) new later
+  one_more_taken new took is few accepted = record {
+    number = took.number ∙ h.number;
+    is = subst (λ (c : ConfigValues). IsNode c genesis new) h.is.follows.config_is is;
+    few = omega (arith, few, h.few);
+    accepted = accepted;
+    left = h.left ∙ took.left later;
+    lines = h.lines ∙ took.lines later;
+    tally = h.tally ∙ took.tally later;
+    counted = omega (arith, h.counted);
+  }
+
+  -- the run ends at it
+  pub taken_over : (status : Status) → StopsAt status old.number (taken + 1) (outcome_of old.store.plain event) → NodeEnds status (follow node [] (genesis_store config genesis) (all_of all))
+  taken_over status stops = λ on. let e = stops_left taken event old later status stops on in (e.0, e.1, h.left ∙ e.2)
+
+-- all of them; then the head of its store is asked for, which leaves the plain store as it is
+module _ (config : ConfigValues) (genesis : PlainState) (node : ℕ) (all : List Event) (taken : ℕ) (given : code.Node) (h : AreTaken config genesis node all taken given [])
+    (new : code.Node) (number : new.number ≡ given.number) (store : new.store.plain ≡ given.store.plain) (blocks : new.blocks.items ≡ given.blocks.items) where
+  pub all_followed : follow node [] (genesis_store config genesis) (all_of all) ≡ Ok (followed_in new)
+  unfolding follow_events
+  all_followed = h.left ∙ rw (store, blocks) refl
+
+  pub all_line : (line : List ℕ) (many : ℕ) → length all ≡ many → line ≡ node_text node many given.accepted given.store.plain (hash given.lines.items) → line ≡ node_line (genesis_store config genesis) (plain_node all new)
+  unfolding node_line replay_events tally_of
+  all_line line many counted is =
+      let lines_are : (with_events 1 (genesis_store config genesis) (all_of all)).lines ≡ given.lines.items = h.lines ∙ append-nil given.lines.items in
+      is ∙ sym (rw (number, h.number, counted, h.tally, lines_are) refl)
+
+  pub has_run : taken < 2 ^ 32 - 1 → HasRun config genesis new
+  has_run less = record { is = record { follows = rw (store, blocks) h.is.follows; kept = rw blocks h.is.kept }; few = rw store (omega (arith, less, h.few)) }
+
+-- the genesis doesn't clash, so that the store opens unless memory runs out
+pub opening_ends_node : {A : Type 0} (genesis : PlainState) (status : Status) (left : Result A End) → genesis_clash genesis ≡ None → OpeningEnds status (genesis_clash genesis) → NodeEnds status left
+opening_ends_node genesis status left none h = λ on. let e = h.clashes on in absurd (let no = sym none ∙ e.1 in cc)

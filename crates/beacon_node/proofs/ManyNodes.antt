@@ -108,6 +108,15 @@ next_number k count less = let many : count - k ≡ suc (count - (k + 1)) = omeg
 pub no_number : (k count : ℕ) → count ≤ k → range_with_len k (count - k) ≡ []
 no_number k count past = let many : count - k ≡ 0 = omega (arith, past) in rw many refl
 
+nothing_before : {A : Type 0} (left : Result (List A) End) → left ≡ behind_ones [] left
+nothing_before (Ok more) = refl
+nothing_before (Err end) = refl
+
+-- none was delivered its events yet
+pub no_node_yet : (number count many : ℕ) (store : Store) (first second : List Event) (nodes : List Delivered) → nodes ≡ [] → many ≡ count
+    → all_or_end (map (node_of number store first second) (range_with_len 0 count)) ≡ behind_ones (map (node_given number first second) nodes) (all_or_end (map (node_of number store first second) (range_with_len 0 many)))
+no_node_yet number count many store first second nodes none is = rw (none, is) (nothing_before (all_or_end (map (node_of number store first second) (range_with_len 0 count))))
+
 -- what is true of both chains is true of the one that a node is delivered
 pub of_chain : (P : List Event → Type 0) (node : ℕ) (first second : List Event) → P first → P second → P (chain_of_node node first second)
 unfolding chain_of_node
