@@ -103,10 +103,10 @@ memory_is_inside = record { done = λ is. cc; words = λ is. cc; read = λ is. c
 -- ---- the nodes
 
 pub next_number : (k count : ℕ) → k < count → range_with_len k (count - k) ≡ k ∷ range_with_len (k + 1) (count - (k + 1))
-next_number k count less = let many : count - k ≡ suc (count - (k + 1)) = omega (arith, less) in rw many refl
+next_number k count less = let many : count - k ≡ suc (count - (k + 1)) = omega (arith, less) in ap (range_with_len k) many
 
 pub no_number : (k count : ℕ) → count ≤ k → range_with_len k (count - k) ≡ []
-no_number k count past = let many : count - k ≡ 0 = omega (arith, past) in rw many refl
+no_number k count past = let many : count - k ≡ 0 = omega (arith, past) in ap (range_with_len k) many
 
 nothing_before : {A : Type 0} (left : Result (List A) End) → left ≡ behind_ones [] left
 nothing_before (Ok more) = refl
@@ -137,6 +137,9 @@ module _ (number : ℕ) (store : Store) (first second : List Event) (k : ℕ) wh
   node_ends : (status : Status) → NodeEnds status (follow k [] store (all_of its)) → NodeEnds status (node_of number store first second k)
   unfolding node_of followed_by
   node_ends status h = λ on. let e = h on in (e.0, e.1, rw e.2 refl)
+
+  pub its_line : (given : Delivered) (line : List ℕ) → given.node.number ≡ k → line ≡ node_line store (plain_node its given.node) → line ≡ node_line store (node_given number first second given)
+  its_line given line is h = subst (λ (m : ℕ). line ≡ node_line store (plain_node (delivered number m (chain_of_node m first second)) given.node)) (sym is) h
 
   module _ (nodes : List Delivered) (more : List ℕ) (all : Result (List Node) End) (left : all ≡ behind_ones (map (node_given number first second) nodes) (all_or_end (map (node_of number store first second) (k ∷ more)))) where
     pub node_more : (given : Delivered) → given.node.number ≡ k → follow k [] store (all_of its) ≡ Ok (followed_in given.node)

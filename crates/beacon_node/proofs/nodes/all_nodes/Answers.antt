@@ -9,7 +9,7 @@ use Rattle.spec_fork_choice.specs.GetForkchoiceStore.{genesis_store}
 use Rattle.spec_replay.specs.Nodes.{all_or_end, node_of}
 use Rattle.beacon_node.specs.declared.node.Delivered.{Delivered}
 use Rattle.beacon_node.specs.inside.Nodes.{HasRun}
-use Rattle.beacon_node.proofs.ManyNodes.{all_nodes_left, next_number, no_node_yet, no_number, node_lines_more, node_more, node_over, of_chain}
+use Rattle.beacon_node.proofs.ManyNodes.{all_nodes_left, its_line, next_number, no_node_yet, no_number, node_lines_more, node_more, node_over, of_chain}
 use Rattle.beacon_node.proofs.nodes.all_nodes.Goals as goal
 
 pub loop-node-init : goal.loop-node-init
@@ -41,7 +41,11 @@ loop-node-preserved c = record {
       (node_more c.args.words.now.number (genesis_store c.args.config.now c.args.genesis.now) c.args.first.now c.args.second.now c.loop-node.node c.loop-node.nodes.items
       (range_with_len (c.loop-node.node + 1) (c.args.words.now.count - (c.loop-node.node + 1))) _ (rw (next_number c.loop-node.node c.args.words.now.count (omega arith)) at c.loop-node.invariant.left) c.in-Ok.given
       c.in-Ok.ensures.number (rw c.chain_of-events.ensures at c.in-Ok.ensures.followed));
-  lines = ?;
+  lines =
+      rw c.in-Ok-push.ensures.items
+      (node_lines_more c.args.words.now.number (genesis_store c.args.config.now c.args.genesis.now) c.args.first.now c.args.second.now c.loop-node.nodes.items c.in-Ok.given c.loop-node.invariant.lines
+      (its_line c.args.words.now.number (genesis_store c.args.config.now c.args.genesis.now) c.args.first.now c.args.second.now c.loop-node.node c.in-Ok.given c.in-Ok.given.line.items c.in-Ok.ensures.number
+      (rw c.chain_of-events.ensures at c.in-Ok.ensures.line)));
   each =
       rw c.in-Ok-push.ensures.items
       (All-push (λ (given : Delivered). HasRun c.args.config.now c.args.genesis.now given.node) c.loop-node.nodes.items c.in-Ok.given c.loop-node.invariant.each c.in-Ok.ensures.has_run);
