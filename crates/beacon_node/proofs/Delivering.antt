@@ -248,14 +248,14 @@ pub record AreTaken (config : ConfigValues) (genesis : PlainState) (node : ℕ) 
 -- none yet
 pub none_taken : (config : ConfigValues) (genesis : PlainState) (node : ℕ) (all later : List Event) (given : code.Node) → later ≡ all → given.number ≡ node → IsNode config genesis given → IsOpened config genesis given.store.plain
     → given.blocks.items ≡ [] → given.accepted ≡ 0 → given.lines.items ≡ [] → AreTaken config genesis node all 0 given later
-none_taken config genesis node all later given same number is opened blocks accepted lines = record {
+none_taken config genesis node all later given same number is opened blocks counts lines = record {
   number = number;
   is = is;
   few = one_kept config genesis given.store.plain opened.is;
-  accepted = omega (arith, accepted);
+  accepted = omega (arith, counts);
   left = rw (same, number, opened.is, blocks) refl;
   lines = rw (same, opened.is, lines) refl;
-  tally = rw (same, opened.is, accepted) refl;
+  tally = rw (same, opened.is, counts) refl;
   counted = rw same (omega arith);
 }
 
@@ -267,11 +267,11 @@ module _ (config : ConfigValues) (genesis : PlainState) (node : ℕ) (all : List
   -- one more
   pub one_more_taken : (new : code.Node) → OneTaken taken event old new → IsNode old.store.plain.config genesis new → length new.store.plain.blocks ≤ length old.store.plain.blocks + 1 → new.accepted ≤ taken + 1
       → AreTaken config genesis node all (taken + 1) new later
-  one_more_taken new took is few accepted = record {
+  one_more_taken new took is few counts = record {
     number = took.number ∙ h.number;
     is = subst (λ (c : ConfigValues). IsNode c genesis new) h.is.follows.config_is is;
     few = omega (arith, few, h.few);
-    accepted = accepted;
+    accepted = counts;
     left = h.left ∙ took.left later;
     lines = h.lines ∙ took.lines later;
     tally = h.tally ∙ took.tally later;
