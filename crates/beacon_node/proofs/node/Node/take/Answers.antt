@@ -23,4 +23,4 @@ pub returns-in-Ok-refuse-clause-taken : goal.returns-in-Ok-refuse-clause-taken
 returns-in-Ok-refuse-clause-taken c =
     let exact = rw (c.in-Err-Refused.field-0-is, c.as_slice-2.ensures) at c.in-Err-Refused.ensures.exact in
     refused_taken c.args.before c.args.event.now c.args.self.now c.refuse.new.self c.in-Err-Refused.refusal exact.1 c.refuse.ensures.number (c.refuse.ensures.store ∙ exact.0) c.refuse.ensures.blocks c.refuse.ensures.accepted
-    c.in-Ok-refuse.ensures.lines
+    (rw exact.0 at c.in-Ok-refuse.ensures.lines)
