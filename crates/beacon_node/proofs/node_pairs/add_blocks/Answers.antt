@@ -22,7 +22,7 @@ add-requires-clause-step c =
     let low = rw c.deref-added-items.ensures.value at c.loop-added-test.true in
     let here = rw c.deref-added-items.ensures.value at c.added-item.is in
     let same = block_is c.args.book.now.config c.args.book.now.genesis c.args.node.now c.requires.is c.loop-added.added-index c.added-item.result low here c.in-Some.block.now c.in-Some.ensures in
-    rw (c.loop-added.invariant.config, c.loop-added.invariant.genesis, c.loop-added.invariant.added, same)
+    rw (c.loop-added.invariant.added, c.loop-added.invariant.config, c.loop-added.invariant.genesis, same)
     (entry_step c.args.book.now.config c.args.book.now.genesis c.args.node.now c.requires.is c.loop-added.added-index c.added-item.result low here)
 
 pub add-requires-clause-clear : goal.add-requires-clause-clear
@@ -32,7 +32,7 @@ add-requires-clause-clear c =
     let same = block_is c.args.book.now.config c.args.book.now.genesis c.args.node.now c.requires.is c.loop-added.added-index c.added-item.result low here c.in-Some.block.now c.in-Some.ensures in
     clear_to_add c.args.which c.loop-added.book c.added-item.result.root c.in-Some.block.now c.requires.which
     (λ first. second_of c.args.which c.args.book.now c.loop-added.book first c.loop-added.invariant.other ∙ c.requires.order first)
-    (rw (c.loop-added.invariant.genesis, c.loop-added.invariant.added, same)
+    (rw (c.loop-added.invariant.added, c.loop-added.invariant.genesis, same)
     (entry_clear c.args.book.now.config c.args.book.now.genesis c.args.node.now c.requires.is c.loop-added.added-index c.added-item.result low here))
     (λ second. rw (c.loop-added.invariant.genesis, first_of c.args.which c.args.book.now c.loop-added.book second c.loop-added.invariant.other, same)
     (entry_apart c.args.book.now.config c.args.book.now.genesis c.args.node.now c.requires.is c.loop-added.added-index c.added-item.result low here
