@@ -1,11 +1,9 @@
 -- The blocks are looked at one after the other.
-use Rattle.spec_forensics.specs.Clash.{first_accepted}
-use Rattle.beacon_node.specs.inside.Nodes.{history_in}
 use Rattle.beacon_node.proofs.Pairing.{block_is, found_here, never_missing, none_so_far, nothing_found}
 use Rattle.beacon_node.proofs.node_pairs.first_clash.Goals as goal
 
 pub loop-added-init : goal.loop-added-init
-loop-added-init c = nothing_found (first_accepted c.args.genesis.now (history_in c.args.first.now.blocks.items))
+loop-added-init c = nothing_found _
 
 pub unreachable-requires : goal.unreachable-requires
 unreachable-requires c =
