@@ -1,8 +1,8 @@
 -- Two nodes whose blocks a book takes, and what is said of all pairs.
-use Rattle.std.proofs.Common.{◌≡◌, ◌∙◌, ℕ, zero, suc, ◌+◌, ◌-◌, ◌<◌, ◌≤◌, List, [], ◌∷◌, ◌++◌, length, get_or, take, drop, map, reverse, Option, Some, None, Result, Ok, Err, IfErr, refl, ap, ap₂, sym, subst, append_assoc, append-nil, arith}
+use Rattle.std.proofs.Common.{◌≡◌, ◌∙◌, ℕ, zero, suc, ◌+◌, ◌-◌, ◌<◌, ◌≤◌, List, [], ◌∷◌, ◌++◌, length, get_or, take, drop, map, reverse, Option, Some, None, Result, Ok, Err, IfErr, refl, ap, ap₂, sym, subst, append_assoc, append-nil, length-drop, arith}
 use Rattle.std.specs.Prelude.{All, Contains, flat_map}
 use Rattle.std.specs.Option.{option_map, option_or}
-use Rattle.std.proofs.lemmas.List.{map_push, map-append, reverse-append, drop_more, drop_all, take-append-drop, take_more, flat_map_more}
+use Rattle.std.proofs.lemmas.List.{map_push, map-append, reverse-append, drop_more, drop_all, take_all, take-append-drop, take_more, flat_map_more}
 use Rattle.std.proofs.lemmas.List.Concat.{flat_map-append}
 use Rattle.std.proofs.lemmas.Simd.{map-map}
 use Rattle.std.proofs.lemmas.List.Elements.{All-get_or, Contains-get_or}
@@ -181,6 +181,17 @@ one_in (suc zero) old new b less is = record {
 }
 one_in (suc (suc n)) old new b less is = absurd (omega (arith, less))
 
+-- the book with one entry more
+pub one_more_in : (which : ℕ) (old new : PlainBook) (blocks : List NodeBlock) (i : ℕ) (entry : NodeBlock) (b : BeaconBlock) → which < 2 → i < length blocks → entry ≡ get_or blocks i entry → b ≡ entry.block.value → history_of old which ≡ history_in (take i blocks)
+    → new ≡ with_block old which (record { event = entry.event; root = entry.root; block = b; state = entry.state; entered = entry.watch.entered }) → history_of new which ≡ history_in (take (i + 1) blocks)
+one_more_in which old new blocks i entry b less low here same added is =
+    (one_in which old new (record { event = entry.event; root = entry.root; block = b; state = entry.state; entered = entry.watch.entered }) less is).history
+    ∙ (ap₂ (λ (b : BeaconBlock) (history : List AcceptedBlock). record { event = entry.event; root = entry.root; block = b; state = entry.state; entered = entry.watch.entered } ∷ history) same added
+    ∙ sym (history_next blocks i entry low here))
+
+pub all_in : (blocks : List NodeBlock) (i : ℕ) → length blocks ≤ i → history_in (take i blocks) ≡ history_in blocks
+all_in blocks i past = ap (λ (xs : List NodeBlock). history_in xs) (take_all i blocks past)
+
 -- the parts of a book by their numbers
 pub second_of : (which : ℕ) (old new : PlainBook) → which ≡ 0 → history_of new (1 - which) ≡ history_of old (1 - which) → new.second ≡ old.second
 unfolding history_of
@@ -325,3 +336,31 @@ pairs_next genesis x later = map-append (pair_of genesis) (map (λ (other : Node
 pub no_pairs : (genesis : PlainState) → map (pair_of genesis) (pairs_of []) ≡ []
 unfolding pairs_of
 no_pairs genesis = refl
+
+-- ---- what is left behind some items of a list
+
+pub next_left : {A : Type 0} (f : A → Result (List ℕ) End) (xs : List A) (i : ℕ) (x : A) → i < length xs → x ≡ get_or xs i x → all_or_end (map f (drop i xs)) ≡ all_or_end (f x ∷ map f (drop (i + 1) xs))
+next_left f xs i x low is = ap (λ (ys : List _). all_or_end (map f ys)) (drop_more xs i x low ∙ ap (λ y. y ∷ drop (i + 1) xs) (sym is))
+
+pub none_left : {A : Type 0} (f : A → Result (List ℕ) End) (xs : List A) (i : ℕ) → length xs ≤ i → all_or_end (map f (drop i xs)) ≡ Ok []
+none_left f xs i past = ap (λ (ys : List _). all_or_end (map f ys)) (drop_all i xs past) ∙ none_of_all
+
+abbrev pub plain_of : Delivered → Node
+plain_of given = plain_node [] given.node
+
+-- a slice up to the end of a list
+up_to_end : {A : Type 0} (xs : List A) (i : ℕ) → drop i xs ≡ take (length xs - i) (drop i xs)
+up_to_end xs i = sym (take_all (length xs - i) (drop i xs) (omega (arith, length-drop i xs)))
+
+pub pairs_left : (genesis : PlainState) (nodes : List Delivered) (i : ℕ) (x : Delivered) → i < length nodes → x ≡ get_or nodes i x
+    → all_or_end (map (pair_of genesis) (pairs_of (map plain_of (drop i nodes)))) ≡ all_or_end (map (λ (given : Delivered). pair_of genesis (plain_of x, plain_of given)) (take (length nodes - (i + 1)) (drop (i + 1) nodes)) ++ map (pair_of genesis) (pairs_of (map plain_of (drop (i + 1) nodes))))
+pairs_left genesis nodes i x low is =
+    let others : List (Result (List ℕ) End) = map (pair_of genesis) (pairs_of (map plain_of (drop (i + 1) nodes))) in
+    ap (λ (ys : List Delivered). all_or_end (map (pair_of genesis) (pairs_of (map plain_of ys)))) (drop_more nodes i x low ∙ ap (λ (y : Delivered). y ∷ drop (i + 1) nodes) (sym is))
+    ∙ (ap all_or_end (pairs_next genesis (plain_of x) (map plain_of (drop (i + 1) nodes)))
+    ∙ (ap (λ xs. all_or_end (xs ++ others)) (map-map (λ (other : Node). pair_of genesis (plain_of x, other)) plain_of (drop (i + 1) nodes))
+    ∙ ap (λ (ys : List Delivered). all_or_end (map (λ (given : Delivered). pair_of genesis (plain_of x, plain_of given)) ys ++ others)) (up_to_end nodes (i + 1))))
+
+pub no_pairs_left : (genesis : PlainState) (nodes : List Delivered) (i : ℕ) → length nodes ≤ i → all_or_end (map (pair_of genesis) (pairs_of (map plain_of (drop i nodes)))) ≡ Ok []
+no_pairs_left genesis nodes i past =
+    ap (λ (ys : List Delivered). all_or_end (map (pair_of genesis) (pairs_of (map plain_of ys)))) (drop_all i nodes past) ∙ (ap all_or_end (no_pairs genesis) ∙ none_of_all)

@@ -44,13 +44,14 @@ pub fn made_events(alloc: Global, which: u8, maker: Maker) -> Result<Vec<Event>,
     let mut source = MadeEvents::new(alloc, maker);
     let mut events = Vec::new(alloc);
     'events: loop {
-        match source.next_given() {
-            Ok(Some(given)) => match events.push(given.event) {
-                Ok(()) => {}
-                Err(_) => return Err(Status::NoMemory),
-            },
+        let given = match source.next_given() {
+            Ok(Some(given)) => given,
             Ok(None) => return Ok(events),
             Err(stop) => return Err(not_made(which, stop)),
+        };
+        match events.push(given.event) {
+            Ok(()) => {}
+            Err(_) => return Err(Status::NoMemory),
         }
     }
 }

@@ -80,7 +80,6 @@ fn push_head_word(line: &mut Vec<u8>, alloc: Global, store: &mut Store) -> Resul
 }
 
 /// Appends the words of a store's head and checkpoints.
-#[tactic(auto, unfolding(spec_replay::specs::Nodes::ends_text))]
 fn push_ends(line: &mut Vec<u8>, alloc: Global, store: &mut Store) -> Result<(), NoMemory>
     ensures line { OnOk result (line.new.items ≡ line.old.items ++ ends_text store.old.plain) }
     ensures same { store.new.plain ≡ store.old.plain }

@@ -203,7 +203,8 @@ pub fn pair_lines(
 {
     let mut lines = Vec::new(alloc);
     for (index, first) in nodes.iter().enumerate() {
-        let more = match lines_with(alloc, config, genesis, &first.node, &nodes[index + 1..]) {
+        let others = &nodes[index + 1..];
+        let more = match lines_with(alloc, config, genesis, &first.node, others) {
             Ok(more) => more,
             Err(status) => return Err(status),
         };

@@ -52,10 +52,13 @@ fn split_of(alloc: Global, number: u64, config: &Config) -> Result<Split, NoMemo
     ensures { IfOk result (λ split. IsSplit (record { config = config.now; number = number; which = None }) split) }
 {
     let maker = Maker::new(alloc, number, config)?;
+    let first = maker.split(alloc, 0)?;
+    let second = maker.split(alloc, 1)?;
+    let genesis = maker.genesis(alloc)?;
     Ok(Split {
-        first: maker.split(alloc, 0)?,
-        second: maker.split(alloc, 1)?,
-        genesis: maker.genesis(alloc)?,
+        first,
+        second,
+        genesis,
     })
 }
 

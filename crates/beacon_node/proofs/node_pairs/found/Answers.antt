@@ -32,15 +32,15 @@ pub find-requires-clause-first : goal.find-requires-clause-first
 find-requires-clause-first c =
     let b = nothing_begun c.args.config.now c.args.genesis.now _ c.in_ok-book.ensures.book in
     let added = c.add_blocks-2.ensures.other ∙ c.in-Ok.ensures.added in
-    rw (c.add_blocks-2.ensures.config, c.add_blocks-2.ensures.genesis, c.add_blocks.ensures.config, c.add_blocks.ensures.genesis, b.0, b.1, added) c.requires.first.follows
+    rw (added, c.add_blocks-2.ensures.config, c.add_blocks-2.ensures.genesis, c.add_blocks.ensures.config, c.add_blocks.ensures.genesis, b.0, b.1) c.requires.first.follows
 
 pub find-requires-clause-second : goal.find-requires-clause-second
 find-requires-clause-second c =
     let b = nothing_begun c.args.config.now c.args.genesis.now _ c.in_ok-book.ensures.book in
-    rw (c.add_blocks-2.ensures.config, c.add_blocks-2.ensures.genesis, c.add_blocks.ensures.config, c.add_blocks.ensures.genesis, b.0, b.1, c.in-Ok-add_blocks.ensures.added) c.requires.second.follows
+    rw (c.in-Ok-add_blocks.ensures.added, c.add_blocks-2.ensures.config, c.add_blocks-2.ensures.genesis, c.add_blocks.ensures.config, c.add_blocks.ensures.genesis, b.0, b.1) c.requires.second.follows
 
 pub returns-in-Ok-find-clause-found : goal.returns-in-Ok-find-clause-found
 returns-in-Ok-find-clause-found c =
     let b = nothing_begun c.args.config.now c.args.genesis.now _ c.in_ok-book.ensures.book in
     let added = c.add_blocks-2.ensures.other ∙ c.in-Ok.ensures.added in
-    rw (c.add_blocks-2.ensures.genesis, c.add_blocks.ensures.genesis, b.1, added, c.in-Ok-add_blocks.ensures.added) at c.in-Ok-find.ensures
+    rw (added, c.in-Ok-add_blocks.ensures.added, c.add_blocks-2.ensures.genesis, c.add_blocks.ensures.genesis, b.1) at c.in-Ok-find.ensures

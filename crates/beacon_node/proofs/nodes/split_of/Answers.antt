@@ -4,8 +4,8 @@ use Rattle.beacon_node.proofs.nodes.split_of.Goals as goal
 
 pub returns : goal.returns
 returns c = record {
-  first = split_of _ 0 _ _ c.in_ok-maker.ensures c.in_ok-split.ensures;
-  second = split_of _ 1 _ _ c.in_ok-maker.ensures c.in_ok-split-2.ensures;
+  first = split_of _ 0 _ _ c.in_ok-maker.ensures c.in_ok-first.ensures;
+  second = split_of _ 1 _ _ c.in_ok-maker.ensures c.in_ok-second.ensures;
   genesis = begins c.args.number c.args.config.now c.in_ok-maker.maker _ c.in_ok-maker.ensures c.in_ok-genesis.ensures.state;
   passes = c.in_ok-genesis.ensures.passes;
 }
