@@ -1,5 +1,5 @@
 -- The events are made one after the other.
-use Rattle.std.proofs.Common.{◌≡◌, ◌+◌, ◌≤◌, true, false, [], None, arith}
+use Rattle.std.proofs.Common.{◌≡◌, true, false, [], None, arith}
 use Rattle.std.proofs.lemmas.List.Elements.{All-push}
 use Rattle.bc_outside.specs.Told.{ShelfTold}
 use Rattle.record_file.specs.Record.{is_kind}
