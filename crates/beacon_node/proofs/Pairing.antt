@@ -1,8 +1,8 @@
 -- Two nodes whose blocks a book takes, and what is said of all pairs.
-use Rattle.std.proofs.Common.{◌≡◌, ◌∙◌, ℕ, zero, suc, ◌+◌, ◌-◌, ◌<◌, ◌≤◌, List, [], ◌∷◌, ◌++◌, length, get_or, take, drop, map, reverse, Option, Some, None, Result, Ok, Err, IfErr, refl, ap, ap₂, sym, subst, append_assoc, append-nil, length-drop, arith}
-use Rattle.std.specs.Prelude.{All, Contains, flat_map}
+use Rattle.std.proofs.Common.{◌≡◌, ◌∙◌, ℕ, zero, suc, ◌+◌, ◌-◌, ◌<◌, ◌≤◌, List, [], ◌∷◌, ◌++◌, length, get_or, take, drop, map, reverse, Option, Some, None, Result, Ok, Err, refl, ap, ap₂, sym, subst, append_assoc, append-nil, length-drop, arith}
+use Rattle.std.specs.Prelude.{Contains, flat_map}
 use Rattle.std.specs.Option.{option_map, option_or}
-use Rattle.std.proofs.lemmas.List.{map_push, map-append, reverse-append, drop_more, drop_all, take_all, take-append-drop, take_more, flat_map_more}
+use Rattle.std.proofs.lemmas.List.{map-append, reverse-append, drop_more, drop_all, take_all, take-append-drop, take_more, flat_map_more}
 use Rattle.std.proofs.lemmas.List.Concat.{flat_map-append}
 use Rattle.std.proofs.lemmas.Simd.{map-map}
 use Rattle.std.proofs.lemmas.List.Elements.{All-get_or, Contains-get_or}
@@ -10,10 +10,9 @@ use Rattle.bc_preset.specs.declared.configuration.ConfigValues.{ConfigValues}
 use Rattle.bc_words.specs.declared.store_stop.ClashKind.TheVariants.{Kept}
 use Rattle.beacon_body.specs.declared.block.BeaconBlock.{BeaconBlock}
 use Rattle.spec_state.specs.declared.plain.PlainState.{PlainState}
-use Rattle.spec_fork_choice.specs.Store.{KeptBlock, Store, block_of}
+use Rattle.spec_fork_choice.specs.Store.{KeptBlock, block_of}
 use Rattle.spec_forensics.specs.Histories.{AcceptedBlock, IsHistory, IsStepOn}
 use Rattle.spec_forensics.specs.Clash.{clash_among, first_accepted, kept_block}
-use Rattle.safety_law.specs.Follows.{Follows}
 use Rattle.safety_law.proofs.Contents.{covered}
 use Rattle.safety_law.proofs.Lists.{image_of, in_reverse}
 use Rattle.forensics.specs.Books.{PlainBook, begun, clash_in, history_of, with_block}
@@ -26,7 +25,7 @@ use Rattle.beacon_node.specs.declared.node.Delivered.{Delivered}
 use Rattle.beacon_node.specs.declared.status.Status.{Status}
 use Rattle.beacon_node.specs.declared.status.Status.TheVariants as statuses
 use Rattle.beacon_node.specs.inside.Histories.{HasFound}
-use Rattle.beacon_node.specs.inside.Nodes.{AreClear, IsNode, LinesSoFar, LinesTold, NodeEnds, added_of, behind_ones, history_in, plain_node}
+use Rattle.beacon_node.specs.inside.Nodes.{AreClear, IsNode, LinesSoFar, NodeEnds, added_of, behind_ones, history_in, plain_node}
 use Rattle.beacon_node.proofs.Delivering.{history_more}
 use Rattle.beacon_node.proofs.Following.{clear_of_both, genesis_clear}
 
@@ -226,13 +225,6 @@ module _ (genesis : PlainState) (first second : Node) where
   unfolding pair_of unless_pair_clashes pair_line
   pair_told findings line none has is = rw (none, is, has.offences, has.verdict) refl
 
-pub no_memory_ends : {A : Type 0} (left : Result A End) → NodeEnds statuses.NoMemory left
-no_memory_ends left = λ on. absurd cc
-
-pub memory_over : {V A : Type 0} (result : Result V Status) (left : Result A End) → IfErr result (λ status. status ≡ statuses.NoMemory) → IfErr result (λ status. NodeEnds status left)
-memory_over (Ok made) left is = tt
-memory_over (Err status) left is = rw is (no_memory_ends left)
-
 -- ---- one after the other
 
 none_before : {A : Type 0} (left : Result (List A) End) → left ≡ behind_ones [] left
@@ -294,9 +286,6 @@ first_part_ends (Err other ∷ xs) ys end is = is
 first_part_ends (Ok x ∷ xs) ys end is = ends_so x (all_or_end xs) (all_or_end (xs ++ ys)) end is (λ other of. first_part_ends xs ys other of)
 
 -- ---- lines
-
-pub no_line : (lines : List ℕ) (all : Result (List (List ℕ)) End) → lines ≡ [] → LinesSoFar lines all all
-no_line lines all none = record { made = []; are = none; all_is = none_before all }
 
 pub line_more : (lines new line : List ℕ) (one : Result (List ℕ) End) (others : List (Result (List ℕ) End)) (left all : Result (List (List ℕ)) End) → left ≡ all_or_end (one ∷ others) → LinesSoFar lines left all → one ≡ Ok line → new ≡ lines ++ line
     → LinesSoFar new (all_or_end others) all

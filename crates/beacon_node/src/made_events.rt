@@ -9,7 +9,7 @@ ghost use Rattle.beacon_node.specs.inside.Nodes.{EndsMaking};
 ghost use Rattle.beacon_node.specs.inside.Statuses.{no_event_of};
 
 use crate::status::Status;
-use chain_maker::{MadeEvents, Maker};
+use chain_maker::{Given, MadeEvents, Maker};
 use record_file::{Event, SourceStop};
 use std::alloc::Global;
 
@@ -33,6 +33,13 @@ fn not_made(which: u8, stop: SourceStop) -> Status
     }
 }
 
+/// The event of what a maker gives. A block's step is let go.
+fn event_of(given: Given) -> Event
+    ensures { result ≡ given.event }
+{
+    given.event
+}
+
 /// All events of a new maker, of the chain 0 or 1, or the status where one of them can't be made.
 pub fn made_events(alloc: Global, which: u8, maker: Maker) -> Result<Vec<Event>, Status>
     requires new { maker ≡ new_maker maker.plan }
@@ -44,12 +51,12 @@ pub fn made_events(alloc: Global, which: u8, maker: Maker) -> Result<Vec<Event>,
     let mut source = MadeEvents::new(alloc, maker);
     let mut events = Vec::new(alloc);
     'events: loop {
-        let given = match source.next_given() {
-            Ok(Some(given)) => given,
+        let event = match source.next_given() {
+            Ok(Some(given)) => event_of(given),
             Ok(None) => return Ok(events),
             Err(stop) => return Err(not_made(which, stop)),
         };
-        match events.push(given.event) {
+        match events.push(event) {
             Ok(()) => {}
             Err(_) => return Err(Status::NoMemory),
         }

@@ -1,5 +1,5 @@
 -- The events are made one after the other.
-use Rattle.std.proofs.Common.{◌≡◌, ◌+◌, ◌≤◌, true, false, [], None, arith}
+use Rattle.std.proofs.Common.{◌≡◌, true, false, [], None, arith}
 use Rattle.std.proofs.lemmas.List.Elements.{All-push}
 use Rattle.bc_outside.specs.Told.{ShelfTold}
 use Rattle.record_file.specs.Record.{is_kind}
@@ -17,8 +17,8 @@ events-preserved c =
     let counts = rw c.in-Ok-Some.field-0-is at c.in-Ok-Some.ensures.counts in
     let kind = rw c.in-Ok-Some.field-0-is at c.in-Ok-Some.ensures.kind in
     record {
-      comes = rw c.in-Ok.ensures.items (made_so_far c.events.events.items c.in-Ok-Some.given.event _ _ _ c.events.invariant.comes (made_one c.events.source c.next_given.new.self c.in-Ok-Some.given.event no_files next));
-      kinds = rw c.in-Ok.ensures.items (All-push (λ (event : Event). is_kind event.kind ≡ true) c.events.events.items c.in-Ok-Some.given.event c.events.invariant.kinds kind);
+      comes = rw (c.in-Ok.ensures.items, c.event_of-event.ensures) (made_so_far c.events.events.items c.in-Ok-Some.given.event _ _ _ c.events.invariant.comes (made_one c.events.source c.next_given.new.self c.in-Ok-Some.given.event no_files next));
+      kinds = rw (c.in-Ok.ensures.items, c.event_of-event.ensures) (All-push (λ (event : Event). is_kind event.kind ≡ true) c.events.events.items c.in-Ok-Some.given.event c.events.invariant.kinds kind);
       counted = omega (arith, c.in-Ok.ensures.len, c.events.invariant.counted, counts.0);
       few = counts.1;
     }
