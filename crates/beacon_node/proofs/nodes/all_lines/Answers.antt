@@ -27,7 +27,7 @@ returns-in-Ok-all_nodes-clause-told c =
     let same = rw (c.deref.ensures.value, c.deref-2.ensures.value) at c.in-Ok-all_nodes.ensures.lines in
     all_told (genesis_clash c.args.split.genesis) c.args.words.now.number c.args.words.now.count c.args.split.genesis (genesis_store c.args.config.now c.args.split.genesis) (events_to_come 0 (to_come c.args.split.first))
     (events_to_come 0 (to_come c.args.split.second)) c.in-Ok.ensures.opened.none c.in-Ok-made_events.events.items c.in-Ok-made_events.ensures.made c.in-Ok-made_events-2.events.items c.in-Ok-made_events-2.ensures.made
-    c.in-Ok-all_nodes.nodes.items are _ c.lines_of.result same (rw c.deref-3.ensures.value at c.lines_of.ensures.told)
+    c.in-Ok-all_nodes.nodes.items are _ c.lines_of.result same (rw c.deref-in-Ok-all_nodes.ensures.value at c.lines_of.ensures.told)
 
 pub returns-clause-told : goal.returns-clause-told
 returns-clause-told c =

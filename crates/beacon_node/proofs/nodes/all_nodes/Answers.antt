@@ -1,12 +1,11 @@
 -- The nodes are delivered their events one after the other.
-use Rattle.std.proofs.Common.{◌≤◌, ◌≡◌, ◌<◌, ◌-◌, ◌+◌, ◌∙◌, ℕ, List, length, map, true, sym, arith}
+use Rattle.std.proofs.Common.{◌≤◌, ◌≡◌, ◌-◌, ◌+◌, List, length, map, true, refl, arith}
 use Rattle.std.specs.Prelude.{All}
 use Rattle.std.specs.List.{range_with_len}
 use Rattle.std.proofs.lemmas.List.Elements.{All-nil, All-push}
 use Rattle.record_file.specs.Record.{is_kind, most_events}
 use Rattle.record_file.specs.declared.event.Event.{Event}
 use Rattle.spec_fork_choice.specs.GetForkchoiceStore.{genesis_store}
-use Rattle.spec_replay.specs.Nodes.{all_or_end, node_of}
 use Rattle.beacon_node.specs.declared.node.Delivered.{Delivered}
 use Rattle.beacon_node.specs.inside.Nodes.{HasRun}
 use Rattle.beacon_node.proofs.ManyNodes.{all_nodes_left, its_line, next_number, no_node_yet, no_number, node_lines_more, node_more, node_over, of_chain}
