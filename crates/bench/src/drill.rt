@@ -1,15 +1,17 @@
 //! Made chains: what making one and handing it to a store takes, against the store alone; and whether a slot of mainnet grows
 //! dearer from the first quarter of a chain to the last.
 
-ghost use Rattle.std.specs.Prelude.{◌≡◌, ◌<◌, IfOk};
+ghost use Rattle.std.specs.Prelude.{◌≡◌, ◌<◌, true, None, IfOk};
 
 use crate::chain::Event;
 use crate::genesis::{Genesis, Network};
 use crate::ratio::{Time, now, tell_ratio, tell_time, time_since};
-use crate::running::{Times, run_store, store_at, take_all};
+use crate::running::{Times, run_store, store_at, take_all, take_head};
 use anyhow::{Result, bail};
+use bc_outside::MemoryShelf;
 use bc_preset::Config;
-use chain_maker::Maker;
+use beacon_node::{MadeFeed, StoreSource};
+use chain_maker::{MadeEvents, Maker};
 use fork_store::Store;
 use std::alloc::Global;
 use std::rt::Files;
@@ -79,7 +81,65 @@ fn genesis_of(alloc: Global, config: &Config) -> Result<Genesis>
     })
 }
 
-/// Makes a chain, hands it to a store, and prints what both took against the store alone.
+/// Hands the next event of a source to the store, as the program does, and takes the head behind it. Whether there was one.
+fn take_next<S: StoreSource>(
+    rt: &(impl AllocGlobal + CpuClock),
+    source: &mut S,
+    store: &mut Store,
+    shelf: &mut MemoryShelf,
+    times: &mut Times,
+) -> Result<bool>
+    requires no_file { (S.seen source.old).file ≡ None }
+    requires fits { S.fits source.old store.old.plain }
+    ensures no_file { IfOk result (λ _. (S.seen source.new).file ≡ None) }
+    ensures fits { IfOk result (λ more. more ≡ true → S.fits source.new store.new.plain) }
+{
+    if store.accepted().len() > 1 << 20 {
+        bail!("too many blocks");
+    }
+    let event = match source.next_for(shelf) {
+        Ok(Some(event)) => event,
+        Ok(None) => return Ok(false),
+        Err(stop) => bail!("no event: {stop}"),
+    };
+    let taken = source.hand(rt.alloc(), &event, store);
+    if taken.is_err() {
+        bail!("a made event isn't accepted");
+    }
+    take_head(rt, store, times);
+    Ok(true)
+}
+
+/// Hands all events of a source to the store.
+fn take_source<S: StoreSource>(
+    rt: &(impl AllocGlobal + CpuClock),
+    source: &mut S,
+    store: &mut Store,
+) -> Result<()>
+    requires no_file { (S.seen source.old).file ≡ None }
+    requires fits { S.fits source.old store.old.plain }
+{
+    let mut shelf = MemoryShelf::new(rt.alloc(), Vec::new(rt.alloc()), Vec::new(rt.alloc()), 1);
+    let mut times = Times::none();
+    for _ in 0..MOST_EVENTS {
+        if !take_next(rt, source, store, &mut shelf, &mut times)? {
+            return Ok(());
+        }
+    }
+    bail!("the chain has no end")
+}
+
+/// Makes a chain and hands it to a store, as the program does.
+fn run_made(rt: &(impl AllocGlobal + CpuClock), config: &Config) -> Result<()> {
+    let maker = maker_of(rt.alloc(), config)?;
+    let genesis = maker.genesis(rt.alloc())?;
+    let mut store = Store::new(rt.alloc(), config, genesis)?;
+    let events = MadeEvents::new(rt.alloc(), maker);
+    let mut feed = MadeFeed::new(events);
+    take_source(rt, &mut feed, &mut store)
+}
+
+/// Makes a chain, hands it to a store as it is made, and prints what both took against the store alone.
 fn measure_chain(
     rt: &(impl AllocGlobal + Print + CpuClock + Files),
     genesis: &Genesis,
@@ -92,8 +152,11 @@ fn measure_chain(
     let made = time_since(rt, begin);
     let times = run_store(rt, genesis, &events)?;
     times.tell(rt, events.len())?;
-    let whole = made.plus(times.whole());
     tell_time(rt, "making the events", made)?;
+    let begin = now(rt);
+    run_made(rt, &genesis.config)?;
+    let whole = time_since(rt, begin);
+    tell_time(rt, "making them for the store", whole)?;
     tell_ratio(
         rt,
         "a made chain, against the store with its events",

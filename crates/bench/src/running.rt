@@ -62,6 +62,7 @@ fn counted<L: Ledger>(store: &mut Store, blank: Blank) -> Root
     requires name { blank.name ≡ L.name }
     requires parts { blank.parts ≡ L.parts }
     requires some { 0 < blank.parts }
+    ensures { store.new.plain ≡ store.old.plain }
 {
     let mut steps = Steps::<L>::new(blank);
     store.head(&mut steps)
@@ -93,7 +94,9 @@ fn take_event(
 }
 
 /// Takes the head.
-fn take_head(rt: &impl CpuClock, store: &mut Store, times: &mut Times) {
+pub fn take_head(rt: &impl CpuClock, store: &mut Store, times: &mut Times)
+    ensures { store.new.plain ≡ store.old.plain }
+{
     let begin = now(rt);
     let _head = counted::<Brand>(store, Blank::new(1));
     times.heads = times.heads.plus(time_since(rt, begin));
