@@ -2,6 +2,7 @@
 //! dearer from the first quarter of a chain to the last.
 
 ghost use Rattle.std.specs.Prelude.{◌≡◌, ◌<◌, true, None, IfOk};
+ghost use Rattle.spec_drill.specs.Maker.{new_maker};
 
 use crate::chain::Event;
 use crate::genesis::{Genesis, Network};
@@ -29,7 +30,8 @@ const QUARTER: u64 = 256;
 /// The maker of the network's chain.
 #[tactic(auto, unfolding(spec_drill::specs::Maker::new_maker))]
 fn maker_of(alloc: Global, config: &Config) -> Result<Maker>
-    ensures { IfOk result (λ maker. maker.plan.config ≡ config.now) }
+    ensures config { IfOk result (λ maker. maker.plan.config ≡ config.now) }
+    ensures new { IfOk result (λ maker. maker ≡ new_maker maker.plan) }
 {
     if config.ejection_balance() >= 32_000_000_000 {
         bail!("the made validators would be ejected");
@@ -139,6 +141,7 @@ fn take_source<S: StoreSource>(
 }
 
 /// Makes a chain and hands it to a store, as the program does.
+#[tactic(auto, using(spec_drill::proofs::Genesis::slot_zero), unfolding(spec_drill::specs::MakeGenesis::genesis_of_plan))]
 fn run_made(rt: &(impl AllocGlobal + CpuClock), config: &Config) -> Result<()> {
     let maker = maker_of(rt.alloc(), config)?;
     let genesis = maker.genesis(rt.alloc())?;
