@@ -71,7 +71,7 @@ const TEXTS: &[(Status, Option<Option<&str>>, Option<u64>, &str)] = &[
         Status::Words,
         None,
         None,
-        "Words: no command is named; the commands are `replay CONFIG GENESIS RECORD` `drill NUMBER CONFIG` `genesis CONFIG DEPOSITS` `duties CONFIG STATE EPOCH` `anchor CONFIG STATE BLOCK RECORD` `forensic CONFIG GENESIS A B`",
+        "Words: no command is named; the commands are `replay CONFIG GENESIS RECORD` `drill NUMBER CONFIG` `genesis CONFIG DEPOSITS` `duties CONFIG STATE EPOCH` `anchor CONFIG STATE BLOCK RECORD` `forensic CONFIG GENESIS A B` `nodes NUMBER COUNT CONFIG`",
     ),
     (
         Status::NoMemory,
