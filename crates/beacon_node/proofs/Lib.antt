@@ -21,3 +21,4 @@ pub mod Forensics
 pub mod Findings
 pub mod Openings
 pub mod Convictions
+pub mod Versions
