@@ -1,5 +1,5 @@
 -- Equivocating validators in the store are silenced ones in its array.
-use Rattle.std.proofs.Common.{◌≡◌, ◌∙◌, ◌<◌, ◌≤◌, ℕ, suc, ◌+◌, Bool, true, false, cond, nat_lt, eqb, max, filter, List, [], ◌∷◌, ◌++◌, length, take, drop, fold, get_or, append-nil, Option, Some, None, Result, Ok, Err, refl, sym, ap, subst, arith}
+use Rattle.std.proofs.Common.{◌≡◌, ◌∙◌, ◌<◌, ◌≤◌, ℕ, suc, ◌+◌, Bool, true, false, cond, nat_lt, eqb, max, List, [], ◌∷◌, ◌++◌, length, take, drop, fold, get_or, append-nil, Option, None, Result, Ok, Err, refl, sym, ap, subst, arith}
 use Rattle.std.specs.List.{list_any}
 use Rattle.std.proofs.lemmas.List.{drop_all, take_all}
 use Rattle.std.proofs.lemmas.List.Elements.{filter_more}

@@ -1,7 +1,4 @@
-use Rattle.std.proofs.Common.{◌≡◌, ◌∙◌, ap, refl, rules, subst, sym}
-use Rattle.spec_fork_choice.specs.Store.{Store}
-use Rattle.spec_blocks.specs.ProcessAttesterSlashing.{in_both}
-use Rattle.fork_store.specs.Keepers.{IsKeeperOf}
+use Rattle.std.proofs.Common.{refl, rules}
 use Rattle.fork_store.proofs.Keepers.{keeper_same, keeper_stays}
 use Rattle.fork_store.proofs.Silences.{slashing_done}
 use Rattle.fork_store.proofs.Stays.{stop_leaves}
