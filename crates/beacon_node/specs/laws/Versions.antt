@@ -1,5 +1,5 @@
 -- Records of both versions with the same frames.
-use Rattle.std.specs.Prelude.{◌≡◌, ⊥, ℕ, List, ◌++◌, Option, Some}
+use Rattle.std.specs.Prelude.{◌≡◌, ℕ, List, ◌++◌, Option, Some}
 use Rattle.record_file.specs.Record.{events_of, fault, magic}
 use Rattle.record_file.specs.declared.fault.RecordFault.TheVariants.{BadKind}
 use Rattle.record_file.specs.declared.version.Version.TheVariants.{One, Two}
