@@ -53,7 +53,7 @@ const TEXTS: &[(Status, Option<Option<&str>>, Option<u64>, &str)] = &[
         },
         None,
         None,
-        "Record: \"r\": at its head: a record begins with BCR1",
+        "Record: \"r\": at its head: a record begins with BCR1 or BCR2",
     ),
     (
         Status::ReadFault,
@@ -303,7 +303,7 @@ const FORENSIC_TEXTS: &[(Status, Option<Option<&str>>, Option<u64>, &str)] = &[
         },
         None,
         None,
-        "Record: \"a\": at its head: a record begins with BCR1",
+        "Record: \"a\": at its head: a record begins with BCR1 or BCR2",
     ),
     (
         Status::Record {

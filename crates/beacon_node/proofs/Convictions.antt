@@ -4,7 +4,6 @@ use Rattle.std.specs.Prelude.{nat_le, nat_lt}
 use Rattle.std.specs.List.{AllByRecursion}
 use Rattle.std.specs.Option.{option_and_then}
 use Rattle.std.specs.Int.{w32, from_le_bytes}
-use Rattle.std.specs.Str.{bytes_eq}
 use Rattle.bc_preset.specs.Presets.{IsPreset}
 use Rattle.bc_preset.specs.declared.configuration.ConfigValues.{ConfigValues}
 use Rattle.bc_words.specs.Events.{EventOutcome, accepted, event_refused, event_limited, event_clashes}
@@ -13,10 +12,11 @@ use Rattle.ssz_codec.specs.Lawful.{IsBytes}
 use Rattle.ssz_codec.specs.laws.Layout.{IsBytes-drop, IsBytes-take}
 use Rattle.beacon_body.specs.declared.block.BeaconBlock.{BeaconBlock}
 use Rattle.record_file.specs.Record as record_file
-use Rattle.record_file.specs.Record.{Events, FrameRead, ended, events_from, events_of, fault_event, faulted, frame_of, framed, is_kind, longest_payload, magic, most_events, payload_of, sized_of, with_event}
+use Rattle.record_file.specs.Record.{Events, FrameRead, ended, events_from, events_of, events_under, fault_event, faulted, frame_of, framed, is_kind_of, longest_payload, most_events, payload_of, sized_of, version_of, with_event}
 use Rattle.record_file.specs.declared.event.Event.{Event}
 use Rattle.record_file.specs.declared.fault.RecordFault.{RecordFault}
-use Rattle.record_file.specs.declared.fault.RecordFault.TheVariants.{BadKind, BadMagic, TooLong, TooMany, Torn}
+use Rattle.record_file.specs.declared.fault.RecordFault.TheVariants.{BadKind, TooLong, TooMany, Torn}
+use Rattle.record_file.specs.declared.version.Version.{Version}
 use Rattle.spec_state.specs.Genesis.{checked_genesis, genesis_fault, genesis_of, sound_genesis}
 use Rattle.spec_state.specs.States.{state_codec}
 use Rattle.spec_state.specs.Limits.{IsState, IsInRange}
@@ -78,26 +78,26 @@ sized_bytes kind bytes ok = by (nat_lt (length bytes) 4)
     by true = tt
     by false = payload_bytes kind (from_le_bytes w32 (take 4 bytes)) (drop 4 bytes) (IsBytes-drop 4 bytes ok)
 
-frame_bytes : (events : ℕ) (bytes : List ℕ) → IsBytes bytes → FrameBytes (frame_of events bytes)
+frame_bytes : (version : Version) (events : ℕ) (bytes : List ℕ) → IsBytes bytes → FrameBytes (frame_of version events bytes)
 unfolding frame_of
-frame_bytes events [] ok = tt
-frame_bytes events (kind ∷ bytes) ok = by (nat_le most_events events) (is_kind kind)
+frame_bytes version events [] ok = tt
+frame_bytes version events (kind ∷ bytes) ok = by (nat_le most_events events) (is_kind_of version kind)
   where
     by : (a b : Bool) → FrameBytes (if a then faulted TooMany else if b then sized_of kind bytes else faulted (BadKind kind))
     by true b = tt
     by false true = sized_bytes kind bytes (λ i. ok (suc i))
     by false false = tt
 
-events_bytes : (room events : ℕ) (bytes : List ℕ) → IsBytes bytes → AreBytes (events_from room events bytes).events
+events_bytes : (version : Version) (room events : ℕ) (bytes : List ℕ) → IsBytes bytes → AreBytes (events_from version room events bytes).events
 unfolding events_from
-events_bytes zero events [] ok = tt
-events_bytes zero events (_ ∷ _) ok = tt
-events_bytes (suc room) events bytes ok = by (λ rest rest_ok. events_bytes room (events + 1) rest rest_ok) (frame_of events bytes) (frame_bytes events bytes ok)
+events_bytes version zero events [] ok = tt
+events_bytes version zero events (_ ∷ _) ok = tt
+events_bytes version (suc room) events bytes ok = by (λ rest rest_ok. events_bytes version room (events + 1) rest rest_ok) (frame_of version events bytes) (frame_bytes version events bytes ok)
   where
-    by : ((rest : List ℕ) → IsBytes rest → AreBytes (events_from room (events + 1) rest).events) → (f : FrameRead) → FrameBytes f → AreBytes (elim f as (λ _. Events) [
+    by : ((rest : List ℕ) → IsBytes rest → AreBytes (events_from version room (events + 1) rest).events) → (f : FrameRead) → FrameBytes f → AreBytes (elim f as (λ _. Events) [
       | ended ↦ record { events = []; end = record_file.done }
       | faulted reason ↦ record { events = []; end = record_file.fault (fault_event events reason) reason }
-      | framed event rest ↦ with_event event (events_from room (events + 1) rest)
+      | framed event rest ↦ with_event event (events_from version room (events + 1) rest)
     ]).events
     by later ended h = tt
     by later (faulted reason) h = tt
@@ -105,11 +105,11 @@ events_bytes (suc room) events bytes ok = by (λ rest rest_ok. events_bytes room
 
 record_bytes : (bytes : List ℕ) → IsBytes bytes → AreBytes (events_of bytes).events
 unfolding events_of
-record_bytes bytes ok = by (bytes_eq (take 4 bytes) magic)
+record_bytes bytes ok = by (version_of (take 4 bytes))
   where
-    by : (a : Bool) → AreBytes (if a then events_from most_events 0 (drop 4 bytes) else record { events = []; end = record_file.fault 0 BadMagic }).events
-    by true = events_bytes most_events 0 (drop 4 bytes) (IsBytes-drop 4 bytes ok)
-    by false = tt
+    by : (version : Option Version) → AreBytes (events_under version (drop 4 bytes)).events
+    by (Some version) = events_bytes version most_events 0 (drop 4 bytes) (IsBytes-drop 4 bytes ok)
+    by None = tt
 
 -- ---- a record that is followed
 

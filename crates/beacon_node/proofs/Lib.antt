@@ -24,3 +24,4 @@ pub mod Pairing
 pub mod ManyNodes
 pub mod Openings
 pub mod Convictions
+pub mod Versions
