@@ -98,7 +98,7 @@ fn origins_of<'a>(command: &Option<Command<'a>>) -> Origins<'a> {
         ),
         Some(Command::Genesis(files)) => (files.config, Origin::File(files.deposits), none, none),
         Some(Command::Duties(words)) => (words.config, Origin::File(words.state), none, none),
-        Some(Command::Forensic(files)) => (
+        Some(Command::Forensic(files) | Command::Slasher(files)) => (
             files.config,
             Origin::File(files.genesis),
             Origin::File(files.first),

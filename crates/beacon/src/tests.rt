@@ -53,7 +53,7 @@ const TEXTS: &[(Status, Option<Option<&str>>, Option<u64>, &str)] = &[
         },
         None,
         None,
-        "Record: \"r\": at its head: a record begins with BCR1",
+        "Record: \"r\": at its head: a record begins with BCR1 or BCR2",
     ),
     (
         Status::ReadFault,
@@ -71,7 +71,7 @@ const TEXTS: &[(Status, Option<Option<&str>>, Option<u64>, &str)] = &[
         Status::Words,
         None,
         None,
-        "Words: no command is named; the commands are `replay CONFIG GENESIS RECORD` `drill NUMBER CONFIG` `genesis CONFIG DEPOSITS` `duties CONFIG STATE EPOCH` `anchor CONFIG STATE BLOCK RECORD` `forensic CONFIG GENESIS A B` `nodes NUMBER COUNT CONFIG`",
+        "Words: no command is named; the commands are `replay CONFIG GENESIS RECORD` `drill NUMBER CONFIG` `genesis CONFIG DEPOSITS` `duties CONFIG STATE EPOCH` `anchor CONFIG STATE BLOCK RECORD` `forensic CONFIG GENESIS A B` `nodes NUMBER COUNT CONFIG` `slasher CONFIG GENESIS A B`",
     ),
     (
         Status::NoMemory,
@@ -303,7 +303,7 @@ const FORENSIC_TEXTS: &[(Status, Option<Option<&str>>, Option<u64>, &str)] = &[
         },
         None,
         None,
-        "Record: \"a\": at its head: a record begins with BCR1",
+        "Record: \"a\": at its head: a record begins with BCR1 or BCR2",
     ),
     (
         Status::Record {

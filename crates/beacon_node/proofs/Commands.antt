@@ -1,7 +1,7 @@
 -- The command words as the first step of a run.
 use Rattle.std.proofs.Common.{◌≡◌, ℕ, List, [], Option, Some, None, Err, true, false, refl, sym, ◌∙◌, append-nil, arith}
 use Rattle.bc_outside.specs.Told.{FileHanded, ShelfTold}
-use Rattle.command_words.specs.Commands.{AnchorFiles, Command, DrillWords, DutiesWords, ForensicFiles, GenesisFiles, NodesWords, ReplayFiles, anchor, command_of, drill, duties, forensic, genesis, names_of, nodes, replay}
+use Rattle.command_words.specs.Commands.{AnchorFiles, Command, DrillWords, DutiesWords, ForensicFiles, GenesisFiles, NodesWords, ReplayFiles, anchor, command_of, drill, duties, forensic, genesis, names_of, nodes, replay, slasher}
 use Rattle.command_words.specs.inside.Reading.{ReadsCommand}
 use Rattle.command_words.specs.declared.command.WordsStop.{WordsStop}
 use Rattle.command_words.specs.declared.command.WordsStop.TheVariants.{NoCommand, NoMemory}
@@ -9,7 +9,7 @@ use Rattle.spec_replay.specs.Commands.{run_of, with_command}
 use Rattle.spec_replay.specs.Anchor.{anchor_run}
 use Rattle.spec_replay.specs.Drill.{drill_run}
 use Rattle.spec_replay.specs.Duties.{duties_run}
-use Rattle.spec_replay.specs.Forensic.{forensic_run}
+use Rattle.spec_replay.specs.Forensic.{forensic_run, slasher_run}
 use Rattle.spec_replay.specs.Genesis.{genesis_run}
 use Rattle.spec_replay.specs.Nodes.{nodes_run}
 use Rattle.spec_replay.specs.Run.{Run, with_files}
@@ -71,9 +71,17 @@ pub nodes_answers : (words : List (List ℕ)) (named : NodesWords) (status : Sta
 unfolding run_of with_command taken_run_of
 nodes_answers words named status s t w x is h = record { opened = h.opened; files = h.files; answers = λ c a. rw is (h.answers c a) }
 
+-- the words are the command `slasher`
+pub slasher_answers : (words : List (List ℕ)) (files : ForensicFiles) (status : Status) (s t : ShelfTold) (w x : List ℕ) → command_of words ≡ Some (slasher files)
+    → Replayed (λ contents. slasher_run (contents files.config) (contents files.genesis) (contents files.first) (contents files.second))
+    (λ contents opened. whole_of status (slasher_run (contents files.config) (contents files.genesis) (contents files.first) (contents files.second))) (names_of (Some (slasher files))) status s t w x
+    → Replayed (λ contents. run_of contents words) (taken_run_of status words) (names_of (command_of words)) status s t w x
+unfolding run_of with_command taken_run_of
+slasher_answers words files status s t w x is h = record { opened = h.opened; files = h.files; answers = λ c a. rw is (h.answers c a) }
+
 -- they are another command
-pub not_forensic : {A : Type 0} (words : List (List ℕ)) (command : Command) (files : ForensicFiles) → command_of words ≡ Some command → (command ≡ forensic files → ⊥) → command_of words ≡ Some (forensic files) → A
-not_forensic words command files is never other = absurd (never (let same = sym is ∙ other in cc))
+pub another_command : {A : Type 0} (words : List (List ℕ)) (command other : Command) → command_of words ≡ Some command → (command ≡ other → ⊥) → command_of words ≡ Some other → A
+another_command words command other is never same = absurd (never (let both = sym is ∙ same in cc))
 
 -- the words are none
 pub no_answers : (words : List (List ℕ)) (s : ShelfTold) (w : List ℕ) → command_of words ≡ None

@@ -4,7 +4,6 @@ use Rattle.std.specs.Prelude.{nat_le, nat_lt}
 use Rattle.std.specs.List.{AllByRecursion}
 use Rattle.std.specs.Option.{option_and_then}
 use Rattle.std.specs.Int.{w32, from_le_bytes}
-use Rattle.std.specs.Str.{bytes_eq}
 use Rattle.bc_preset.specs.Presets.{IsPreset}
 use Rattle.bc_preset.specs.declared.configuration.ConfigValues.{ConfigValues}
 use Rattle.bc_words.specs.Events.{EventOutcome, accepted, event_refused, event_limited, event_clashes}
@@ -13,10 +12,11 @@ use Rattle.ssz_codec.specs.Lawful.{IsBytes}
 use Rattle.ssz_codec.specs.laws.Layout.{IsBytes-drop, IsBytes-take}
 use Rattle.beacon_body.specs.declared.block.BeaconBlock.{BeaconBlock}
 use Rattle.record_file.specs.Record as record_file
-use Rattle.record_file.specs.Record.{Events, FrameRead, ended, events_from, events_of, fault_event, faulted, frame_of, framed, is_kind, longest_payload, magic, most_events, payload_of, sized_of, with_event}
+use Rattle.record_file.specs.Record.{Events, FrameRead, ended, events_from, events_of, events_under, fault_event, faulted, frame_of, framed, is_kind_of, longest_payload, most_events, payload_of, sized_of, version_of, with_event}
 use Rattle.record_file.specs.declared.event.Event.{Event}
 use Rattle.record_file.specs.declared.fault.RecordFault.{RecordFault}
-use Rattle.record_file.specs.declared.fault.RecordFault.TheVariants.{BadKind, BadMagic, TooLong, TooMany, Torn}
+use Rattle.record_file.specs.declared.fault.RecordFault.TheVariants.{BadKind, TooLong, TooMany, Torn}
+use Rattle.record_file.specs.declared.version.Version.{Version}
 use Rattle.spec_state.specs.Genesis.{checked_genesis, genesis_fault, genesis_of, sound_genesis}
 use Rattle.spec_state.specs.States.{state_codec}
 use Rattle.spec_state.specs.Limits.{IsState, IsInRange}
@@ -44,12 +44,14 @@ use Rattle.safety_law.proofs.Followed.{added_event, begins_followed, block_is_ad
 use Rattle.safety_law.proofs.Growing.{first_grows, none_yet, second_grows}
 use Rattle.safety_law.proofs.Judge.{verdict_convicts}
 use Rattle.spec_replay.specs.Run.{End, Run, after_file, bad_genesis, bad_record, clash, done, limited, over}
-use Rattle.spec_replay.specs.Forensic.{Followed, behind_first, clash_of_accepted, follow, follow_end, follow_events, follow_then, forensic_lines, judge, unless_clash, verdict_on, with_first, with_genesis, with_second, with_state, with_store}
+use Rattle.spec_replay.specs.Forensic.{Followed, behind_first, clash_of_accepted, follow, follow_end, follow_events, follow_then, judge, told_of, unless_clash, verdict_on, with_first, with_genesis, with_second, with_state, with_store}
+use Rattle.spec_replay.specs.declared.report.Report.{Report}
 use Rattle.beacon_node.specs.Findings.{IsThird}
 use Rattle.beacon_node.specs.laws.Convictions.{ConvictsOfTheRecords, FindsOut}
 use Rattle.beacon_node.proofs.Beginnings.{clear_begins}
 use Rattle.beacon_node.proofs.Findings.{conflict_is}
 use Rattle.beacon_node.proofs.Following.{clear_of_both, genesis_clear}
+use Rattle.beacon_node.proofs.SlashingRecords.{accuses}
 
 -- ---- the payloads of a record are bytes
 
@@ -78,26 +80,26 @@ sized_bytes kind bytes ok = by (nat_lt (length bytes) 4)
     by true = tt
     by false = payload_bytes kind (from_le_bytes w32 (take 4 bytes)) (drop 4 bytes) (IsBytes-drop 4 bytes ok)
 
-frame_bytes : (events : ℕ) (bytes : List ℕ) → IsBytes bytes → FrameBytes (frame_of events bytes)
+frame_bytes : (version : Version) (events : ℕ) (bytes : List ℕ) → IsBytes bytes → FrameBytes (frame_of version events bytes)
 unfolding frame_of
-frame_bytes events [] ok = tt
-frame_bytes events (kind ∷ bytes) ok = by (nat_le most_events events) (is_kind kind)
+frame_bytes version events [] ok = tt
+frame_bytes version events (kind ∷ bytes) ok = by (nat_le most_events events) (is_kind_of version kind)
   where
     by : (a b : Bool) → FrameBytes (if a then faulted TooMany else if b then sized_of kind bytes else faulted (BadKind kind))
     by true b = tt
     by false true = sized_bytes kind bytes (λ i. ok (suc i))
     by false false = tt
 
-events_bytes : (room events : ℕ) (bytes : List ℕ) → IsBytes bytes → AreBytes (events_from room events bytes).events
+events_bytes : (version : Version) (room events : ℕ) (bytes : List ℕ) → IsBytes bytes → AreBytes (events_from version room events bytes).events
 unfolding events_from
-events_bytes zero events [] ok = tt
-events_bytes zero events (_ ∷ _) ok = tt
-events_bytes (suc room) events bytes ok = by (λ rest rest_ok. events_bytes room (events + 1) rest rest_ok) (frame_of events bytes) (frame_bytes events bytes ok)
+events_bytes version zero events [] ok = tt
+events_bytes version zero events (_ ∷ _) ok = tt
+events_bytes version (suc room) events bytes ok = by (λ rest rest_ok. events_bytes version room (events + 1) rest rest_ok) (frame_of version events bytes) (frame_bytes version events bytes ok)
   where
-    by : ((rest : List ℕ) → IsBytes rest → AreBytes (events_from room (events + 1) rest).events) → (f : FrameRead) → FrameBytes f → AreBytes (elim f as (λ _. Events) [
+    by : ((rest : List ℕ) → IsBytes rest → AreBytes (events_from version room (events + 1) rest).events) → (f : FrameRead) → FrameBytes f → AreBytes (elim f as (λ _. Events) [
       | ended ↦ record { events = []; end = record_file.done }
       | faulted reason ↦ record { events = []; end = record_file.fault (fault_event events reason) reason }
-      | framed event rest ↦ with_event event (events_from room (events + 1) rest)
+      | framed event rest ↦ with_event event (events_from version room (events + 1) rest)
     ]).events
     by later ended h = tt
     by later (faulted reason) h = tt
@@ -105,11 +107,11 @@ events_bytes (suc room) events bytes ok = by (λ rest rest_ok. events_bytes room
 
 record_bytes : (bytes : List ℕ) → IsBytes bytes → AreBytes (events_of bytes).events
 unfolding events_of
-record_bytes bytes ok = by (bytes_eq (take 4 bytes) magic)
+record_bytes bytes ok = by (version_of (take 4 bytes))
   where
-    by : (a : Bool) → AreBytes (if a then events_from most_events 0 (drop 4 bytes) else record { events = []; end = record_file.fault 0 BadMagic }).events
-    by true = events_bytes most_events 0 (drop 4 bytes) (IsBytes-drop 4 bytes ok)
-    by false = tt
+    by : (version : Option Version) → AreBytes (events_under version (drop 4 bytes)).events
+    by (Some version) = events_bytes version most_events 0 (drop 4 bytes) (IsBytes-drop 4 bytes ok)
+    by None = tt
 
 -- ---- a record that is followed
 
@@ -227,10 +229,10 @@ genesis_read config bytes state preset ok is none = by _ ((state_codec config.pr
         let here : (state_codec config.preset).deserialize bytes ≡ Some state = was ∙ ap Some same.0 in
         clear_begins state (ap genesis_fault (sym same.0) ∙ same.1) (read_is_state config.preset bytes state preset ok here) (read_is_in_range config.preset bytes state ok here) none
 
-found_out : (config : ConfigValues) (genesis : PlainState) (a b : List ℕ) (first second : Followed) → Begins genesis → IsBytes a → IsBytes b → follow 0 [] (genesis_store config genesis) (events_of a) ≡ Ok first
-    → follow 1 (first_accepted genesis first.history) (genesis_store config genesis) (events_of b) ≡ Ok second → FindsOut config genesis (events_of a) (events_of b) (forensic_lines genesis first second)
+found_out : (report : Report) (config : ConfigValues) (genesis : PlainState) (a b : List ℕ) (first second : Followed) → Begins genesis → IsBytes a → IsBytes b → follow 0 [] (genesis_store config genesis) (events_of a) ≡ Ok first
+    → follow 1 (first_accepted genesis first.history) (genesis_store config genesis) (events_of b) ≡ Ok second → FindsOut report config genesis (events_of a) (events_of b) (told_of report genesis first second)
 unfolding offences_of
-found_out config genesis a b first second begins a_bytes b_bytes first_is second_is =
+found_out report config genesis a b first second begins a_bytes b_bytes first_is second_is =
     let one = first_good config genesis a first begins a_bytes first_is in
     let both = second_good config genesis first b second begins b_bytes one.1 second_is in
     record {
@@ -248,44 +250,45 @@ found_out config genesis a b first second begins a_bytes b_bytes first_is second
             total_is = parts.1;
             third = verdict_convicts config genesis first.history second.history first.store.finalized_checkpoint second.store.finalized_checkpoint balance total both.1 one.0.finalized both.0.finalized conflict;
           };
+      accuses = accuses genesis first.history second.history;
     }
 
-module _ (config : ConfigValues) (genesis : PlainState) (a b : List ℕ) (begins : Begins genesis) (a_bytes : IsBytes a) (b_bytes : IsBytes b) where
+module _ (report : Report) (config : ConfigValues) (genesis : PlainState) (a b : List ℕ) (begins : Begins genesis) (a_bytes : IsBytes a) (b_bytes : IsBytes b) where
   abbrev Ends : Run → Type 0
-  Ends run = run.end ≡ Some done → FindsOut config genesis (events_of a) (events_of b) run.lines
+  Ends run = run.end ≡ Some done → FindsOut report config genesis (events_of a) (events_of b) run.lines
 
   judged : (first : Followed) → follow 0 [] (genesis_store config genesis) (events_of a) ≡ Ok first → (left : Result Followed End) → NotDone left
-      → follow 1 (first_accepted genesis first.history) (genesis_store config genesis) (events_of b) ≡ left → Ends (judge genesis first left)
+      → follow 1 (first_accepted genesis first.history) (genesis_store config genesis) (events_of b) ≡ left → Ends (judge report genesis first left)
   unfolding judge
   judged first first_is (Ok second) not second_is ends =
-      subst (FindsOut config genesis (events_of a) (events_of b)) (sym (append-nil (forensic_lines genesis first second))) (found_out config genesis a b first second begins a_bytes b_bytes first_is second_is)
+      subst (FindsOut report config genesis (events_of a) (events_of b)) (sym (append-nil (told_of report genesis first second))) (found_out report config genesis a b first second begins a_bytes b_bytes first_is second_is)
   judged first first_is (Err end) not second_is ends = absurd (not (some_is end done ends))
 
-  behind : (left : Result Followed End) → NotDone left → follow 0 [] (genesis_store config genesis) (events_of a) ≡ left → Ends (behind_first genesis (genesis_store config genesis) left (Some b))
+  behind : (left : Result Followed End) → NotDone left → follow 0 [] (genesis_store config genesis) (events_of a) ≡ left → Ends (behind_first report genesis (genesis_store config genesis) left (Some b))
   unfolding behind_first with_second
   behind (Ok first) not is ends =
       judged first is (follow 1 (first_accepted genesis first.history) (genesis_store config genesis) (events_of b))
       (events_not 1 (first_accepted genesis first.history) 1 (record { store = genesis_store config genesis; history = [] }) (events_of b).events (events_of b).end) refl ends
   behind (Err end) not is ends = absurd (not (some_is end done ends))
 
-  with_both : Ends (with_first genesis (genesis_store config genesis) (Some a) (Some b))
+  with_both : Ends (with_first report genesis (genesis_store config genesis) (Some a) (Some b))
   unfolding with_first
   with_both = behind (follow 0 [] (genesis_store config genesis) (events_of a)) (events_not 0 [] 1 (record { store = genesis_store config genesis; history = [] }) (events_of a).events (events_of a).end) refl
 
 -- a store opens, unless the genesis clashes
-stored : (config : ConfigValues) (genesis : PlainState) (a b : List ℕ) (clashing : Option ClashKind) → (clashing ≡ None → Begins genesis) → IsBytes a → IsBytes b
-    → (with_store clashing genesis (genesis_store config genesis) (Some a) (Some b)).end ≡ Some done
-    → FindsOut config genesis (events_of a) (events_of b) (with_store clashing genesis (genesis_store config genesis) (Some a) (Some b)).lines
+stored : (report : Report) (config : ConfigValues) (genesis : PlainState) (a b : List ℕ) (clashing : Option ClashKind) → (clashing ≡ None → Begins genesis) → IsBytes a → IsBytes b
+    → (with_store report clashing genesis (genesis_store config genesis) (Some a) (Some b)).end ≡ Some done
+    → FindsOut report config genesis (events_of a) (events_of b) (with_store report clashing genesis (genesis_store config genesis) (Some a) (Some b)).lines
 unfolding with_store
-stored config genesis a b (Some kind) begins a_bytes b_bytes ends = absurd cc
-stored config genesis a b None begins a_bytes b_bytes ends = with_both config genesis a b (begins refl) a_bytes b_bytes ends
+stored report config genesis a b (Some kind) begins a_bytes b_bytes ends = absurd cc
+stored report config genesis a b None begins a_bytes b_bytes ends = with_both report config genesis a b (begins refl) a_bytes b_bytes ends
 
 pub convicts_of_the_records : ConvictsOfTheRecords
 unfolding with_genesis with_state
-convicts_of_the_records config bytes a b preset ok a_bytes b_bytes = by (genesis_of config.preset bytes) refl
+convicts_of_the_records report config bytes a b preset ok a_bytes b_bytes = by (genesis_of config.preset bytes) refl
   where
-    by : (read : Result PlainState GenesisFault) → genesis_of config.preset bytes ≡ read → (with_state config read (Some a) (Some b)).end ≡ Some done
-        → (state : PlainState) × (read ≡ Ok state) × FindsOut config state (events_of a) (events_of b) (with_state config read (Some a) (Some b)).lines
+    by : (read : Result PlainState GenesisFault) → genesis_of config.preset bytes ≡ read → (with_state report config read (Some a) (Some b)).end ≡ Some done
+        → (state : PlainState) × (read ≡ Ok state) × FindsOut report config state (events_of a) (events_of b) (with_state report config read (Some a) (Some b)).lines
     by (Ok state) is ends =
-        (state, refl, stored config state a b (genesis_clash state) (λ none. genesis_read config bytes state preset ok is none) a_bytes b_bytes ends)
+        (state, refl, stored report config state a b (genesis_clash state) (λ none. genesis_read config bytes state preset ok is none) a_bytes b_bytes ends)
     by (Err part) is ends = absurd cc

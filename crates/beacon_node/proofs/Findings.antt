@@ -19,7 +19,8 @@ use Rattle.spec_forensics.specs.declared.vote.Vote.{Vote}
 use Rattle.spec_forensics.specs.declared.verdict.Verdict.{Verdict}
 use Rattle.spec_forensics.specs.declared.verdict.Verdict.TheVariants.{Agree, Small, Moved, Conflict}
 use Rattle.spec_replay.specs.Run.{Run, after_lines, done, over}
-use Rattle.spec_replay.specs.Forensic.{Followed, forensic_lines, judge, verdict_line}
+use Rattle.spec_replay.specs.Forensic.{Followed, forensic_lines, judge, told_of, verdict_line}
+use Rattle.spec_replay.specs.declared.report.Report.TheVariants.{Findings}
 use Rattle.spec_replay.specs.OffenceLines.{offence_line}
 use Rattle.spec_replay.specs.Drill.{line_of, two_lines}
 use Rattle.safety_law.specs.Finals.{IsFinalOf}
@@ -103,14 +104,14 @@ module _ (genesis : PlainState) (first second : Followed) (findings : code.Findi
   unfolding forensic_lines
   lines_are = ap₂ (λ (offences : List Offence) (verdict : Verdict). flat_map offence_line offences ++ verdict_line verdict) found.offences found.verdict
 
-  pub findings_conclude : (result : Result (Unit {0}) Trouble) (p q : SinkTold) → WritesText text result p q → Concludes (written result) (judge genesis first (Ok second)) p q
-  unfolding judge
+  pub findings_conclude : (result : Result (Unit {0}) Trouble) (p q : SinkTold) → WritesText text result p q → Concludes (written result) (judge Findings genesis first (Ok second)) p q
+  unfolding judge told_of
   findings_conclude result p q writes = text_concludes (forensic_lines genesis first second) result (rw lines_are at writes)
 
 -- memory ran out before that
-pub nothing_concludes : (genesis : PlainState) (first second : Followed) (p : SinkTold) → Concludes statuses.NoMemory (judge genesis first (Ok second)) p p
-unfolding judge
-nothing_concludes genesis first second p = out_of_memory (judge genesis first (Ok second)) p refl
+pub nothing_concludes : (genesis : PlainState) (first second : Followed) (p : SinkTold) → Concludes statuses.NoMemory (judge Findings genesis first (Ok second)) p p
+unfolding judge told_of
+nothing_concludes genesis first second p = out_of_memory (judge Findings genesis first (Ok second)) p refl
 
 -- the two lines of a made split
 pub two_are : (genesis : PlainState) (first second : Followed) (findings : code.Findings) → HasFound genesis first.history second.history first.store second.store findings
@@ -120,7 +121,7 @@ two_are genesis first second findings found =
     ap₂ (λ (offences : List Offence) (verdict : Verdict). line_of (codes "offenders") (decimal (length offences)) ++ verdict_line verdict) found.offences found.verdict
 
 -- all of it was written
-wrote_all : (result : Result (Unit {0}) Trouble) (text : List ℕ) (p q : SinkTold) → written result ≡ statuses.Done → WritesText text result p q → q.taken ≡ p.taken ++ text
+pub wrote_all : (result : Result (Unit {0}) Trouble) (text : List ℕ) (p q : SinkTold) → written result ≡ statuses.Done → WritesText text result p q → q.taken ≡ p.taken ++ text
 wrote_all (Ok v) text p q is h = h.writes
 wrote_all (Err troubles.Failed) text p q is h = absurd cc
 wrote_all (Err troubles.NoMemory) text p q is h = absurd cc

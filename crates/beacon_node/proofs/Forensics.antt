@@ -1,4 +1,4 @@
--- The run of `forensic`: the files of configuration and genesis, the two records, and what is found of them.
+-- The run of two records: the files of configuration and genesis, both records, and what is told of them.
 use Rattle.std.proofs.Common.{◌≡◌, ◌≢◌, ◌∙◌, ◌⊎◌, ℕ, ◌≤◌, ◌*◌, ◌+◌, Bool, true, false, List, [], ◌∷◌, ◌++◌, take, Option, Some, None, Result, Ok, Err, IfErr, IfSome, if◌then◌else◌, refl, sym, ap, ap₂, subst, append-nil, append_assoc, inl, inr, arith}
 use Rattle.std.specs.Prelude.{All, flat_map}
 use Rattle.bc_outside.specs.Told.{FileHanded, ShelfTold, SinkTold, FileAgrees}
@@ -19,7 +19,8 @@ use Rattle.spec_fork_choice.specs.GetForkchoiceStore.{genesis_store}
 use Rattle.spec_fork_choice.specs.OnEvent.{genesis_clash}
 use Rattle.spec_forensics.specs.Clash.{first_accepted}
 use Rattle.spec_replay.specs.Run.{Run, End, after_file, bad_config, bad_genesis, clash, over}
-use Rattle.spec_replay.specs.Forensic.{Followed, behind_first, follow, forensic_run, judge, with_config, with_first, with_genesis, with_second, with_state, with_store}
+use Rattle.spec_replay.specs.Forensic.{Followed, behind_first, follow, records_run, judge, with_config, with_first, with_genesis, with_second, with_state, with_store}
+use Rattle.spec_replay.specs.declared.report.Report.{Report}
 use Rattle.command_words.specs.Commands.{ForensicFiles}
 use Rattle.beacon_node.specs.declared.follow.Side.{Side}
 use Rattle.beacon_node.specs.declared.follow.Side.TheVariants.{First, Second}
@@ -41,15 +42,15 @@ use Rattle.beacon_node.proofs.Whole.{breaks_at_file, concluded, ends_at_once, go
 
 -- ---- the configuration's file
 
-module _ (files : ForensicFiles) where
+module _ (report : Report) (files : ForensicFiles) where
   abbrev pub whole_run : (List ℕ → Option (List ℕ)) → Run
-  whole_run contents = forensic_run (contents files.config) (contents files.genesis) (contents files.first) (contents files.second)
+  whole_run contents = records_run report (contents files.config) (contents files.genesis) (contents files.first) (contents files.second)
 
   abbrev pub other_names : List (List ℕ)
   other_names = files.genesis ∷ files.first ∷ files.second ∷ []
 
-  first_file : (config genesis first second : Option (List ℕ)) → 1 ≤ (forensic_run config genesis first second).files
-  unfolding forensic_run
+  first_file : (config genesis first second : Option (List ℕ)) → 1 ≤ (records_run report config genesis first second).files
+  unfolding records_run
   first_file None genesis first second = omega arith
   first_file (Some bytes) genesis first second = omega arith
 
@@ -62,28 +63,28 @@ module _ (files : ForensicFiles) where
     same_config whole a = sym (ap config_of (read.front whole a) ∙ config_of-prefix whole)
 
     pub config_stops : (w : List ℕ) (reason : ConfigFault) → Err reason ≡ config_of bytes → EndsOver whole_run (files.config ∷ other_names) (statuses.Config reason) s t w w
-    unfolding forensic_run with_config
+    unfolding records_run with_config
     config_stops w reason is =
         stops_at_file whole_run files.config other_names read.handed (statuses.Config reason) s t w (handed_of read) (λ c. first_file (c files.config) (c files.genesis) (c files.first) (c files.second))
         (λ c whole held a on. (bad_config reason, refl, rw (held, same_config whole a ∙ sym is) refl))
 
     pub config_goes_on : (u : ShelfTold) (w x : List ℕ) (config : ConfigValues) (status : Status) → Ok config ≡ config_of bytes
-        → EndsOver (λ contents. with_genesis config (contents files.genesis) (contents files.first) (contents files.second)) other_names status t u w x → EndsOver whole_run (files.config ∷ other_names) status s u w x
-    unfolding forensic_run with_config
+        → EndsOver (λ contents. with_genesis report config (contents files.genesis) (contents files.first) (contents files.second)) other_names status t u w x → EndsOver whole_run (files.config ∷ other_names) status s u w x
+    unfolding records_run with_config
     config_goes_on u w x config status is rest =
-        goes_on_behind whole_run files.config other_names (λ contents. with_genesis config (contents files.genesis) (contents files.first) (contents files.second)) read.handed status s t u w x (handed_of read)
+        goes_on_behind whole_run files.config other_names (λ contents. with_genesis report config (contents files.genesis) (contents files.first) (contents files.second)) read.handed status s t u w x (handed_of read)
         (λ c whole held a. rw (held, same_config whole a ∙ sym is) refl) rest
 
 -- ---- the genesis file
 
-module _ (config : ConfigValues) (files : ForensicFiles) where
+module _ (report : Report) (config : ConfigValues) (files : ForensicFiles) where
   abbrev pub genesis_run : (List ℕ → Option (List ℕ)) → Run
-  genesis_run contents = with_genesis config (contents files.genesis) (contents files.first) (contents files.second)
+  genesis_run contents = with_genesis report config (contents files.genesis) (contents files.first) (contents files.second)
 
   abbrev pub record_names : List (List ℕ)
   record_names = files.first ∷ files.second ∷ []
 
-  genesis_file : (genesis first second : Option (List ℕ)) → 1 ≤ (with_genesis config genesis first second).files
+  genesis_file : (genesis first second : Option (List ℕ)) → 1 ≤ (with_genesis report config genesis first second).files
   unfolding with_genesis
   genesis_file None first second = omega arith
   genesis_file (Some bytes) first second = omega arith
@@ -105,24 +106,24 @@ module _ (config : ConfigValues) (files : ForensicFiles) where
         stops_at_file genesis_run files.genesis record_names read.handed statuses.NoMemory s t w (handed_of read) (λ c. genesis_file (c files.genesis) (c files.first) (c files.second)) (λ c whole held a on. absurd cc)
 
     pub genesis_goes_on : (u : ShelfTold) (w x : List ℕ) (genesis : PlainState) (status : Status) → GivesGenesis (Ok genesis) (genesis_of config.preset bytes)
-        → EndsOver (λ contents. run_of_records config genesis (contents files.first) (contents files.second)) record_names status t u w x → EndsOver genesis_run (files.genesis ∷ record_names) status s u w x
+        → EndsOver (λ contents. run_of_records report config genesis (contents files.first) (contents files.second)) record_names status t u w x → EndsOver genesis_run (files.genesis ∷ record_names) status s u w x
     unfolding with_genesis with_state
     genesis_goes_on u w x genesis status gives rest =
-        goes_on_behind genesis_run files.genesis record_names (λ contents. run_of_records config genesis (contents files.first) (contents files.second)) read.handed status s t u w x (handed_of read)
+        goes_on_behind genesis_run files.genesis record_names (λ contents. run_of_records report config genesis (contents files.first) (contents files.second)) read.handed status s t u w x (handed_of read)
         (λ c whole held a. rw (held, same_genesis whole a ∙ gives) refl) rest
 
 -- ---- the stores at genesis
 
-module _ (config : ConfigValues) (genesis : PlainState) (files : ForensicFiles) where
+module _ (report : Report) (config : ConfigValues) (genesis : PlainState) (files : ForensicFiles) where
   -- they don't open
-  pub opening_over : (status : Status) (s : ShelfTold) (w : List ℕ) → OpeningEnds status (genesis_clash genesis) → EndsOver (λ contents. run_of_records config genesis (contents files.first) (contents files.second)) (files.first ∷ files.second ∷ []) status s s w w
+  pub opening_over : (status : Status) (s : ShelfTold) (w : List ℕ) → OpeningEnds status (genesis_clash genesis) → EndsOver (λ contents. run_of_records report config genesis (contents files.first) (contents files.second)) (files.first ∷ files.second ∷ []) status s s w w
   unfolding with_store
   opening_over status s w h = ends_at_once _ _ status s w (λ c on. let e = h.clashes on in (clash 0 0 e.0 0, ap end_of (sym e.2), rw e.1 refl))
 
   -- the first record comes next
   pub records_go_on : (first : Store) (status : Status) (s u : ShelfTold) (w x : List ℕ) → genesis_clash genesis ≡ None → first ≡ genesis_store config genesis
-      → EndsOver (λ contents. with_first genesis first (contents files.first) (contents files.second)) (files.first ∷ files.second ∷ []) status s u w x
-      → EndsOver (λ contents. run_of_records config genesis (contents files.first) (contents files.second)) (files.first ∷ files.second ∷ []) status s u w x
+      → EndsOver (λ contents. with_first report genesis first (contents files.first) (contents files.second)) (files.first ∷ files.second ∷ []) status s u w x
+      → EndsOver (λ contents. run_of_records report config genesis (contents files.first) (contents files.second)) (files.first ∷ files.second ∷ []) status s u w x
   unfolding with_store
   records_go_on first status s u w x none is rest = rw (none, ← is) rest
 
@@ -147,11 +148,11 @@ record_followed side name file (Ok v) store left s t u o h = so_handed name file
 record_followed side name file (Err status) store left s t u o h =
     inr (so_handed name file h.bytes h.met s t u o h.taken (λ whole. EndsBy status (follow (which_of side) (others_of side) store (events_of whole))) (λ behind can. h.leaves behind can))
 
-module _ (genesis : PlainState) (store : Store) (first : List ℕ) (second : List ℕ) where
+module _ (report : Report) (genesis : PlainState) (store : Store) (first : List ℕ) (second : List ℕ) where
   abbrev pub first_run : (List ℕ → Option (List ℕ)) → Run
-  first_run contents = with_first genesis store (contents first) (contents second)
+  first_run contents = with_first report genesis store (contents first) (contents second)
 
-  first_record : (a b : Option (List ℕ)) → 1 ≤ (with_first genesis store a b).files
+  first_record : (a b : Option (List ℕ)) → 1 ≤ (with_first report genesis store a b).files
   unfolding with_first
   first_record None b = omega arith
   first_record (Some bytes) b = omega arith
@@ -163,16 +164,16 @@ module _ (genesis : PlainState) (store : Store) (first : List ℕ) (second : Lis
       stops_at_file first_run first (second ∷ []) h.handed status s t w h.is (λ c. first_record (c first) (c second)) (λ c whole held a on. let e = h.so whole a on in (e.0, e.1, rw (held, e.2) refl))
 
   pub first_goes_on : (left : Followed) (status : Status) (s t u : ShelfTold) (w x : List ℕ) → RecordFollowed First first (Ok tt) store s t left
-      → EndsOver (λ contents. with_second genesis store left (contents second)) (second ∷ []) status t u w x → EndsOver first_run (first ∷ second ∷ []) status s u w x
+      → EndsOver (λ contents. with_second report genesis store left (contents second)) (second ∷ []) status t u w x → EndsOver first_run (first ∷ second ∷ []) status s u w x
   unfolding with_first behind_first
   first_goes_on left status s t u w x h rest =
-      goes_on_behind first_run first (second ∷ []) (λ contents. with_second genesis store left (contents second)) h.handed status s t u w x h.is (λ c whole held a. rw (held, h.so whole a) refl) rest
+      goes_on_behind first_run first (second ∷ []) (λ contents. with_second report genesis store left (contents second)) h.handed status s t u w x h.is (λ c whole held a. rw (held, h.so whole a) refl) rest
 
-module _ (genesis : PlainState) (store : Store) (left : Followed) (side : Side) (name : List ℕ) (second : which_of side ≡ 1) (same : others_of side ≡ first_accepted genesis left.history) where
+module _ (report : Report) (genesis : PlainState) (store : Store) (left : Followed) (side : Side) (name : List ℕ) (second : which_of side ≡ 1) (same : others_of side ≡ first_accepted genesis left.history) where
   abbrev pub second_run : (List ℕ → Option (List ℕ)) → Run
-  second_run contents = with_second genesis store left (contents name)
+  second_run contents = with_second report genesis store left (contents name)
 
-  second_record : (b : Option (List ℕ)) → 1 ≤ (with_second genesis store left b).files
+  second_record : (b : Option (List ℕ)) → 1 ≤ (with_second report genesis store left b).files
   unfolding with_second
   second_record None = omega arith
   second_record (Some bytes) = omega arith
@@ -184,12 +185,12 @@ module _ (genesis : PlainState) (store : Store) (left : Followed) (side : Side) 
       stops_at_file second_run name [] h.handed status s t w h.is (λ c. second_record (c name))
       (λ c whole held a on. let e = h.so whole a on in let is = rw (second, same) at e.2 in (e.0, e.1, rw (held, is) refl))
 
-  pub second_concludes : (left_then : Followed) (status : Status) (s t : ShelfTold) (p q : SinkTold) → RecordFollowed side name (Ok tt) store s t left_then → Concludes status (judge genesis left (Ok left_then)) p q
+  pub second_concludes : (left_then : Followed) (status : Status) (s t : ShelfTold) (p q : SinkTold) → RecordFollowed side name (Ok tt) store s t left_then → Concludes status (judge report genesis left (Ok left_then)) p q
       → EndsOver second_run (name ∷ []) status s t p.taken q.taken
   unfolding with_second
   second_concludes left_then status s t p q h rest =
-      goes_on_behind second_run name [] (λ contents. judge genesis left (Ok left_then)) h.handed status s t t p.taken q.taken h.is
-      (λ c whole held a. let is = rw (second, same) at h.so whole a in rw (held, is) refl) (concluded (judge genesis left (Ok left_then)) status t p q rest)
+      goes_on_behind second_run name [] (λ contents. judge report genesis left (Ok left_then)) h.handed status s t t p.taken q.taken h.is
+      (λ c whole held a. let is = rw (second, same) at h.so whole a in rw (held, is) refl) (concluded (judge report genesis left (Ok left_then)) status t p q rest)
 
 -- ---- the outside
 

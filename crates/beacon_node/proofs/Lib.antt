@@ -23,4 +23,6 @@ pub mod Delivering
 pub mod Pairing
 pub mod ManyNodes
 pub mod Openings
+pub mod SlashingRecords
 pub mod Convictions
+pub mod Versions

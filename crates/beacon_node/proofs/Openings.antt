@@ -14,6 +14,7 @@ use Rattle.safety_law.specs.Follows.{Follows}
 use Rattle.safety_law.proofs.Followed.{begins_followed}
 use Rattle.spec_replay.specs.Drill.{two_lines}
 use Rattle.spec_replay.specs.Forensic.{judge}
+use Rattle.spec_replay.specs.declared.report.Report.{Report}
 use Rattle.forensics.specs.Books.{PlainBook, begun, history_of}
 use Rattle.beacon_node.specs.declared.follow.Side.{Side}
 use Rattle.beacon_node.specs.declared.follow.Side.TheVariants.{First, Second}
@@ -116,7 +117,7 @@ module _ (side : Side) (old new : PlainBook) (second : which_of side ≡ 1) (sam
   unfolding two_lines history_of
   two_of genesis first last is = rw (same.genesis, is, first_stays, second) refl
 
-  pub judge_of : (genesis : PlainState) (first last : Store) → old.genesis ≡ genesis
-      → judge new.genesis (record { store = first; history = history_of new 0 }) (Ok (record { store = last; history = history_of new 1 })) ≡ judge genesis (record { store = first; history = history_of old 0 }) (Ok (followed_by side last new))
+  pub judge_of : (report : Report) (genesis : PlainState) (first last : Store) → old.genesis ≡ genesis
+      → judge report new.genesis (record { store = first; history = history_of new 0 }) (Ok (record { store = last; history = history_of new 1 })) ≡ judge report genesis (record { store = first; history = history_of old 0 }) (Ok (followed_by side last new))
   unfolding judge history_of
-  judge_of genesis first last is = rw (same.genesis, is, first_stays, second) refl
+  judge_of report genesis first last is = rw (same.genesis, is, first_stays, second) refl

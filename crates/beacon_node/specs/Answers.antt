@@ -7,9 +7,9 @@ use Rattle.spec_replay.specs.Anchor.{anchor_run}
 use Rattle.spec_replay.specs.Drill.{drill_run}
 use Rattle.spec_replay.specs.Genesis.{genesis_run}
 use Rattle.spec_replay.specs.Duties.{duties_run}
-use Rattle.spec_replay.specs.Forensic.{forensic_run}
+use Rattle.spec_replay.specs.Forensic.{forensic_run, slasher_run}
 use Rattle.spec_replay.specs.Nodes.{nodes_run}
-use Rattle.command_words.specs.Commands.{Command, anchor, command_of, drill, duties, forensic, genesis, nodes, replay}
+use Rattle.command_words.specs.Commands.{Command, anchor, command_of, drill, duties, forensic, genesis, nodes, replay, slasher}
 use Rattle.beacon_node.specs.declared.status.Status.{Status}
 use Rattle.beacon_node.specs.declared.status.Status.TheVariants as statuses
 
@@ -95,6 +95,7 @@ with_taken status contents opened (Some (duties words)) = whole_of status (dutie
 with_taken status contents opened (Some (anchor files)) = anchor_run (contents files.config) (contents files.state) (contents files.block) (taken_of 3 opened)
 with_taken status contents opened (Some (forensic files)) = whole_of status (forensic_run (contents files.config) (contents files.genesis) (contents files.first) (contents files.second))
 with_taken status contents opened (Some (nodes words)) = whole_of status (nodes_run words.number words.count (contents words.config))
+with_taken status contents opened (Some (slasher files)) = whole_of status (slasher_run (contents files.config) (contents files.genesis) (contents files.first) (contents files.second))
 
 -- the same of the command words
 unfoldable pub taken_run_of : Status → List (List ℕ) → (List ℕ → Option (List ℕ)) → List FileHanded → Run

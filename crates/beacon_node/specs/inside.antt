@@ -10,6 +10,7 @@ pub mod Making
 pub mod OffenceTexts
 pub mod Progress
 pub mod Reading
+pub mod Reports
 pub mod Statuses
 pub mod Drilled
 pub mod Texts

@@ -1,8 +1,9 @@
-//! The command `forensic`: configuration, genesis and two records are read in this order, the second record only once the first was
-//! followed to its end, and then the offences and the verdict are written.
+//! The commands `forensic` and `slasher`: configuration, genesis and two records are read in this order, the second record only once the
+//! first was followed to its end, and then what the command tells of them is written: the offences and the verdict, or the record of the
+//! attester slashings that they give.
 
 ghost use Rattle.std.specs.Prelude.{◌≡◌, ◌≢◌, ◌≤◌, ◌<◌, ◌+◌, ◌^◌, ◌++◌, ◌∷◌, [], length, Some, Ok, flat_map};
-ghost use Rattle.spec_replay.specs.Forensic.{forensic_run, judge, verdict_line, with_first, with_genesis, with_second};
+ghost use Rattle.spec_replay.specs.Forensic.{judge, records_run, verdict_line, with_first, with_genesis, with_second};
 ghost use Rattle.spec_replay.specs.OffenceLines.{offence_line};
 ghost use Rattle.forensics.specs.Books.{history_of};
 ghost use Rattle.safety_law.specs.Follows.{Follows};
@@ -10,6 +11,7 @@ ghost use Rattle.beacon_node.specs.Answers.{OutsideKeeps};
 ghost use Rattle.beacon_node.specs.Findings.{WritesFindings};
 ghost use Rattle.beacon_node.specs.inside.AtEnd.{Concludes, EndsOver};
 ghost use Rattle.beacon_node.specs.inside.Histories.{AreOpened, IsGenesis, run_of_records};
+ghost use Rattle.beacon_node.specs.inside.Reports.{WritesReport};
 ghost use Rattle.beacon_node.specs.inside.Texts.{WritesText};
 
 use crate::follow::{Side, follow_record};
@@ -18,6 +20,7 @@ use crate::histories::{Findings, Histories, find, open_histories};
 use crate::offence_lines::{offence_line, verdict_line};
 use crate::reading::{read_named, unread};
 use crate::replay::no_genesis;
+use crate::slashings::tell_slashings;
 use crate::status::Status;
 use crate::tell_duties::written;
 use bc_outside::{Shelf, Sink, Trouble, write_all};
@@ -27,6 +30,7 @@ use command_words::ForensicFiles;
 use forensics::VoteBook;
 use fork_store::Store;
 use spec_forensics::{Offence, Verdict};
+use spec_replay::Report;
 use std::alloc::Global;
 
 /// Writes the line of an offence.
@@ -68,7 +72,7 @@ fn write_findings<O: Sink>(alloc: Global, findings: &Findings, out: &mut O) -> R
 }
 
 /// Writes what the book finds of two histories, which their stores followed to their end.
-fn tell<O: Sink>(
+fn tell_findings<O: Sink>(
     alloc: Global,
     first: &Store,
     second: &Store,
@@ -77,7 +81,7 @@ fn tell<O: Sink>(
 ) -> Status
     requires first { Follows book.config book.genesis (history_of book 0) first.now.plain }
     requires second { Follows book.config book.genesis (history_of book 1) second.now.plain }
-    ensures told { Concludes result (judge book.genesis (record { store = first.now.plain; history = history_of book 0 }) (Ok (record { store = second.now.plain; history = history_of book 1 })))
+    ensures told { Concludes result (judge Report.Findings book.genesis (record { store = first.now.plain; history = history_of book 0 }) (Ok (record { store = second.now.plain; history = history_of book 1 })))
         (O.told out.old) (O.told out.new) }
     ensures findings { result ≡ Status.Done → WritesFindings (O.told out.old).taken (O.told out.new).taken }
 {
@@ -87,9 +91,31 @@ fn tell<O: Sink>(
     }
 }
 
-/// Follows the second record behind the first one, whose store is kept for its blocks, and writes what the book finds.
+/// Writes what the command tells of two histories, which their stores followed to their end.
+fn tell<O: Sink>(
+    alloc: Global,
+    report: Report,
+    first: &Store,
+    second: &Store,
+    book: VoteBook,
+    out: &mut O,
+) -> Status
+    requires first { Follows book.config book.genesis (history_of book 0) first.now.plain }
+    requires second { Follows book.config book.genesis (history_of book 1) second.now.plain }
+    ensures told { Concludes result (judge report book.genesis (record { store = first.now.plain; history = history_of book 0 }) (Ok (record { store = second.now.plain; history = history_of book 1 })))
+        (O.told out.old) (O.told out.new) }
+    ensures reports { result ≡ Status.Done → WritesReport report (O.told out.old).taken (O.told out.new).taken }
+{
+    match report {
+        Report::Findings => tell_findings(alloc, first, second, book, out),
+        Report::Slashings => tell_slashings(alloc, &book, out),
+    }
+}
+
+/// Follows the second record behind the first one, whose store is kept for its blocks, and writes what the command tells of both.
 fn tell_second<F: Shelf, O: Sink>(
     alloc: Global,
+    report: Report,
     genesis: &State,
     first: &Store,
     name: &str,
@@ -104,22 +130,23 @@ fn tell_second<F: Shelf, O: Sink>(
     requires new { history_of book 1 ≡ [] }
     requires first { Follows book.config book.genesis (history_of book 0) first.now.plain }
     requires second { Follows book.config book.genesis [] second.plain }
-    ensures answers { EndsOver (λ contents. with_second genesis.now second.plain (record { store = first.now.plain; history = history_of book 0 }) (contents name.now))
+    ensures answers { EndsOver (λ contents. with_second report genesis.now second.plain (record { store = first.now.plain; history = history_of book 0 }) (contents name.now))
         (name.now ∷ []) result (F.told shelf.old) (F.told shelf.new) (O.told out.old).taken (O.told out.new).taken }
     ensures command { result ≢ Status.Words }
     ensures outside { OutsideKeeps (name.now ∷ []) (Some result) (F.told shelf.old) (F.told shelf.new) (O.told out.old) (O.told out.new) }
-    ensures findings { result ≡ Status.Done → WritesFindings (O.told out.old).taken (O.told out.new).taken }
+    ensures reports { result ≡ Status.Done → WritesReport report (O.told out.old).taken (O.told out.new).taken }
 {
     let side = Side::Second(first);
     match follow_record(alloc, side, genesis, name, &mut second, &mut book, shelf) {
-        Ok(()) => tell(alloc, first, &second, book, out),
+        Ok(()) => tell(alloc, report, first, &second, book, out),
         Err(status) => status,
     }
 }
 
-/// Follows the first record and then the second, each on its store at genesis, and writes what the book finds.
+/// Follows the first record and then the second, each on its store at genesis, and writes what the command tells of both.
 fn tell_records<F: Shelf, O: Sink>(
     alloc: Global,
+    report: Report,
     histories: Histories,
     files: &ForensicFiles<'_>,
     shelf: &mut F,
@@ -127,12 +154,12 @@ fn tell_records<F: Shelf, O: Sink>(
 ) -> Status
     requires few { length (F.told shelf.old).files + 1 < 2 ^ 32 }
     requires opened { AreOpened histories.book.config histories.genesis histories }
-    ensures answers { EndsOver (λ contents. with_first histories.genesis histories.first.plain (contents files.now.first.now) (contents files.now.second.now))
+    ensures answers { EndsOver (λ contents. with_first report histories.genesis histories.first.plain (contents files.now.first.now) (contents files.now.second.now))
         (files.now.first.now ∷ files.now.second.now ∷ []) result (F.told shelf.old) (F.told shelf.new) (O.told out.old).taken (O.told out.new).taken }
     ensures command { result ≢ Status.Words }
     ensures outside { OutsideKeeps (files.now.first.now ∷ files.now.second.now ∷ []) (Some result)
         (F.told shelf.old) (F.told shelf.new) (O.told out.old) (O.told out.new) }
-    ensures findings { result ≡ Status.Done → WritesFindings (O.told out.old).taken (O.told out.new).taken }
+    ensures reports { result ≡ Status.Done → WritesReport report (O.told out.old).taken (O.told out.new).taken }
 {
     let Histories {
         genesis,
@@ -151,6 +178,7 @@ fn tell_records<F: Shelf, O: Sink>(
     ) {
         Ok(()) => tell_second(
             alloc,
+            report,
             &genesis,
             &first,
             files.second,
@@ -166,6 +194,7 @@ fn tell_records<F: Shelf, O: Sink>(
 /// Opens two stores at genesis, and follows the records.
 fn tell_from<F: Shelf, O: Sink>(
     alloc: Global,
+    report: Report,
     config: &Config,
     genesis: State,
     files: &ForensicFiles<'_>,
@@ -174,15 +203,15 @@ fn tell_from<F: Shelf, O: Sink>(
 ) -> Status
     requires few { length (F.told shelf.old).files + 1 < 2 ^ 32 }
     requires genesis { IsGenesis config.now genesis }
-    ensures answers { EndsOver (λ contents. run_of_records config.now genesis (contents files.now.first.now) (contents files.now.second.now))
+    ensures answers { EndsOver (λ contents. run_of_records report config.now genesis (contents files.now.first.now) (contents files.now.second.now))
         (files.now.first.now ∷ files.now.second.now ∷ []) result (F.told shelf.old) (F.told shelf.new) (O.told out.old).taken (O.told out.new).taken }
     ensures command { result ≢ Status.Words }
     ensures outside { OutsideKeeps (files.now.first.now ∷ files.now.second.now ∷ []) (Some result)
         (F.told shelf.old) (F.told shelf.new) (O.told out.old) (O.told out.new) }
-    ensures findings { result ≡ Status.Done → WritesFindings (O.told out.old).taken (O.told out.new).taken }
+    ensures reports { result ≡ Status.Done → WritesReport report (O.told out.old).taken (O.told out.new).taken }
 {
     match open_histories(alloc, config, genesis) {
-        Ok(histories) => tell_records(alloc, histories, files, shelf, out),
+        Ok(histories) => tell_records(alloc, report, histories, files, shelf, out),
         Err(status) => status,
     }
 }
@@ -190,18 +219,19 @@ fn tell_from<F: Shelf, O: Sink>(
 /// Reads the genesis state and then the records, under this configuration.
 fn tell_genesis<F: Shelf, O: Sink>(
     alloc: Global,
+    report: Report,
     config: &Config,
     files: &ForensicFiles<'_>,
     shelf: &mut F,
     out: &mut O,
 ) -> Status
     requires { length (F.told shelf.old).files + 2 < 2 ^ 32 }
-    ensures answers { EndsOver (λ contents. with_genesis config.now (contents files.now.genesis.now) (contents files.now.first.now) (contents files.now.second.now))
+    ensures answers { EndsOver (λ contents. with_genesis report config.now (contents files.now.genesis.now) (contents files.now.first.now) (contents files.now.second.now))
         (files.now.genesis.now ∷ files.now.first.now ∷ files.now.second.now ∷ []) result (F.told shelf.old) (F.told shelf.new) (O.told out.old).taken (O.told out.new).taken }
     ensures command { result ≢ Status.Words }
     ensures outside { OutsideKeeps (files.now.genesis.now ∷ files.now.first.now ∷ files.now.second.now ∷ []) (Some result)
         (F.told shelf.old) (F.told shelf.new) (O.told out.old) (O.told out.new) }
-    ensures findings { result ≡ Status.Done → WritesFindings (O.told out.old).taken (O.told out.new).taken }
+    ensures reports { result ≡ Status.Done → WritesReport report (O.told out.old).taken (O.told out.new).taken }
 {
     let bytes = match read_named(alloc, shelf, files.genesis, MAX_GENESIS_LEN + 1) {
         Ok(bytes) => bytes,
@@ -211,34 +241,35 @@ fn tell_genesis<F: Shelf, O: Sink>(
         Ok(state) => {
             // A file of any size is in memory for no longer than it takes to read the state.
             drop(bytes);
-            tell_from(alloc, config, state, files, shelf, out)
+            tell_from(alloc, report, config, state, files, shelf, out)
         }
         Err(stop) => no_genesis(stop),
     }
 }
 
-/// Reads the configuration, the genesis state and both records, and writes the offences and the verdict.
+/// Reads the configuration, the genesis state and both records, and writes what the command tells of them.
 pub fn forensic<F: Shelf, O: Sink>(
     alloc: Global,
+    report: Report,
     files: &ForensicFiles<'_>,
     shelf: &mut F,
     out: &mut O,
 ) -> Status
     requires { length (F.told shelf.old).files + 3 < 2 ^ 32 }
-    ensures answers { EndsOver (λ contents. forensic_run (contents files.now.config.now) (contents files.now.genesis.now) (contents files.now.first.now) (contents files.now.second.now))
+    ensures answers { EndsOver (λ contents. records_run report (contents files.now.config.now) (contents files.now.genesis.now) (contents files.now.first.now) (contents files.now.second.now))
         (files.now.config.now ∷ files.now.genesis.now ∷ files.now.first.now ∷ files.now.second.now ∷ [])
         result (F.told shelf.old) (F.told shelf.new) (O.told out.old).taken (O.told out.new).taken }
     ensures command { result ≢ Status.Words }
     ensures outside { OutsideKeeps (files.now.config.now ∷ files.now.genesis.now ∷ files.now.first.now ∷ files.now.second.now ∷ []) (Some result)
         (F.told shelf.old) (F.told shelf.new) (O.told out.old) (O.told out.new) }
-    ensures findings { result ≡ Status.Done → WritesFindings (O.told out.old).taken (O.told out.new).taken }
+    ensures reports { result ≡ Status.Done → WritesReport report (O.told out.old).taken (O.told out.new).taken }
 {
     let bytes = match read_named(alloc, shelf, files.config, MAX_CONFIG_LEN + 1) {
         Ok(bytes) => bytes,
         Err(trouble) => return unread(trouble),
     };
     match Config::read(&bytes) {
-        Ok(config) => tell_genesis(alloc, &config, files, shelf, out),
+        Ok(config) => tell_genesis(alloc, report, &config, files, shelf, out),
         Err(fault) => Status::Config(fault),
     }
 }

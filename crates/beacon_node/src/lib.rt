@@ -22,6 +22,7 @@ mod nodes;
 mod offence_lines;
 mod reading;
 mod replay;
+mod slashings;
 mod status;
 mod tell_duties;
 mod top;
@@ -29,6 +30,7 @@ mod top;
 pub use feed::{MadeFeed, StoreSource};
 pub use law::{
     findings_are_of_the_records, made_genesis_is_replayed, runs_in_memory, soundness_is_tested,
+    versions_run_alike,
 };
 pub use offence_lines::{offence_line, verdict_line};
 pub use status::Status;

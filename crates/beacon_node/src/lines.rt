@@ -163,6 +163,8 @@ fn push_kind(line: &mut Vec<u8>, kind: u8) -> Result<(), AllocError>
         line.extend_from_slice(b" block ")
     } else if kind == 3 {
         line.extend_from_slice(b" wire ")
+    } else if kind == 5 {
+        line.extend_from_slice(b" slashing ")
     } else {
         line.extend_from_slice(b" carried ")
     }

@@ -2,9 +2,10 @@
 
 ghost use Rattle.std.specs.Prelude.{◌≡◌, ◌<◌, ◌+◌, ◌^◌, ◌↔◌, length, map, string_bytes, Some, None};
 ghost use Rattle.spec_replay.specs.Commands.{run_of};
-ghost use Rattle.command_words.specs.Commands.{ForensicFiles, IsDeclined, command_of, forensic, names_of};
+ghost use Rattle.command_words.specs.Commands.{ForensicFiles, IsDeclined, command_of, forensic, names_of, slasher};
 ghost use Rattle.beacon_node.specs.Answers.{OutsideKeeps, Replayed, taken_run_of};
 ghost use Rattle.beacon_node.specs.Findings.{WritesFindings};
+ghost use Rattle.beacon_node.specs.Slashings.{WritesSlashings};
 
 use crate::anchor::anchor;
 use crate::drill::drill;
@@ -16,6 +17,7 @@ use crate::status::Status;
 use crate::tell_duties::tell_duties;
 use bc_outside::{Shelf, Sink};
 use command_words::{Command, WordsStop, read_command};
+use spec_replay::Report;
 use std::alloc::Global;
 
 /// Runs the command that the words are, over these files, and writes its lines.
@@ -51,6 +53,12 @@ pub fn beacon_main<F: Shelf, O: Sink>(
     // cast both, and a verdict, which is a conflict only where the offenders have at least a third of the total at genesis.
     ensures convicts { (files : ForensicFiles) → command_of (map (λ word. string_bytes word) words.now) ≡ Some (forensic files) → result ≡ Status.Done
         → WritesFindings (O.told out.old).taken (O.told out.new).taken }
+
+    // What `slasher` wrote, where it ended well: the record of the attester slashings that two histories give. Those that stand in both
+    // attestations of one of them are the offenders; each is slashable as it is written, and is taken by every state and every store that
+    // knows the validators that it names.
+    ensures slashes { (files : ForensicFiles) → command_of (map (λ word. string_bytes word) words.now) ≡ Some (slasher files) → result ≡ Status.Done
+        → WritesSlashings (O.told out.old).taken (O.told out.new).taken }
 {
     match read_command(alloc, words) {
         Ok(Command::Replay(files)) => replay(alloc, &files, shelf, out),
@@ -58,8 +66,9 @@ pub fn beacon_main<F: Shelf, O: Sink>(
         Ok(Command::Genesis(files)) => make_genesis(alloc, &files, shelf, out),
         Ok(Command::Duties(words)) => tell_duties(alloc, &words, shelf, out),
         Ok(Command::Anchor(files)) => anchor(alloc, &files, shelf, out),
-        Ok(Command::Forensic(files)) => forensic(alloc, &files, shelf, out),
+        Ok(Command::Forensic(files)) => forensic(alloc, Report::Findings, &files, shelf, out),
         Ok(Command::Nodes(words)) => nodes(alloc, &words, shelf, out),
+        Ok(Command::Slasher(files)) => forensic(alloc, Report::Slashings, &files, shelf, out),
         Err(WordsStop::NoCommand) => Status::Words,
         Err(WordsStop::NoMemory) => Status::NoMemory,
     }

@@ -116,41 +116,36 @@ message_put (m ∷ messages) (suc v) message (suc k) x e = message_put messages 
 -- ---- each call
 
 module _ (held : Held) (h : IsHeld held) where
-  pub kept_new_room : (nodes messages changed : ℕ) → held.node_room ≤ nodes → held.message_room ≤ messages → held.changed_room ≤ changed → IsHeld (record held { node_room = nodes; message_room = messages; changed_room = changed })
-  kept_new_room nodes messages changed n m c =
-      let a = h.nodes in let b = h.messages in let d = h.changed in let e = h.all_changed in
-      record { plain = h.plain; nodes = omega arith; messages = omega arith; changed = omega arith; all_changed = omega arith }
-
-  pub kept_spare : (nodes validators : ℕ) → length held.array.nodes + nodes ≤ held.node_room → validators ≤ held.message_room → validators ≤ held.changed_room → validators ≤ 2 ^ 40 → IsHeld (record held { array = record held.array { spare_nodes = nodes; spare_validators = validators } })
-  kept_spare nodes validators n m c few = record { plain = record { slots = h.plain.slots; percent = h.plain.percent; total = h.plain.total; few_balances = h.plain.few_balances; tree = h.plain.tree; some = h.plain.some; few_nodes = h.plain.few_nodes; justified = h.plain.justified; boosted = h.plain.boosted; messages = h.plain.messages; few_messages = h.plain.few_messages; few_spare = few }; nodes = n; messages = m; changed = c; all_changed = h.all_changed }
+  pub kept_spare : (nodes validators : ℕ) → length held.array.nodes + nodes ≤ held.node_room → validators ≤ held.message_room → validators ≤ held.changed_room → validators ≤ held.silenced_room → validators ≤ 2 ^ 40 → IsHeld (record held { array = record held.array { spare_nodes = nodes; spare_validators = validators } })
+  kept_spare nodes validators n m c o few = record { plain = record { slots = h.plain.slots; percent = h.plain.percent; total = h.plain.total; few_balances = h.plain.few_balances; tree = h.plain.tree; some = h.plain.some; few_nodes = h.plain.few_nodes; justified = h.plain.justified; boosted = h.plain.boosted; messages = h.plain.messages; few_messages = h.plain.few_messages; few_spare = few }; nodes = n; messages = m; changed = c; silenced = o }
 
   pub kept_balances : (balances : List ℕ) (count total : ℕ) → length balances ≤ 2 ^ 40 → total ≤ 2 ^ 104 → IsHeld (record held { array = with_balances held.array balances count total })
-  kept_balances balances count total few low = record { plain = record { slots = h.plain.slots; percent = h.plain.percent; total = low; few_balances = few; tree = h.plain.tree; some = h.plain.some; few_nodes = h.plain.few_nodes; justified = h.plain.justified; boosted = h.plain.boosted; messages = h.plain.messages; few_messages = h.plain.few_messages; few_spare = h.plain.few_spare }; nodes = h.nodes; messages = h.messages; changed = h.changed; all_changed = h.all_changed }
+  kept_balances balances count total few low = record { plain = record { slots = h.plain.slots; percent = h.plain.percent; total = low; few_balances = few; tree = h.plain.tree; some = h.plain.some; few_nodes = h.plain.few_nodes; justified = h.plain.justified; boosted = h.plain.boosted; messages = h.plain.messages; few_messages = h.plain.few_messages; few_spare = h.plain.few_spare }; nodes = h.nodes; messages = h.messages; changed = h.changed; silenced = h.silenced }
 
   pub kept_checkpoints : (node : ℕ) (justified finalized : Checkpoint) → node < length held.array.nodes → IsHeld (record held { array = with_checkpoints held.array node justified finalized })
-  kept_checkpoints node justified finalized inside = record { plain = record { slots = h.plain.slots; percent = h.plain.percent; total = h.plain.total; few_balances = h.plain.few_balances; tree = h.plain.tree; some = h.plain.some; few_nodes = h.plain.few_nodes; justified = inside; boosted = h.plain.boosted; messages = h.plain.messages; few_messages = h.plain.few_messages; few_spare = h.plain.few_spare }; nodes = h.nodes; messages = h.messages; changed = h.changed; all_changed = h.all_changed }
+  kept_checkpoints node justified finalized inside = record { plain = record { slots = h.plain.slots; percent = h.plain.percent; total = h.plain.total; few_balances = h.plain.few_balances; tree = h.plain.tree; some = h.plain.some; few_nodes = h.plain.few_nodes; justified = inside; boosted = h.plain.boosted; messages = h.plain.messages; few_messages = h.plain.few_messages; few_spare = h.plain.few_spare }; nodes = h.nodes; messages = h.messages; changed = h.changed; silenced = h.silenced }
 
   boosted_is : (node : Option ℕ) (n : ℕ) → IfSome node (λ number. number < length held.array.nodes) → node ≡ Some n → n < length held.array.nodes
   boosted_is None n i e = absurd cc
   boosted_is (Some x) n i e = let s : x ≡ n = cc in omega arith
 
   pub kept_boost : (node : Option ℕ) → IfSome node (λ number. number < length held.array.nodes) → IsHeld (record held { array = with_boost held.array node })
-  kept_boost node inside = record { plain = record { slots = h.plain.slots; percent = h.plain.percent; total = h.plain.total; few_balances = h.plain.few_balances; tree = h.plain.tree; some = h.plain.some; few_nodes = h.plain.few_nodes; justified = h.plain.justified; boosted = λ n e. boosted_is node n inside e; messages = h.plain.messages; few_messages = h.plain.few_messages; few_spare = h.plain.few_spare }; nodes = h.nodes; messages = h.messages; changed = h.changed; all_changed = h.all_changed }
+  kept_boost node inside = record { plain = record { slots = h.plain.slots; percent = h.plain.percent; total = h.plain.total; few_balances = h.plain.few_balances; tree = h.plain.tree; some = h.plain.some; few_nodes = h.plain.few_nodes; justified = h.plain.justified; boosted = λ n e. boosted_is node n inside e; messages = h.plain.messages; few_messages = h.plain.few_messages; few_spare = h.plain.few_spare }; nodes = h.nodes; messages = h.messages; changed = h.changed; silenced = h.silenced }
 
   pub kept_made : (changed : List ℕ) (room : ℕ) → held.changed_room ≤ room → IsHeld (record held { array = record held.array { changed_validators = changed; balances_set = false; anything_changed = false }; changed_room = room })
   kept_made changed room more =
-      let d = h.changed in let e = h.all_changed in
-      record { plain = record { slots = h.plain.slots; percent = h.plain.percent; total = h.plain.total; few_balances = h.plain.few_balances; tree = h.plain.tree; some = h.plain.some; few_nodes = h.plain.few_nodes; justified = h.plain.justified; boosted = h.plain.boosted; messages = h.plain.messages; few_messages = h.plain.few_messages; few_spare = h.plain.few_spare }; nodes = h.nodes; messages = h.messages; changed = omega arith; all_changed = omega arith }
+      let d = h.changed in
+      record { plain = record { slots = h.plain.slots; percent = h.plain.percent; total = h.plain.total; few_balances = h.plain.few_balances; tree = h.plain.tree; some = h.plain.some; few_nodes = h.plain.few_nodes; justified = h.plain.justified; boosted = h.plain.boosted; messages = h.plain.messages; few_messages = h.plain.few_messages; few_spare = h.plain.few_spare }; nodes = h.nodes; messages = h.messages; changed = omega arith; silenced = h.silenced }
 
   pub kept_changed : (changed : List ℕ) (room : ℕ) → held.changed_room ≤ room → IsHeld (record held { array = record held.array { changed_validators = changed }; changed_room = room })
   kept_changed changed room more =
-      let d = h.changed in let e = h.all_changed in
-      record { plain = record { slots = h.plain.slots; percent = h.plain.percent; total = h.plain.total; few_balances = h.plain.few_balances; tree = h.plain.tree; some = h.plain.some; few_nodes = h.plain.few_nodes; justified = h.plain.justified; boosted = h.plain.boosted; messages = h.plain.messages; few_messages = h.plain.few_messages; few_spare = h.plain.few_spare }; nodes = h.nodes; messages = h.messages; changed = omega arith; all_changed = omega arith }
+      let d = h.changed in
+      record { plain = record { slots = h.plain.slots; percent = h.plain.percent; total = h.plain.total; few_balances = h.plain.few_balances; tree = h.plain.tree; some = h.plain.some; few_nodes = h.plain.few_nodes; justified = h.plain.justified; boosted = h.plain.boosted; messages = h.plain.messages; few_messages = h.plain.few_messages; few_spare = h.plain.few_spare }; nodes = h.nodes; messages = h.messages; changed = omega arith; silenced = h.silenced }
 
-  pub kept_message : (v : ℕ) (message : Message) (messages : List (Option Message)) (room : ℕ) → held.message_room ≤ room → messages ≡ with_message held.array.latest_messages v message → v < held.changed_room → v < 2 ^ 40 → message.node < length held.array.nodes → IsHeld (record held { array = record held.array { latest_messages = messages; anything_changed = true }; message_room = room })
-  kept_message v message messages room more is changed few inside =
+  pub kept_message : (v : ℕ) (message : Message) (messages : List (Option Message)) (room : ℕ) → held.message_room ≤ room → messages ≡ with_message held.array.latest_messages v message → v < 2 ^ 40 → message.node < length held.array.nodes → IsHeld (record held { array = record held.array { latest_messages = messages; anything_changed = true }; message_room = room })
+  kept_message v message messages room more is few inside =
       let b = h.messages in
-      record { plain = record { slots = h.plain.slots; percent = h.plain.percent; total = h.plain.total; few_balances = h.plain.few_balances; tree = h.plain.tree; some = h.plain.some; few_nodes = h.plain.few_nodes; justified = h.plain.justified; boosted = h.plain.boosted; messages = λ k x e. put_below k x (sym (ap (λ ms. get_or ms k None) is) ∙ e); few_messages = subst (λ (ms : List (Option Message)). length ms ≤ 2 ^ 40) (sym is) (message_length held.array.latest_messages v message (2 ^ 40) h.plain.few_messages few); few_spare = h.plain.few_spare }; nodes = h.nodes; messages = omega arith; changed = h.changed; all_changed = subst (λ (ms : List (Option Message)). length ms ≤ held.changed_room) (sym is) (message_length held.array.latest_messages v message held.changed_room h.all_changed changed) }
+      record { plain = record { slots = h.plain.slots; percent = h.plain.percent; total = h.plain.total; few_balances = h.plain.few_balances; tree = h.plain.tree; some = h.plain.some; few_nodes = h.plain.few_nodes; justified = h.plain.justified; boosted = h.plain.boosted; messages = λ k x e. put_below k x (sym (ap (λ ms. get_or ms k None) is) ∙ e); few_messages = subst (λ (ms : List (Option Message)). length ms ≤ 2 ^ 40) (sym is) (message_length held.array.latest_messages v message (2 ^ 40) h.plain.few_messages few); few_spare = h.plain.few_spare }; nodes = h.nodes; messages = omega arith; changed = h.changed; silenced = h.silenced }
     where
       below : (k : ℕ) (x : Message) → (x ≡ message) ⊎ (get_or held.array.latest_messages k None ≡ Some x) → x.node < length held.array.nodes
       below k x (inl same) = subst (λ (m : Message). m.node < length held.array.nodes) (sym same) inside
@@ -159,23 +154,30 @@ module _ (held : Held) (h : IsHeld held) where
       put_below : (k : ℕ) (x : Message) → get_or (with_message held.array.latest_messages v message) k None ≡ Some x → x.node < length held.array.nodes
       put_below k x e = below k x (message_put held.array.latest_messages v message k x e)
 
+  pub kept_silenced : (silenced : List ℕ) (room : ℕ) → held.silenced_room ≤ room → IsHeld (record held { array = record held.array { silenced_validators = silenced; anything_changed = true }; silenced_room = room })
+  kept_silenced silenced room more =
+      let d = h.silenced in
+      record { plain = record { slots = h.plain.slots; percent = h.plain.percent; total = h.plain.total; few_balances = h.plain.few_balances; tree = h.plain.tree; some = h.plain.some; few_nodes = h.plain.few_nodes; justified = h.plain.justified; boosted = h.plain.boosted; messages = h.plain.messages; few_messages = h.plain.few_messages; few_spare = h.plain.few_spare }; nodes = h.nodes; messages = h.messages; changed = h.changed; silenced = omega arith }
+
   pub kept_node : (node : Node) (parent room spare : ℕ) (nodes : List Node) → nodes ≡ held.array.nodes ++ node ∷ [] → spare ≡ held.array.spare_nodes - 1 → held.node_room ≤ room → length held.array.nodes < held.node_room → length held.array.nodes < 2 ^ 32 - 1 → node.parent ≡ Some parent → parent < length held.array.nodes → slot_at held.array.nodes parent < node.slot → IsHeld (record held { array = record held.array { nodes = nodes; anything_changed = true; spare_nodes = spare }; node_room = room })
   kept_node node parent room spare nodes is less more inside few first below later =
       let a = h.nodes in
       let l : length (held.array.nodes ++ node ∷ []) ≡ length held.array.nodes + 1 = length-append held.array.nodes (node ∷ []) in
       subst (λ (ns : List Node). IsHeld (record held { array = record held.array { nodes = ns; anything_changed = true; spare_nodes = spare }; node_room = room })) (sym is)
-      (record { plain = record { slots = h.plain.slots; percent = h.plain.percent; total = h.plain.total; few_balances = h.plain.few_balances; tree = tree_pushed held.array.nodes node h.plain.tree parent first below later; some = omega arith; few_nodes = omega arith; justified = (let j = h.plain.justified in omega arith); boosted = λ n e. (let j = h.plain.boosted n e in omega arith); messages = λ k x e. (let j = h.plain.messages k x e in omega arith); few_messages = h.plain.few_messages; few_spare = h.plain.few_spare }; nodes = omega arith; messages = h.messages; changed = h.changed; all_changed = h.all_changed })
+      (record { plain = record { slots = h.plain.slots; percent = h.plain.percent; total = h.plain.total; few_balances = h.plain.few_balances; tree = tree_pushed held.array.nodes node h.plain.tree parent first below later; some = omega arith; few_nodes = omega arith; justified = (let j = h.plain.justified in omega arith); boosted = λ n e. (let j = h.plain.boosted n e in omega arith); messages = λ k x e. (let j = h.plain.messages k x e in omega arith); few_messages = h.plain.few_messages; few_spare = h.plain.few_spare }; nodes = omega arith; messages = h.messages; changed = h.changed; silenced = h.silenced })
 
-pub new_held : (slots percent slot : ℕ) (root : List ℕ) (facts : Facts) (nodes : List Node) (messages : List (Option Message)) (balances changed : List ℕ) (node_room message_room changed_room : ℕ) → 0 < slots → percent ≤ 10000
-    → nodes ≡ record { parent = None; slot = slot; root = root; facts = facts } ∷ [] → messages ≡ [] → balances ≡ [] → changed ≡ [] → 1 ≤ node_room
-    → IsHeld (record { array = record (new_array slots percent slot root facts) { nodes = nodes; latest_messages = messages; balances = balances; changed_validators = changed }; node_room = node_room; message_room = message_room; changed_room = changed_room })
-new_held slots percent slot root facts nodes messages balances changed node_room message_room changed_room s p n m b c room =
+pub new_held : (slots percent slot : ℕ) (root : List ℕ) (facts : Facts) (nodes : List Node) (messages : List (Option Message)) (balances silenced changed : List ℕ) (node_room message_room changed_room silenced_room : ℕ) → 0 < slots → percent ≤ 10000
+    → nodes ≡ record { parent = None; slot = slot; root = root; facts = facts } ∷ [] → messages ≡ [] → balances ≡ [] → silenced ≡ [] → changed ≡ [] → 1 ≤ node_room
+    → IsHeld (record { array = record (new_array slots percent slot root facts) { nodes = nodes; latest_messages = messages; balances = balances; silenced_validators = silenced; changed_validators = changed }; node_room = node_room; message_room = message_room; changed_room = changed_room; silenced_room = silenced_room })
+new_held slots percent slot root facts nodes messages balances silenced changed node_room message_room changed_room silenced_room s p n m b o c room =
     let first : Node = record { parent = None; slot = slot; root = root; facts = facts } in
-    subst (λ (ns : List Node). IsHeld (record { array = record (new_array slots percent slot root facts) { nodes = ns; latest_messages = messages; balances = balances; changed_validators = changed }; node_room = node_room; message_room = message_room; changed_room = changed_room })) (sym n)
-    (subst (λ (ms : List (Option Message)). IsHeld (record { array = record (new_array slots percent slot root facts) { nodes = first ∷ []; latest_messages = ms; balances = balances; changed_validators = changed }; node_room = node_room; message_room = message_room; changed_room = changed_room })) (sym m)
-    (subst (λ (bs : List ℕ). IsHeld (record { array = record (new_array slots percent slot root facts) { nodes = first ∷ []; latest_messages = []; balances = bs; changed_validators = changed }; node_room = node_room; message_room = message_room; changed_room = changed_room })) (sym b)
-    (subst (λ (cs : List ℕ). IsHeld (record { array = record (new_array slots percent slot root facts) { nodes = first ∷ []; latest_messages = []; balances = []; changed_validators = cs }; node_room = node_room; message_room = message_room; changed_room = changed_room })) (sym c)
-    (record { plain = new_plain slots percent slot root facts s p; nodes = omega arith; messages = omega arith; changed = omega arith; all_changed = omega arith }))))
+    let held : List Node → List (Option Message) → List ℕ → List ℕ → List ℕ → Held = λ ns ms bs os cs. record { array = record (new_array slots percent slot root facts) { nodes = ns; latest_messages = ms; balances = bs; silenced_validators = os; changed_validators = cs }; node_room = node_room; message_room = message_room; changed_room = changed_room; silenced_room = silenced_room } in
+    subst (λ (ns : List Node). IsHeld (held ns messages balances silenced changed)) (sym n)
+    (subst (λ (ms : List (Option Message)). IsHeld (held (first ∷ []) ms balances silenced changed)) (sym m)
+    (subst (λ (bs : List ℕ). IsHeld (held (first ∷ []) [] bs silenced changed)) (sym b)
+    (subst (λ (os : List ℕ). IsHeld (held (first ∷ []) [] [] os changed)) (sym o)
+    (subst (λ (cs : List ℕ). IsHeld (held (first ∷ []) [] [] [] cs)) (sym c)
+    (record { plain = new_plain slots percent slot root facts s p; nodes = omega arith; messages = omega arith; changed = omega arith; silenced = omega arith })))))
 
 pub ruleset beginning = (new_plain)
 
@@ -186,5 +188,7 @@ pub ruleset sparing = (kept_spare)
 pub ruleset putting = (kept_message)
 
 pub ruleset noting = (kept_changed)
+
+pub ruleset silencing = (kept_silenced)
 
 pub ruleset setting = (kept_made, kept_boost, kept_checkpoints, kept_balances)

@@ -5,9 +5,12 @@ pub mod Counting
 pub mod Holding
 pub mod Items
 pub mod Messages
+pub mod Deltas
 pub mod Noting
+pub mod Silencing
 pub mod BestDescendants
 pub mod Summing
+pub mod ValidatorSets
 pub mod Votes
 pub mod Walks
 pub mod Weights

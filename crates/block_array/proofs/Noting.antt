@@ -1,21 +1,22 @@
--- Changed messages, and what is counted anew.
-use Rattle.std.proofs.Common.{◌≡◌, ℕ, zero, suc, ◌+◌, ◌*◌, nat_lt, ◌<◌, ◌≤◌, ◌⊎◌, inl, inr, Bool, true, false, cond, if◌then◌else◌, ◌||◌, eqb, List, [], ◌∷◌, ◌++◌, length, max, take, get_or, set, length-append, Option, Some, None, is_some, refl, sym, ap, ◌∙◌, arith}
+-- Changed validators, and what is counted anew.
+use Rattle.std.proofs.Common.{◌≡◌, ℕ, zero, suc, ◌+◌, ◌*◌, nat_lt, ◌<◌, ◌≤◌, ◌⊎◌, inl, inr, Bool, true, false, cond, if◌then◌else◌, ◌||◌, ◌&&◌, not, eqb, List, [], ◌∷◌, ◌++◌, length, max, take, get_or, set, length-append, Option, Some, None, is_some, refl, sym, ap, ◌∙◌, arith}
 use Rattle.std.specs.List.{list_any, count_by}
 use Rattle.std.specs.Option.{option_map_or}
 use Rattle.std.proofs.Math.ListN.{length-set}
 use Rattle.std.proofs.lemmas.Bool.{cases_eq, cases_lt, cases_Bool, eq-eqb, ne_eqb}
 use Rattle.std.proofs.lemmas.List.{get_or-set_same, get_or-set_other, get_or_past, set-get_or, take_all}
-use Rattle.std.proofs.lemmas.List.Sums.{sum_by_more, sum_by-cons, sum_by_push, sum_by-set, count_by-le-length}
+use Rattle.std.proofs.lemmas.List.Sums.{sum_by-cons, sum_by_push, sum_by-set, count_by-le-length}
 use Rattle.std.proofs.lemmas.List.Folds.{list_any_more, list_any-append}
 use Rattle.block_array.specs.declared.node.Message.{Message}
 use Rattle.block_array.specs.declared.tally.Counted.{Counted}
-use Rattle.block_array.specs.PlainArray.{PlainArray, message_of, balance_of}
-use Rattle.block_array.specs.UpdateLatestMessages.{with_message, is_listed, with_changed}
-use Rattle.block_array.specs.Work.{deltas_of}
+use Rattle.block_array.specs.PlainArray.{PlainArray, message_of, vote_of, balance_of, is_listed}
+use Rattle.block_array.specs.UpdateLatestMessages.{with_message, with_changed, voted}
+use Rattle.block_array.specs.Work.{deltas_of, has_no_message}
 use Rattle.block_array.specs.inside.Counts.{counted_of, Counts, nothing}
 use Rattle.block_array.specs.inside.Held.{due, boost_due}
 use Rattle.block_array.specs.inside.BestDescendants.{IsCounted}
 use Rattle.block_array.specs.inside.Noted.{count_changed, marked, IsNoted, AreMade, AreDue, has_delta, deltas_below, goes_in_order}
+use Rattle.block_array.proofs.Deltas.{upto, upto_same, upto_either, upto_list, upto_listed}
 
 module _ (validators : List Counted) (v k : ℕ) (c : Counted) where
   pub counted_same : v < length validators → k ≡ v → counted_of (set validators v c) k ≡ c
@@ -109,13 +110,17 @@ not_set array validators e = by array.balances_set (nat_lt (length validators) (
 
 pub changed_deltas : (array : PlainArray) → array.balances_set ≡ false → deltas_of array ≡ length array.changed_validators
 unfolding deltas_of
-changed_deltas array kept = ap (λ b. cond b (count_by is_some array.latest_messages) (length array.changed_validators)) kept
+changed_deltas array kept = ap (λ b. cond b (count_by is_some array.latest_messages + count_by (has_no_message array) array.changed_validators) (length array.changed_validators)) kept
 
 -- ---- one validator after another
 
 pub due_none : (array : PlainArray) (v : ℕ) → message_of array v ≡ None → due array v ≡ nothing
-unfolding due
-due_none array v e = ap (λ o. option_map_or (λ message. record { node = message.node; balance = balance_of array v; changed = false }) o nothing) e
+unfolding due vote_of
+due_none array v e = by (is_listed array.silenced_validators v)
+  where
+    by : (b : Bool) → option_map_or (λ (message : Message). record { node = message.node; balance = balance_of array v; changed = false }) (cond b None (message_of array v)) nothing ≡ nothing
+    by true = refl
+    by false = ap (λ o. option_map_or (λ (message : Message). record { node = message.node; balance = balance_of array v; changed = false }) o nothing) e
 
 pub set_idle : (array : PlainArray) (validators : List Counted) (v : ℕ) → counted_of validators v ≡ due array v → set validators v (due array v) ≡ validators
 unfolding counted_of
@@ -132,42 +137,80 @@ idle_due array counts noted v idle = by array.balances_set refl
     none_of None e = refl
     none_of (Some message) e = absurd cc
 
-    test : (b : Bool) → array.balances_set ≡ b → cond b (is_some (message_of array v)) (counted_of counts.validators v).changed ≡ false
-    test b e = sym (ap (λ b. cond b (is_some (message_of array v)) (counted_of counts.validators v).changed) e) ∙ idle
+    neither : (a b : Bool) → (a || b) ≡ false → (a ≡ false) × (b ≡ false)
+    neither true b e = absurd cc
+    neither false b e = (refl, e)
+
+    parts : ((counted_of counts.validators v).changed ≡ false) × ((array.balances_set && is_some (message_of array v)) ≡ false)
+    parts = neither (counted_of counts.validators v).changed (array.balances_set && is_some (message_of array v)) idle
 
     by : (b : Bool) → array.balances_set ≡ b → counted_of counts.validators v ≡ due array v
-    by true e = let m : message_of array v ≡ None = none_of (message_of array v) (test true e) in noted.idle v m ∙ sym (due_none array v m)
-    by false e = noted.current e v (test false e)
+    by true e = let m : message_of array v ≡ None = none_of (message_of array v) (sym (ap (λ b. b && is_some (message_of array v)) e) ∙ parts.1) in noted.idle v m parts.0 ∙ sym (due_none array v m)
+    by false e = noted.current e v parts.0
 
 pub delta_same : (array : PlainArray) (validators others : List Counted) (v : ℕ) → counted_of validators v ≡ counted_of others v → has_delta array validators v ≡ has_delta array others v
 unfolding has_delta
-delta_same array validators others v e = ap (λ (c : Counted). cond array.balances_set (is_some (message_of array v)) c.changed) e
+delta_same array validators others v e = ap (λ (c : Counted). c.changed || (array.balances_set && is_some (message_of array v))) e
 
-pub deltas_more : (array : PlainArray) (after before : List Counted) (i : ℕ) → counted_of after i ≡ counted_of before i → i < length before → length before ≡ length array.latest_messages → deltas_below array before (i + 1) ≡ deltas_below array before i + (if has_delta array after i then 1 else 0)
-unfolding deltas_below has_delta message_of counted_of count_changed
-deltas_more array after before i same inside len = by array.balances_set ∙ ap (λ b. deltas_below array before i + (if b then 1 else 0)) (sym (delta_same array after before i same))
-  where
-    by : (b : Bool)
-        → cond b (count_by is_some (take (i + 1) array.latest_messages)) (count_changed (take (i + 1) before))
-        ≡ cond b (count_by is_some (take i array.latest_messages)) (count_changed (take i before)) + cond (cond b (is_some (get_or array.latest_messages i None)) (get_or before i nothing).changed) 1 0
-    by true = sum_by_more (λ (o : Option Message). cond (is_some o) 1 0) array.latest_messages i None (omega arith)
-    by false = sum_by_more (λ (c : Counted). cond c.changed 1 0) before i nothing inside
+pub deltas_more : (array : PlainArray) (after before : List Counted) (i : ℕ) → counted_of after i ≡ counted_of before i → deltas_below array before (i + 1) ≡ deltas_below array before i + (if has_delta array after i then 1 else 0)
+unfolding deltas_below
+deltas_more array after before i same =
+    ap (deltas_below array before) (let e : i + 1 ≡ suc i = omega arith in e)
+    ∙ ap (λ b. deltas_below array before i + (if b then 1 else 0)) (sym (delta_same array after before i same))
 
 pub deltas_none : (array : PlainArray) (validators : List Counted) (i : ℕ) → i ≡ 0 → deltas_below array validators i ≡ 0
-unfolding deltas_below count_changed
-deltas_none array validators i z = ap (λ n. cond array.balances_set (count_by is_some (take n array.latest_messages)) (count_changed (take n validators))) z ∙ by array.balances_set
-  where
-    by : (b : Bool) → cond b (count_by is_some (take 0 array.latest_messages)) (count_changed (take 0 validators)) ≡ 0
-    by true = refl
-    by false = refl
+unfolding deltas_below
+deltas_none array validators i z = ap (deltas_below array validators) z
 
-pub deltas_all : (array : PlainArray) (counts : Counts) → IsNoted array counts → (n : ℕ) → length counts.validators ≤ n → deltas_below array counts.validators n ≡ deltas_of array
-unfolding deltas_below deltas_of
-deltas_all array counts noted n all = by array.balances_set
+below_is : (array : PlainArray) (validators : List Counted) (n : ℕ) → deltas_below array validators n ≡ upto (has_delta array validators) n
+unfolding deltas_below upto
+below_is array validators zero = refl
+below_is array validators (suc n) = ap (λ x. x + (if has_delta array validators n then 1 else 0)) (below_is array validators n)
+
+-- where balances weren't set, those that changed have a delta
+kept_below : (array : PlainArray) (counts : Counts) → IsNoted array counts → array.balances_set ≡ false → (n : ℕ) → length counts.validators ≤ n → upto (has_delta array counts.validators) n ≡ length array.changed_validators
+unfolding has_delta counted_of count_changed
+kept_below array counts noted kept n all =
+    upto_same (has_delta array counts.validators) (λ v. (get_or counts.validators v nothing).changed) (λ v. ap (λ b. (get_or counts.validators v nothing).changed || (b && is_some (message_of array v))) kept ∙ or_false (get_or counts.validators v nothing).changed) n
+    ∙ upto_list (λ (c : Counted). c.changed) counts.validators nothing refl n
+    ∙ ap count_changed (take_all n counts.validators all)
+    ∙ noted.many
   where
-    by : (b : Bool) → cond b (count_by is_some (take n array.latest_messages)) (count_changed (take n counts.validators)) ≡ cond b (count_by is_some array.latest_messages) (length array.changed_validators)
-    by true = ap (count_by is_some) (take_all n array.latest_messages (let l = noted.length_is in omega arith))
-    by false = ap count_changed (take_all n counts.validators all) ∙ noted.many
+    or_false : (b : Bool) → (b || false) ≡ b
+    or_false true = refl
+    or_false false = refl
+
+-- and where they were, those that have a message have one, and those that have none and changed
+set_below : (array : PlainArray) (counts : Counts) → IsNoted array counts → (n : ℕ) → length counts.validators ≤ n
+    → upto (has_delta array counts.validators) n ≤ count_by is_some array.latest_messages + count_by (has_no_message array) array.changed_validators
+unfolding has_delta has_no_message message_of
+set_below array counts noted n all =
+    let split : upto (has_delta array counts.validators) n ≤ upto (λ v. is_some (get_or array.latest_messages v None)) n + upto (λ v. not (is_some (get_or array.latest_messages v None)) && is_listed array.changed_validators v) n =
+    upto_either (has_delta array counts.validators) (λ v. is_some (get_or array.latest_messages v None)) (λ v. not (is_some (get_or array.latest_messages v None)) && is_listed array.changed_validators v)
+    (λ v. one (counted_of counts.validators v).changed (is_listed array.changed_validators v) array.balances_set (is_some (get_or array.latest_messages v None)) (noted.listed v)) n in
+    let messages : upto (λ v. is_some (get_or array.latest_messages v None)) n ≡ count_by is_some array.latest_messages =
+    upto_list is_some array.latest_messages None refl n ∙ ap (count_by is_some) (take_all n array.latest_messages (let l = noted.covers in omega arith)) in
+    let others : upto (λ v. not (is_some (get_or array.latest_messages v None)) && is_listed array.changed_validators v) n ≤ count_by (has_no_message array) array.changed_validators =
+    upto_listed (has_no_message array) array.changed_validators n in
+    omega arith
+  where
+    one : (changed listed set some : Bool) → changed ≡ listed → cond (changed || (set && some)) 1 0 ≤ cond some 1 0 + cond (not some && listed) 1 0
+    one true true set true e = omega arith
+    one true true set false e = omega arith
+    one false false true true e = omega arith
+    one false false true false e = omega arith
+    one false false false true e = omega arith
+    one false false false false e = omega arith
+    one true false set some e = absurd cc
+    one false true set some e = absurd cc
+
+pub deltas_all : (array : PlainArray) (counts : Counts) → IsNoted array counts → (n : ℕ) → length counts.validators ≤ n → deltas_below array counts.validators n ≤ deltas_of array
+unfolding deltas_of
+deltas_all array counts noted n all = by array.balances_set refl
+  where
+    by : (b : Bool) → array.balances_set ≡ b → deltas_below array counts.validators n ≤ cond b (count_by is_some array.latest_messages + count_by (has_no_message array) array.changed_validators) (length array.changed_validators)
+    by true e = let is = below_is array counts.validators n in let h = set_below array counts noted n all in omega arith
+    by false e = let is = below_is array counts.validators n in let h = kept_below array counts noted e n all in omega arith
 
 pub due_first : (array : PlainArray) (validators : List Counted) (n : ℕ) → n ≡ 0 → AreDue array validators n
 unfolding AreDue
@@ -195,7 +238,7 @@ pub all_counted : (array : PlainArray) (before after : Counts) → IsNoted array
 unfolding AreDue counted_of
 all_counted array before after noted nodes len dues boost = record {
   nodes = nodes ∙ noted.nodes;
-  length_is = len ∙ noted.length_is;
+  covers = (let l = noted.covers in omega arith);
   validators = dues;
   boost = boost;
 }
@@ -218,6 +261,14 @@ unfolding count_changed
 pad_many validators = let e : count_changed (validators ++ nothing ∷ []) ≡ count_changed validators + 0 = sum_by_push (λ (c : Counted). cond c.changed 1 0) validators nothing in omega arith
 
 pub ruleset padding = (pad_same, pad_many)
+
+pub marked_length : (validators : List Counted) (v : ℕ) → length (marked validators v) ≡ length validators
+unfolding marked
+marked_length validators v = by (counted_of validators v).changed
+  where
+    by : (b : Bool) → length (cond b validators (set validators v (record (counted_of validators v) { changed = true }))) ≡ length validators
+    by true = refl
+    by false = length-set validators v (record (counted_of validators v) { changed = true })
 
 set_marks : (validators : List Counted) (v : ℕ) → v < length validators → count_changed (set validators v (record (counted_of validators v) { changed = true })) + cond (counted_of validators v).changed 1 0 ≡ count_changed validators + 1
 unfolding count_changed counted_of
@@ -253,13 +304,6 @@ with_length [] (suc v) message = let e : length (with_message [] v message) ≡ 
 with_length (m ∷ messages) zero message = omega arith
 with_length (m ∷ messages) (suc v) message = let e : length (with_message messages v message) ≡ max (length messages) (v + 1) = with_length messages v message in omega arith
 
-with_same : (messages : List (Option Message)) (v : ℕ) (message : Message) → get_or (with_message messages v message) v None ≡ Some message
-unfolding with_message
-with_same [] zero message = refl
-with_same [] (suc v) message = with_same [] v message
-with_same (m ∷ messages) zero message = refl
-with_same (m ∷ messages) (suc v) message = with_same messages v message
-
 with_other : (messages : List (Option Message)) (v k : ℕ) (message : Message) → (k ≡ v → ⊥) → get_or (with_message messages v message) k None ≡ get_or messages k None
 unfolding with_message
 with_other [] zero zero message n = absurd (n refl)
@@ -271,22 +315,11 @@ with_other (m ∷ messages) zero (suc k) message n = refl
 with_other (m ∷ messages) (suc v) zero message n = refl
 with_other (m ∷ messages) (suc v) (suc k) message n = with_other messages v k message (λ e. n (ap suc e))
 
-module _ (array : PlainArray) (counts : Counts) (noted : IsNoted array counts) (v : ℕ) (message : Message) where
-  abbrev new : PlainArray
-  new = record array { latest_messages = with_message array.latest_messages v message; changed_validators = with_changed array.changed_validators v; anything_changed = true }
-
-  message_same : message_of new v ≡ Some message
-  unfolding message_of
-  message_same = with_same array.latest_messages v message
-
-  message_other : (k : ℕ) → (k ≡ v → ⊥) → message_of new k ≡ message_of array k
-  unfolding message_of
-  message_other k n = with_other array.latest_messages v k message n
-
-  due_other : (k : ℕ) → (k ≡ v → ⊥) → due new k ≡ due array k
-  unfolding due balance_of
-  due_other k n = ap (λ o. option_map_or (λ m. record { node = m.node; balance = get_or array.balances k 0; changed = false }) o nothing) (message_other k n)
-
+-- an array that differs at one validator alone, which changed
+module _ (array new : PlainArray) (counts : Counts) (noted : IsNoted array counts) (v : ℕ)
+    (changes : new.changed_validators ≡ with_changed array.changed_validators v) (same_nodes : new.nodes ≡ array.nodes) (same_set : new.balances_set ≡ array.balances_set)
+    (places : length new.latest_messages ≤ max (length array.latest_messages) (v + 1))
+    (message_other : (k : ℕ) → (k ≡ v → ⊥) → message_of new k ≡ message_of array k) (due_other : (k : ℕ) → (k ≡ v → ⊥) → due new k ≡ due array k) where
   module _ (after : Counts) (padded : List Counted) (same : (k : ℕ) → counted_of padded k ≡ counted_of counts.validators k) (many : count_changed padded ≡ count_changed counts.validators) (len : length padded ≡ max (length counts.validators) (v + 1)) (nodes : after.nodes ≡ counts.nodes) where
     inside : v < length padded
     inside = omega arith
@@ -297,21 +330,20 @@ module _ (array : PlainArray) (counts : Counts) (noted : IsNoted array counts) (
     built : (validators : List Counted) (changed : List ℕ) → after.validators ≡ validators → with_changed array.changed_validators v ≡ changed → length validators ≡ length padded → count_changed validators ≡ length changed
         → ((k : ℕ) → (counted_of validators k).changed ≡ is_listed changed k) → (counted_of validators v).changed ≡ true → ((k : ℕ) → (k ≡ v → ⊥) → counted_of validators k ≡ counted_of counts.validators k) → IsNoted new after
     built validators changed vs cs l m listed here other = record {
-      nodes = nodes ∙ noted.nodes;
-      length_is =
+      nodes = nodes ∙ noted.nodes ∙ ap length (sym same_nodes);
+      covers =
           let a : length after.validators ≡ length validators = ap length vs in
-          let b : length counts.validators ≡ length array.latest_messages = noted.length_is in
-          let c : length (with_message array.latest_messages v message) ≡ max (length array.latest_messages) (v + 1) = with_length array.latest_messages v message in
+          let b : length array.latest_messages ≤ length counts.validators = noted.covers in
           omega arith;
-      listed = λ k. ap (λ ws. (counted_of ws k).changed) vs ∙ listed k ∙ ap (λ xs. is_listed xs k) (sym cs);
-      many = ap count_changed vs ∙ m ∙ ap length (sym cs);
-      idle = λ k none. ap (λ ws. counted_of ws k) vs ∙ idle_at k none (cases_eq k v);
-      current = λ kept k unmarked. ap (λ ws. counted_of ws k) vs ∙ current_at kept k (sym (ap (λ ws. (counted_of ws k).changed) vs) ∙ unmarked) (cases_eq k v);
+      listed = λ k. ap (λ ws. (counted_of ws k).changed) vs ∙ listed k ∙ ap (λ xs. is_listed xs k) (sym (changes ∙ cs));
+      many = ap count_changed vs ∙ m ∙ ap length (sym (changes ∙ cs));
+      idle = λ k none unmarked. ap (λ ws. counted_of ws k) vs ∙ idle_at k none (sym (ap (λ ws. (counted_of ws k).changed) vs) ∙ unmarked) (cases_eq k v);
+      current = λ kept k unmarked. ap (λ ws. counted_of ws k) vs ∙ current_at (sym same_set ∙ kept) k (sym (ap (λ ws. (counted_of ws k).changed) vs) ∙ unmarked) (cases_eq k v);
     }
       where
-        idle_at : (k : ℕ) → message_of new k ≡ None → (k ≡ v) ⊎ (k ≡ v → ⊥) → counted_of validators k ≡ nothing
-        idle_at k none (inl is) = absurd (let e : None ≡ Some message = sym none ∙ ap (message_of new) is ∙ message_same in cc)
-        idle_at k none (inr isnt) = other k isnt ∙ noted.idle k (sym (message_other k isnt) ∙ none)
+        idle_at : (k : ℕ) → message_of new k ≡ None → (counted_of validators k).changed ≡ false → (k ≡ v) ⊎ (k ≡ v → ⊥) → counted_of validators k ≡ nothing
+        idle_at k none unmarked (inl is) = absurd (let e : false ≡ true = sym unmarked ∙ ap (λ i. (counted_of validators i).changed) is ∙ here in cc)
+        idle_at k none unmarked (inr isnt) = other k isnt ∙ noted.idle k (sym (message_other k isnt) ∙ none) (sym (ap (λ (c : Counted). c.changed) (other k isnt)) ∙ unmarked)
 
         current_at : array.balances_set ≡ false → (k : ℕ) → (counted_of validators k).changed ≡ false → (k ≡ v) ⊎ (k ≡ v → ⊥) → counted_of validators k ≡ due new k
         current_at kept k unmarked (inl is) = absurd (let e : false ≡ true = sym unmarked ∙ ap (λ i. (counted_of validators i).changed) is ∙ here in cc)
@@ -366,11 +398,28 @@ module _ (array : PlainArray) (counts : Counts) (noted : IsNoted array counts) (
             let a : length (array.changed_validators ++ v ∷ []) ≡ length array.changed_validators + 1 = length-append array.changed_validators (v ∷ []) in
             omega arith
 
-    pub noted_vote : after.validators ≡ marked padded v → IsNoted new after
-    noted_vote vs = by (cases_Bool (is_listed array.changed_validators v))
+    pub noted_change : after.validators ≡ marked padded v → IsNoted new after
+    noted_change vs = by (cases_Bool (is_listed array.changed_validators v))
       where
         by : (is_listed array.changed_validators v ≡ true) ⊎ (is_listed array.changed_validators v ≡ false) → IsNoted new after
         by (inl is) = was_listed is vs
         by (inr isnt) = not_listed isnt vs
+
+module _ (array : PlainArray) (counts : Counts) (noted : IsNoted array counts) (v : ℕ) (message : Message) where
+  message_other : (k : ℕ) → (k ≡ v → ⊥) → message_of (voted array v message) k ≡ message_of array k
+  unfolding message_of voted
+  message_other k n = with_other array.latest_messages v k message n
+
+  due_other : (k : ℕ) → (k ≡ v → ⊥) → due (voted array v message) k ≡ due array k
+  unfolding due balance_of vote_of voted
+  due_other k n = ap (λ o. option_map_or (λ m. record { node = m.node; balance = get_or array.balances k 0; changed = false }) (cond (is_listed array.silenced_validators k) None o) nothing) (message_other k n)
+
+  places : length (voted array v message).latest_messages ≤ max (length array.latest_messages) (v + 1)
+  unfolding voted
+  places = let e : length (with_message array.latest_messages v message) ≡ max (length array.latest_messages) (v + 1) = with_length array.latest_messages v message in omega arith
+
+  pub noted_vote : (after : Counts) (padded : List Counted) → ((k : ℕ) → counted_of padded k ≡ counted_of counts.validators k) → count_changed padded ≡ count_changed counts.validators → length padded ≡ max (length counts.validators) (v + 1) → after.nodes ≡ counts.nodes → after.validators ≡ marked padded v → IsNoted (voted array v message) after
+  unfolding voted
+  noted_vote after padded same many len nodes vs = noted_change array (voted array v message) counts noted v refl refl refl places message_other due_other after padded same many len nodes vs
 
 pub ruleset voting = (noted_vote)

@@ -1,8 +1,8 @@
 -- What a vote leaves, and that it names at most one validator more as changed.
 use Rattle.std.proofs.Common.{◌≡◌, ℕ, ◌+◌, ◌≤◌, Bool, true, false, cond, [], ◌∷◌, ◌++◌, length, refl, ap, arith, length-append}
 use Rattle.block_array.specs.declared.node.Message.{Message}
-use Rattle.block_array.specs.PlainArray.{PlainArray}
-use Rattle.block_array.specs.UpdateLatestMessages.{is_news, is_listed, with_changed, voted, update_latest_message}
+use Rattle.block_array.specs.PlainArray.{PlainArray, is_listed}
+use Rattle.block_array.specs.UpdateLatestMessages.{is_news, with_changed, voted, update_latest_message}
 
 module _ (array : PlainArray) (validator : ℕ) (message : Message) where
   listed_more : (b : Bool) → length (cond b array.changed_validators (array.changed_validators ++ validator ∷ [])) ≤ length array.changed_validators + 1

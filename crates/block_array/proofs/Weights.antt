@@ -9,7 +9,7 @@ use Rattle.std.proofs.lemmas.List.Sums.{sum_by-cons}
 use Rattle.block_array.specs.declared.node.Node.{Node}
 use Rattle.block_array.specs.declared.node.Message.{Message}
 use Rattle.block_array.specs.declared.tally.Counted.{Counted}
-use Rattle.block_array.specs.PlainArray.{PlainArray, parent_at, message_of, balance_of}
+use Rattle.block_array.specs.PlainArray.{PlainArray, parent_at, message_of, vote_of, balance_of, is_listed}
 use Rattle.block_array.specs.GetLatestAttestingBalance.{is_on_chain_of, votes_for, validators_of, attestation_score, proposer_score, is_boosted, get_latest_attesting_balance}
 use Rattle.block_array.specs.inside.Tree.{IsTree, reaches}
 use Rattle.block_array.specs.inside.Counts.{Counts, nothing, all_of, share, counted_at, own_at, weight_from, IsBelow}
@@ -134,7 +134,7 @@ module _ (array : PlainArray) (number : ℕ) where
 
   share_due : (v : ℕ) → share test (due array v) ≡ term v
   unfolding share due votes_for
-  share_due v = by (message_of array v)
+  share_due v = by (vote_of array v)
     where
       none : (b : Bool) → cond b 0 0 ≡ (let z : ℕ = 0 in z)
       none true = refl
@@ -145,8 +145,14 @@ module _ (array : PlainArray) (number : ℕ) where
       by (Some message) = refl
 
   no_message : (v : ℕ) → length array.latest_messages ≤ v → term v ≡ 0
-  unfolding votes_for message_of
-  no_message v past = ap (λ o. cond (option_map_or (λ message. is_on_chain_of array.nodes number message.node) o false) (balance_of array v) 0) (get_or_past array.latest_messages v None past)
+  unfolding votes_for vote_of message_of
+  no_message v past =
+      ap (λ o. cond (option_map_or (λ (message : Message). is_on_chain_of array.nodes number message.node) (cond (is_listed array.silenced_validators v) None o) false) (balance_of array v) 0) (get_or_past array.latest_messages v None past)
+      ∙ ap (λ o. cond (option_map_or (λ (message : Message). is_on_chain_of array.nodes number message.node) o false) (balance_of array v) 0) (either (is_listed array.silenced_validators v))
+    where
+      either : (b : Bool) → cond b None (let o : Option Message = None in o) ≡ None
+      either true = refl
+      either false = refl
 
   no_balance : (v : ℕ) → length array.balances ≤ v → term v ≡ 0
   unfolding balance_of
@@ -182,7 +188,7 @@ module _ (array : PlainArray) (number : ℕ) where
       let validators : counted_at test counts.validators ≡ attestation_score array number =
       sum_list test counts.validators
       ∙ sum_same (length counts.validators) (λ k. share test (get_or counts.validators k nothing)) term (λ k h. ap (share test) (counted.validators k h) ∙ share_due k)
-      ∙ sum_ends (length counts.validators) (length array.balances) term (λ k h. no_message k (let l : length counts.validators ≡ length array.latest_messages = counted.length_is in omega arith)) no_balance
+      ∙ sum_ends (length counts.validators) (length array.balances) term (λ k h. no_message k (let l : length array.latest_messages ≤ length counts.validators = counted.covers in omega arith)) no_balance
       ∙ sym score_is in
       counted_cons test counts.boost counts.validators
       ∙ ap (λ c. cond (test c.node) c.balance 0 + counted_at test counts.validators) counted.boost

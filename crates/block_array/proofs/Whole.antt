@@ -10,8 +10,9 @@ use Rattle.block_array.specs.declared.node.Node.{Node}
 use Rattle.block_array.specs.declared.node.Message.{Message}
 use Rattle.block_array.specs.declared.best_descendant.BestDescendant.{BestDescendant}
 use Rattle.block_array.specs.declared.tally.Counted.{Counted}
-use Rattle.block_array.specs.PlainArray.{PlainArray, message_of, balance_of}
-use Rattle.block_array.specs.UpdateLatestMessages.{is_listed, voted}
+use Rattle.block_array.specs.PlainArray.{PlainArray, message_of, vote_of, balance_of, is_listed}
+use Rattle.block_array.specs.UpdateLatestMessages.{voted}
+use Rattle.block_array.specs.Silence.{silenced}
 use Rattle.block_array.specs.Calls.{new_array, with_node, with_balances, with_checkpoints, with_boost, made}
 use Rattle.block_array.specs.GetHead.{goes_before, best_of, children_of, next_head, head_within, get_head}
 use Rattle.block_array.specs.FilterBlockTree.{agrees, is_viable, with_viable, filter_block_tree, get_filtered_block_tree}
@@ -29,11 +30,11 @@ module _ (array : PlainArray) (changed : List ℕ) (set any : Bool) (nodes valid
   other = record array { changed_validators = changed; balances_set = set; anything_changed = any; spare_nodes = nodes; spare_validators = validators }
 
   weight_same : (j : ℕ) → get_latest_attesting_balance other j ≡ get_latest_attesting_balance array j
-  unfolding get_latest_attesting_balance is_boosted attestation_score votes_for validators_of balance_of message_of proposer_score
+  unfolding get_latest_attesting_balance is_boosted attestation_score votes_for validators_of balance_of vote_of message_of proposer_score
   weight_same j = refl
 
   before_same : (a b : ℕ) → goes_before other a b ≡ goes_before array a b
-  unfolding goes_before get_latest_attesting_balance is_boosted attestation_score votes_for validators_of balance_of message_of proposer_score
+  unfolding goes_before get_latest_attesting_balance is_boosted attestation_score votes_for validators_of balance_of vote_of message_of proposer_score
   before_same a b = refl
 
   best_same : (x : ℕ) (xs : List ℕ) → best_of other x xs ≡ best_of array x xs
@@ -82,80 +83,95 @@ module _ (array : PlainArray) (changed : List ℕ) (set any : Bool) (nodes valid
   }
 
   pub due_same : (counts : Counts) → IsCounted array counts → IsCounted other counts
-  unfolding due boost_due balance_of message_of proposer_score
-  due_same counts c = record { nodes = c.nodes; length_is = c.length_is; validators = c.validators; boost = c.boost }
+  unfolding due boost_due balance_of vote_of message_of proposer_score
+  due_same counts c = record { nodes = c.nodes; covers = c.covers; validators = c.validators; boost = c.boost }
 
 -- ---- each call
 
-module _ (array : PlainArray) (counts : Counts) (bests : List BestDescendant) (best_room : ℕ) (a : IsArray array counts bests best_room) (told : PlainArray) where
-  pub kept_boost : (boosted : Option ℕ) → told ≡ with_boost array boosted → IsArray told counts bests best_room
-  unfolding message_of balance_of due
-  kept_boost boosted is = subst (λ (t : PlainArray). IsArray t counts bests best_room) (sym is) (record {
-    noted = record { nodes = a.noted.nodes; length_is = a.noted.length_is; listed = a.noted.listed; many = a.noted.many; idle = a.noted.idle; current = a.noted.current };
+module _ (array : PlainArray) (counts : Counts) (bests : List BestDescendant) (best_room changed_room changed_room₁ : ℕ) (a : IsArray array counts bests best_room changed_room) (more_changed : changed_room ≤ changed_room₁) (told : PlainArray) where
+  more : length counts.validators ≤ changed_room₁
+  more = let m = a.marks in omega arith
+
+  pub kept_boost : (boosted : Option ℕ) → told ≡ with_boost array boosted → IsArray told counts bests best_room changed_room₁
+  unfolding message_of balance_of vote_of due
+  kept_boost boosted is = subst (λ (t : PlainArray). IsArray t counts bests best_room changed_room₁) (sym is) (record {
+    noted = record { nodes = a.noted.nodes; covers = a.noted.covers; listed = a.noted.listed; many = a.noted.many; idle = a.noted.idle; current = a.noted.current };
     length_is = a.length_is;
     unchanged = λ e. absurd cc;
     tally_nodes = a.tally_nodes;
     best_nodes = a.best_nodes;
     tally_validators = a.tally_validators;
+    marks = more;
   })
 
-  pub kept_checkpoints : (node : ℕ) (justified finalized : Checkpoint) → told ≡ with_checkpoints array node justified finalized → IsArray told counts bests best_room
-  unfolding message_of balance_of due
-  kept_checkpoints node justified finalized is = subst (λ (t : PlainArray). IsArray t counts bests best_room) (sym is) (record {
-    noted = record { nodes = a.noted.nodes; length_is = a.noted.length_is; listed = a.noted.listed; many = a.noted.many; idle = a.noted.idle; current = a.noted.current };
+  pub kept_checkpoints : (node : ℕ) (justified finalized : Checkpoint) → told ≡ with_checkpoints array node justified finalized → IsArray told counts bests best_room changed_room₁
+  unfolding message_of balance_of vote_of due
+  kept_checkpoints node justified finalized is = subst (λ (t : PlainArray). IsArray t counts bests best_room changed_room₁) (sym is) (record {
+    noted = record { nodes = a.noted.nodes; covers = a.noted.covers; listed = a.noted.listed; many = a.noted.many; idle = a.noted.idle; current = a.noted.current };
     length_is = a.length_is;
     unchanged = λ e. absurd cc;
     tally_nodes = a.tally_nodes;
     best_nodes = a.best_nodes;
     tally_validators = a.tally_validators;
+    marks = more;
   })
 
-  pub kept_balances : (balances : List ℕ) (count total : ℕ) → told ≡ with_balances array balances count total → IsArray told counts bests best_room
+  pub kept_balances : (balances : List ℕ) (count total : ℕ) → told ≡ with_balances array balances count total → IsArray told counts bests best_room changed_room₁
   unfolding message_of
-  kept_balances balances count total is = subst (λ (t : PlainArray). IsArray t counts bests best_room) (sym is) (record {
-    noted = record { nodes = a.noted.nodes; length_is = a.noted.length_is; listed = a.noted.listed; many = a.noted.many; idle = a.noted.idle; current = λ e. absurd cc };
+  kept_balances balances count total is = subst (λ (t : PlainArray). IsArray t counts bests best_room changed_room₁) (sym is) (record {
+    noted = record { nodes = a.noted.nodes; covers = a.noted.covers; listed = a.noted.listed; many = a.noted.many; idle = a.noted.idle; current = λ e. absurd cc };
     length_is = a.length_is;
     unchanged = λ e. absurd cc;
     tally_nodes = a.tally_nodes;
     best_nodes = a.best_nodes;
     tally_validators = a.tally_validators;
+    marks = more;
   })
 
-  pub kept_vote : (v : ℕ) (message : Message) (after : Counts) → told ≡ voted array v message → IsNoted told after → after.node_room ≡ counts.node_room → counts.validator_room ≤ after.validator_room → IsArray told after bests best_room
-  unfolding voted
-  kept_vote v message after is noted room more =
-      let t = a.tally_nodes in let v = a.tally_validators in
-      subst (λ (t : PlainArray). IsNoted t after → IsArray t after bests best_room) (sym is)
-      (λ n. record {
-        noted = n;
-        length_is = a.length_is;
-        unchanged = λ e. absurd cc;
+  noted_kept : (after : Counts) (next : PlainArray) → next.nodes ≡ array.nodes → next.spare_nodes ≡ array.spare_nodes → next.spare_validators ≡ array.spare_validators → next.anything_changed ≡ true → IsNoted next after → after.node_room ≡ counts.node_room → counts.validator_room ≤ after.validator_room → length after.validators ≤ changed_room₁ → IsArray next after bests best_room changed_room₁
+  noted_kept after next nodes spare_nodes spare_validators changed noted room wider marks =
+      let t = a.tally_nodes in let v = a.tally_validators in let b = a.best_nodes in
+      let n : length next.nodes ≡ length array.nodes = ap length nodes in
+      record {
+        noted = noted;
+        length_is = a.length_is ∙ sym n;
+        unchanged = λ e. absurd (let x : true ≡ false = sym changed ∙ e in cc);
         tally_nodes = omega arith;
-        best_nodes = a.best_nodes;
+        best_nodes = omega arith;
         tally_validators = omega arith;
-      })
-      noted
+        marks = marks;
+      }
+
+  pub kept_vote : (v : ℕ) (message : Message) (after : Counts) → told ≡ voted array v message → IsNoted told after → after.node_room ≡ counts.node_room → counts.validator_room ≤ after.validator_room → length after.validators ≤ changed_room₁ → IsArray told after bests best_room changed_room₁
+  unfolding voted
+  kept_vote v message after is noted room wider marks =
+      subst (λ (t : PlainArray). IsNoted t after → IsArray t after bests best_room changed_room₁) (sym is) (λ n. noted_kept after (voted array v message) refl refl refl refl n room wider marks) noted
+
+  pub kept_silence : (v : ℕ) (after : Counts) → told ≡ silenced array v → IsNoted told after → after.node_room ≡ counts.node_room → counts.validator_room ≤ after.validator_room → length after.validators ≤ changed_room₁ → IsArray told after bests best_room changed_room₁
+  unfolding silenced
+  kept_silence v after is noted room wider marks =
+      subst (λ (t : PlainArray). IsNoted t after → IsArray t after bests best_room changed_room₁) (sym is) (λ n. noted_kept after (silenced array v) refl refl refl refl n room wider marks) noted
 
 counted_rooms : (array : PlainArray) (counts after : Counts) → IsCounted array counts → after.validators ≡ counts.validators → after.nodes ≡ counts.nodes → after.boost ≡ counts.boost → IsCounted array after
 counted_rooms array counts after c vs ns boost = record {
   nodes = ns ∙ c.nodes;
-  length_is = ap length vs ∙ c.length_is;
+  covers = (let l : length after.validators ≡ length counts.validators = ap length vs in let o = c.covers in omega arith);
   validators = subst (λ (ws : List Counted). (v : ℕ) → v < length ws → get_or ws v nothing ≡ due array v) (sym vs) c.validators;
   boost = boost ∙ c.boost;
 }
 
 -- rooms alone change
-pub kept_rooms : (array : PlainArray) (counts after : Counts) (bests bests₁ : List BestDescendant) (best_room best_room₁ : ℕ) → IsArray array counts bests best_room → bests₁ ≡ bests → after.validators ≡ counts.validators → after.nodes ≡ counts.nodes → after.boost ≡ counts.boost → counts.node_room ≤ after.node_room → counts.validator_room ≤ after.validator_room → best_room ≤ best_room₁ → IsArray array after bests₁ best_room₁
-kept_rooms array counts after bests bests₁ best_room best_room₁ a same vs ns boost nodes validators room =
-    let t = a.tally_nodes in let v = a.tally_validators in let r = a.best_nodes in
-    subst (λ (rs : List BestDescendant). IsArray array after rs best_room₁) (sym same)
+pub kept_rooms : (array : PlainArray) (counts after : Counts) (bests bests₁ : List BestDescendant) (best_room best_room₁ changed_room changed_room₁ : ℕ) → IsArray array counts bests best_room changed_room → bests₁ ≡ bests → after.validators ≡ counts.validators → after.nodes ≡ counts.nodes → after.boost ≡ counts.boost → counts.node_room ≤ after.node_room → counts.validator_room ≤ after.validator_room → best_room ≤ best_room₁ → changed_room ≤ changed_room₁ → IsArray array after bests₁ best_room₁ changed_room₁
+kept_rooms array counts after bests bests₁ best_room best_room₁ changed_room changed_room₁ a same vs ns boost nodes validators room changed =
+    let t = a.tally_nodes in let v = a.tally_validators in let r = a.best_nodes in let m = a.marks in let l : length after.validators ≡ length counts.validators = ap length vs in
+    subst (λ (rs : List BestDescendant). IsArray array after rs best_room₁ changed_room₁) (sym same)
     (record {
       noted = record {
         nodes = ns ∙ a.noted.nodes;
-        length_is = ap length vs ∙ a.noted.length_is;
+        covers = (let o = a.noted.covers in omega arith);
         listed = λ k. ap (λ ws. (counted_of ws k).changed) vs ∙ a.noted.listed k;
         many = ap count_changed vs ∙ a.noted.many;
-        idle = λ k e. ap (λ ws. counted_of ws k) vs ∙ a.noted.idle k e;
+        idle = λ k e f. ap (λ ws. counted_of ws k) vs ∙ a.noted.idle k e (sym (ap (λ ws. (counted_of ws k).changed) vs) ∙ f);
         current = λ e k f. ap (λ ws. counted_of ws k) vs ∙ a.noted.current e k (sym (ap (λ ws. (counted_of ws k).changed) vs) ∙ f);
       };
       length_is = a.length_is;
@@ -163,18 +179,20 @@ kept_rooms array counts after bests bests₁ best_room best_room₁ a same vs ns
       tally_nodes = omega arith;
       best_nodes = omega arith;
       tally_validators = omega arith;
+      marks = omega arith;
     })
 
 -- what is spare alone changes, where there is room for it
-pub kept_spare : (array : PlainArray) (counts : Counts) (bests : List BestDescendant) (best_room nodes validators : ℕ) → IsArray array counts bests best_room → length array.nodes + nodes ≤ counts.node_room → length array.nodes + nodes ≤ best_room → validators ≤ counts.validator_room → IsArray (record array { spare_nodes = nodes; spare_validators = validators }) counts bests best_room
-unfolding message_of balance_of due
-kept_spare array counts bests best_room nodes validators a t r v = record {
-  noted = record { nodes = a.noted.nodes; length_is = a.noted.length_is; listed = a.noted.listed; many = a.noted.many; idle = a.noted.idle; current = a.noted.current };
+pub kept_spare : (array : PlainArray) (counts : Counts) (bests : List BestDescendant) (best_room changed_room nodes validators : ℕ) → IsArray array counts bests best_room changed_room → length array.nodes + nodes ≤ counts.node_room → length array.nodes + nodes ≤ best_room → validators ≤ counts.validator_room → IsArray (record array { spare_nodes = nodes; spare_validators = validators }) counts bests best_room changed_room
+unfolding message_of balance_of vote_of due
+kept_spare array counts bests best_room changed_room nodes validators a t r v = record {
+  noted = record { nodes = a.noted.nodes; covers = a.noted.covers; listed = a.noted.listed; many = a.noted.many; idle = a.noted.idle; current = a.noted.current };
   length_is = a.length_is;
   unchanged = λ e. same (a.unchanged e);
   tally_nodes = t;
   best_nodes = r;
   tally_validators = v;
+  marks = a.marks;
 }
   where
     same : IsUnchanged array counts bests → IsUnchanged (record array { spare_nodes = nodes; spare_validators = validators }) counts bests
@@ -182,11 +200,12 @@ kept_spare array counts bests best_room nodes validators a t r v = record {
 
 -- ---- a node more
 
-pub kept_node : (array : PlainArray) (counts after : Counts) (bests bests₁ : List BestDescendant) (best_room best_room₁ : ℕ) (told : PlainArray) (parent slot : ℕ) (root : List ℕ) (facts : Facts) (best : BestDescendant) → IsArray array counts bests best_room
+pub kept_node : (array : PlainArray) (counts after : Counts) (bests bests₁ : List BestDescendant) (best_room best_room₁ changed_room changed_room₁ : ℕ) (told : PlainArray) (parent slot : ℕ) (root : List ℕ) (facts : Facts) (best : BestDescendant) → IsArray array counts bests best_room changed_room
     → told ≡ with_node array parent slot root facts → after ≡ record counts { nodes = counts.nodes + 1; node_room = after.node_room } → bests₁ ≡ bests ++ best ∷ []
-    → counts.node_room ≤ after.node_room → length array.nodes + 1 ≤ after.node_room → best_room ≤ best_room₁ → length array.nodes + 1 ≤ best_room₁ → IsArray told after bests₁ best_room₁
-unfolding message_of balance_of due
-kept_node array counts after bests bests₁ best_room best_room₁ told parent slot root facts best a is tally more nodes node room best_in =
+    → counts.node_room ≤ after.node_room → length array.nodes + 1 ≤ after.node_room → best_room ≤ best_room₁ → length array.nodes + 1 ≤ best_room₁ → changed_room ≤ changed_room₁ → IsArray told after bests₁ best_room₁ changed_room₁
+unfolding message_of balance_of vote_of due
+kept_node array counts after bests bests₁ best_room best_room₁ changed_room changed_room₁ told parent slot root facts best a is tally more nodes node room best_in changed =
+    let vs : length after.validators ≡ length counts.validators = ap (λ (c : Counts). length c.validators) tally in let m = a.marks in
     let vr : after.validator_room ≡ counts.validator_room = ap (λ (c : Counts). c.validator_room) tally in
     let t = a.tally_nodes in let v = a.tally_validators in let r = a.best_nodes in
     let node₁ : Node = record { parent = Some parent; slot = slot; root = root; facts = facts } in
@@ -194,29 +213,31 @@ kept_node array counts after bests bests₁ best_room best_room₁ told parent s
     let k : length (bests ++ best ∷ []) ≡ length bests + 1 = length-append bests (best ∷ []) in
     let c : counts.nodes ≡ length array.nodes = a.noted.nodes in
     let d : length bests ≡ length array.nodes = a.length_is in
-    subst (λ (t : PlainArray). IsArray t after bests₁ best_room₁) (sym is)
+    subst (λ (t : PlainArray). IsArray t after bests₁ best_room₁ changed_room₁) (sym is)
     (record {
-      noted = subst (λ (c : Counts). IsNoted (with_node array parent slot root facts) c) (sym tally) (record { nodes = omega arith; length_is = a.noted.length_is; listed = a.noted.listed; many = a.noted.many; idle = a.noted.idle; current = a.noted.current });
+      noted = subst (λ (c : Counts). IsNoted (with_node array parent slot root facts) c) (sym tally) (record { nodes = omega arith; covers = a.noted.covers; listed = a.noted.listed; many = a.noted.many; idle = a.noted.idle; current = a.noted.current });
       length_is = ap length more ∙ (let e : length (bests ++ best ∷ []) ≡ length (array.nodes ++ node₁ ∷ []) = omega arith in e);
       unchanged = λ e. absurd cc;
       tally_nodes = omega arith;
       best_nodes = omega arith;
       tally_validators = omega arith;
+      marks = omega arith;
     })
 
 -- ---- a new array
 
-pub new_whole : (slots percent slot : ℕ) (root : List ℕ) (facts : Facts) (array : PlainArray) (counts : Counts) (bests : List BestDescendant) (best_room : ℕ) → array ≡ new_array slots percent slot root facts → counts.validators ≡ [] → counts.nodes ≡ 1 → 1 ≤ counts.node_room → length bests ≡ 1 → 1 ≤ best_room → IsArray array counts bests best_room
+pub new_whole : (slots percent slot : ℕ) (root : List ℕ) (facts : Facts) (array : PlainArray) (counts : Counts) (bests : List BestDescendant) (best_room changed_room : ℕ) → array ≡ new_array slots percent slot root facts → counts.validators ≡ [] → counts.nodes ≡ 1 → 1 ≤ counts.node_room → length bests ≡ 1 → 1 ≤ best_room → IsArray array counts bests best_room changed_room
 unfolding is_listed count_changed counted_of message_of
-new_whole slots percent slot root facts array counts bests best_room is validators nodes room len best_in =
-    subst (λ (a : PlainArray). IsArray a counts bests best_room) (sym is)
+new_whole slots percent slot root facts array counts bests best_room changed_room is validators nodes room len best_in =
+    let l : length counts.validators ≡ 0 = ap length validators in
+    subst (λ (a : PlainArray). IsArray a counts bests best_room changed_room) (sym is)
     (record {
       noted = record {
         nodes = nodes;
-        length_is = ap length validators;
+        covers = omega arith;
         listed = λ v. ap (λ vs. (counted_of vs v).changed) validators;
         many = ap count_changed validators;
-        idle = λ v e. ap (λ vs. counted_of vs v) validators;
+        idle = λ v e f. ap (λ vs. counted_of vs v) validators;
         current = λ e v f. ap (λ vs. counted_of vs v) validators ∙ sym (due_none (new_array slots percent slot root facts) v (none v));
       };
       length_is = len;
@@ -224,6 +245,7 @@ new_whole slots percent slot root facts array counts bests best_room is validato
       tally_nodes = omega arith;
       best_nodes = omega arith;
       tally_validators = omega arith;
+      marks = omega arith;
     })
   where
     none : (v : ℕ) → message_of (new_array slots percent slot root facts) v ≡ None
@@ -233,7 +255,7 @@ new_whole slots percent slot root facts array counts bests best_room is validato
 
 due_unmarked : (array : PlainArray) (v : ℕ) → (due array v).changed ≡ false
 unfolding due
-due_unmarked array v = by (message_of array v)
+due_unmarked array v = by (vote_of array v)
   where
     by : (o : Option Message) → (option_map_or (λ message. record { node = message.node; balance = balance_of array v; changed = false }) o nothing).changed ≡ false
     by None = refl
@@ -251,7 +273,7 @@ none_marked (c ∷ validators) unmarked =
 module _ (array : PlainArray) (counts after : Counts) (counted : IsCounted array after) where
   beyond : (v : ℕ) → length after.validators ≤ v → message_of array v ≡ None
   unfolding message_of
-  beyond v past = get_or_past array.latest_messages v None (let l : length after.validators ≡ length array.latest_messages = counted.length_is in omega arith)
+  beyond v past = get_or_past array.latest_messages v None (let l : length array.latest_messages ≤ length after.validators = counted.covers in omega arith)
 
   all_due : (v : ℕ) → (v < length after.validators) ⊎ (length after.validators ≤ v) → counted_of after.validators v ≡ due array v
   unfolding counted_of
@@ -262,22 +284,23 @@ module _ (array : PlainArray) (counts after : Counts) (counted : IsCounted array
   unmarked v = ap (λ (c : Counted). c.changed) (all_due v (cases_lt v (length after.validators))) ∙ due_unmarked array v
 
   pub made_noted : IsNoted (made array) after
-  unfolding message_of balance_of due is_listed
+  unfolding message_of balance_of vote_of due is_listed
   made_noted = record {
     nodes = counted.nodes;
-    length_is = counted.length_is;
+    covers = counted.covers;
     listed = λ v. unmarked v;
     many = none_marked after.validators unmarked;
-    idle = λ v none. all_due v (cases_lt v (length after.validators)) ∙ due_none array v none;
+    idle = λ v none f. all_due v (cases_lt v (length after.validators)) ∙ due_none array v none;
     current = λ e v f. all_due v (cases_lt v (length after.validators));
   }
 
-pub kept_made : (array : PlainArray) (counts after : Counts) (bests bests₁ : List BestDescendant) (best_room best_room₁ : ℕ) (told : PlainArray) → IsArray array counts bests best_room → told ≡ made array → IsCounted array after → after ≡ record counts { validators = after.validators; boost = after.boost } → length bests₁ ≡ length array.nodes → IsMade array bests₁ → best_room ≤ best_room₁ → IsArray told after bests₁ best_room₁
-kept_made array counts after bests bests₁ best_room best_room₁ told a is counted same len m room =
+pub kept_made : (array : PlainArray) (counts after : Counts) (bests bests₁ : List BestDescendant) (best_room best_room₁ changed_room changed_room₁ : ℕ) (told : PlainArray) → IsArray array counts bests best_room changed_room → told ≡ made array → IsCounted array after → after ≡ record counts { validators = after.validators; boost = after.boost } → length after.validators ≡ length counts.validators → length bests₁ ≡ length array.nodes → IsMade array bests₁ → best_room ≤ best_room₁ → changed_room ≤ changed_room₁ → IsArray told after bests₁ best_room₁ changed_room₁
+kept_made array counts after bests bests₁ best_room best_room₁ changed_room changed_room₁ told a is counted same vs len m room changed =
+    let marks = a.marks in
     let t = a.tally_nodes in let v = a.tally_validators in let r = a.best_nodes in
     let nr : after.node_room ≡ counts.node_room = ap (λ (c : Counts). c.node_room) same in
     let vr : after.validator_room ≡ counts.validator_room = ap (λ (c : Counts). c.validator_room) same in
-    subst (λ (t : PlainArray). IsArray t after bests₁ best_room₁) (sym is)
+    subst (λ (t : PlainArray). IsArray t after bests₁ best_room₁ changed_room₁) (sym is)
     (record {
       noted = made_noted array counts after counted;
       length_is = len;
@@ -285,6 +308,7 @@ kept_made array counts after bests bests₁ best_room best_room₁ told a is cou
       tally_nodes = omega arith;
       best_nodes = omega arith;
       tally_validators = omega arith;
+      marks = omega arith;
     })
 
 module _ (array : PlainArray) (bests : List BestDescendant) (m : IsMade array bests) where

@@ -18,6 +18,7 @@ new_array slots_per_epoch percent slot root facts = record {
   justified_checkpoint = record { epoch = 0; root = root };
   finalized_checkpoint = record { epoch = 0; root = root };
   boosted_node = None;
+  silenced_validators = [];
   changed_validators = [];
   balances_set = false;
   anything_changed = true;
@@ -60,6 +61,6 @@ with_boost array node = record array { boosted_node = node; anything_changed = t
 abbrev pub made : PlainArray → PlainArray
 made array = record array { changed_validators = []; balances_set = false; anything_changed = false }
 
--- room for a node more, and for the votes of validators below a number
+-- room for a node more, and for the votes and the silencing of validators below a number
 abbrev pub with_spare : PlainArray → ℕ → PlainArray
 with_spare array validators = record array { spare_nodes = max array.spare_nodes 1; spare_validators = max array.spare_validators validators }

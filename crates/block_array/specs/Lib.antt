@@ -4,6 +4,7 @@ pub mod GetAncestor
 pub mod GetHead
 pub mod GetLatestAttestingBalance
 pub mod PlainArray
+pub mod Silence
 pub mod UpdateLatestMessages
 pub mod Work
 pub mod inside

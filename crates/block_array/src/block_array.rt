@@ -1,11 +1,12 @@
 //! The array of nodes: what it is told, what is counted, and what is made of it.
 //!
-//! The store above tells nodes, votes, balances, checkpoints and the boost. `apply` makes weights and the head, which `weight`
-//! and `head` then look up.
+//! The store above tells nodes, votes, balances, checkpoints, the boost and who is silenced. `apply` makes weights and the head, which
+//! `weight` and `head` then look up.
 
 ghost use Rattle.std.specs.Prelude.{◌≡◌, ◌+◌, ◌<◌, ◌≤◌, ◌^◌, ◌-◌, false, length, vec_capacity, IfSome, IfOk, IsOk};
 ghost use Rattle.bc_words.specs.Outcome.{Becomes};
 ghost use Rattle.block_array.specs.PlainArray.{slot_at};
+ghost use Rattle.block_array.specs.Silence.{silence};
 ghost use Rattle.block_array.specs.Calls.{new_array, with_node, with_balances, with_checkpoints, with_boost, with_spare, made};
 ghost use Rattle.block_array.specs.UpdateLatestMessages.{update_latest_message};
 ghost use Rattle.block_array.specs.GetAncestor.{get_ancestor};
@@ -21,8 +22,8 @@ use crate::get_ancestor::get_ancestor;
 use crate::inputs::Inputs;
 use crate::list::push_item;
 use crate::node::Message;
-use crate::note::note;
-use crate::room::{grow_nodes, grow_validators, room_for_node, room_for_vote};
+use crate::note::{note, note_silence};
+use crate::room::{grow_nodes, grow_validators, room_for_node, room_for_validator};
 use crate::tally::Tally;
 use crate::weight::weight_of;
 use bc_words::{NoMemory, Steps};
@@ -62,7 +63,7 @@ impl Model for BlockArray {
 
     ghost view = { λ a. a.inputs.array };
 
-    ghost invariant = { λ a. IsArray a.inputs.array a.tally a.bests.items (vec_capacity a.bests) };
+    ghost invariant = { λ a. IsArray a.inputs.array a.tally a.bests.items (vec_capacity a.bests) a.inputs.changed_room };
 }
 
 impl BlockArray {
@@ -92,8 +93,8 @@ impl BlockArray {
         })
     }
 
-    /// Makes room: afterwards the next `push`, and each `vote` of a validator below this number, can't fail. Where memory is
-    /// refused, all is as before.
+    /// Makes room: afterwards the next `push`, and each `vote` and `silence` of a validator below this number, can't fail. Where
+    /// memory is refused, all is as before.
     pub fn reserve(&mut self, validators: u64) -> Result<(), NoMemory>
         ensures { Becomes result self.old self.new (with_spare self.old validators) }
     {
@@ -128,8 +129,8 @@ impl BlockArray {
         Ok(number)
     }
 
-    /// Takes a validator's vote for a node, by its target's epoch, where it has none or one of an earlier epoch, and else
-    /// changes nothing. Where memory is refused, all is as before.
+    /// Takes a validator's vote for a node, by its target's epoch, where it isn't silenced and has none or one of an earlier epoch,
+    /// and else changes nothing. Where memory is refused, all is as before.
     pub fn vote(&mut self, validator: u64, node: u32, epoch: u64) -> Result<(), NoMemory>
         requires { node < length self.old.nodes }
         ensures voted { Becomes result self.old self.new (update_latest_message self.old validator (record { epoch = epoch; node = node })) }
@@ -138,13 +139,27 @@ impl BlockArray {
         if !self.inputs.is_news(validator, epoch) {
             return Ok(());
         }
-        room_for_vote(&mut self.inputs, &mut self.tally, validator)?;
+        room_for_validator(&mut self.inputs, &mut self.tally, validator)?;
         note(
             &mut self.inputs,
             &mut self.tally,
             validator,
             Message { epoch, node },
         );
+        Ok(())
+    }
+
+    /// Silences a validator: it weighs nothing from then on, and no vote of it is taken. Where it is silenced already, nothing
+    /// changes. Where memory is refused, all is as before.
+    pub fn silence(&mut self, validator: u64) -> Result<(), NoMemory>
+        ensures silenced { Becomes result self.old self.new (silence self.old validator) }
+        ensures spare { validator < self.old.spare_validators → IsOk result }
+    {
+        if self.inputs.is_silenced(validator) {
+            return Ok(());
+        }
+        room_for_validator(&mut self.inputs, &mut self.tally, validator)?;
+        note_silence(&mut self.inputs, &mut self.tally, validator);
         Ok(())
     }
 
@@ -183,7 +198,8 @@ impl BlockArray {
     }
 
     /// Makes weights and the head, where anything changed. A step is the delta of one validator, or one visit of a node: at
-    /// most a delta for each changed validator, or for each that voted where balances were set, and two visits of each node.
+    /// most a delta for each changed validator, or where balances were set for each that voted or was silenced, and two visits of each
+    /// node.
     /// The nodes before the justified one, from which no head is looked for, aren't visited.
     pub fn apply<L: Ledger>(&mut self, steps: &mut Steps<L>)
         ensures up_to_date { self.new ≡ made self.old }

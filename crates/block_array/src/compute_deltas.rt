@@ -1,4 +1,4 @@
-//! What is due is counted: the deltas of changed messages, or of all where balances were set, and the boost.
+//! What is due is counted: the deltas of changed messages and silenced validators, or of all where balances were set, and the boost.
 //!
 //! Messages and balances come from the inputs. A delta takes what was counted of a validator off its old node, and counts its
 //! balance at the new one.
@@ -20,7 +20,7 @@ use std::sync::ledger::Ledger;
 const MARKS_A_DELTA: usize = 32;
 
 /// Counts what is due of a validator. One delta.
-#[tactic(auto, unfolding(crate::specs::inside::Held::due, crate::specs::PlainArray::message_of))]
+#[tactic(auto, unfolding(crate::specs::inside::Held::due))]
 fn compute_delta<L: Ledger>(
     inputs: &Inputs,
     tally: &mut Tally,
@@ -34,13 +34,13 @@ fn compute_delta<L: Ledger>(
 {
     steps.tick();
     let _nodes = inputs.nodes();
-    match inputs.message(validator) {
+    match inputs.vote(validator) {
         Some(message) => tally.count(validator as usize, message.node, inputs.balance(validator)),
         None => tally.count(validator as usize, 0, 0),
     }
 }
 
-/// Counts what is due of each validator whose message changed. A delta of each.
+/// Counts what is due of each validator that changed. A delta of each.
 #[tactic(auto, using(crate::proofs::Noting::changing))]
 fn compute_changed_deltas<L: Ledger>(inputs: &Inputs, tally: &mut Tally, steps: &mut Steps<L>)
     requires noted { IsNoted inputs.now.array tally.old }
@@ -56,16 +56,14 @@ fn compute_changed_deltas<L: Ledger>(inputs: &Inputs, tally: &mut Tally, steps: 
     }
 }
 
-/// Whether a validator has a delta: where balances were set, if it has a message, and else if that changed.
+/// Whether a validator has a delta: it changed, or balances were set and it has a message.
+#[tactic(auto, unfolding(crate::specs::inside::Noted::has_delta))]
 fn has_delta(inputs: &Inputs, tally: &Tally, validator: usize) -> bool
     requires { validator < length tally.now.validators }
     ensures { result ≡ has_delta inputs.now.array tally.now.validators validator }
 {
-    if inputs.balances_set() {
-        inputs.message(validator as u64).is_some()
-    } else {
-        tally.is_changed(validator)
-    }
+    tally.is_changed(validator)
+        || inputs.balances_set() && inputs.message(validator as u64).is_some()
 }
 
 /// Counts what is due of a validator, if it has a delta. A delta of it.
@@ -96,14 +94,14 @@ fn compute_deltas_in_order<L: Ledger>(inputs: &Inputs, tally: &mut Tally, steps:
     ensures same { tally.new ≡ record tally.old { validators = tally.new.validators } }
     ensures length_is { length tally.new.validators ≡ length tally.old.validators }
     ensures made { AreDue inputs.now.array tally.new.validators (length tally.new.validators) }
-    ensures steps { steps.new ≡ steps.old + deltas_of inputs.now.array }
+    ensures steps { steps.new ≤ steps.old + deltas_of inputs.now.array }
 {
     for validator in 0..tally.validators() {
         compute_delta_if_due(inputs, tally, validator, steps);
     }
 }
 
-/// Whether all validators are gone through in their order: where balances were set; or where so many messages changed, one in
+/// Whether all validators are gone through in their order: where balances were set; or where so many validators changed, one in
 /// thirty-two, that this is faster than to go through the changed ones in the order in which their votes came, where each may be
 /// far from the one before it.
 #[tactic(auto, unfolding(crate::specs::inside::Noted::goes_in_order))]
@@ -131,7 +129,8 @@ pub(crate) fn compute_deltas<L: Ledger>(inputs: &Inputs, tally: &mut Tally, step
     requires { IsNoted inputs.now.array tally.old }
     ensures counted { IsCounted inputs.now.array tally.new }
     ensures room { tally.new ≡ record tally.old { validators = tally.new.validators; boost = tally.new.boost } }
-    ensures steps { steps.new ≡ steps.old + deltas_of inputs.now.array }
+    ensures length_is { length tally.new.validators ≡ length tally.old.validators }
+    ensures steps { steps.new ≤ steps.old + deltas_of inputs.now.array }
 {
     if goes_in_order(inputs, tally) {
         compute_deltas_in_order(inputs, tally, steps);

@@ -1,10 +1,11 @@
-//! What the array is told: nodes, messages, balances, checkpoints and the boost.
+//! What the array is told: nodes, messages, balances, checkpoints, the boost and who is silenced.
 //!
 //! All of it comes from the store above. It says nothing of weights; those are made from it.
 
 ghost use Rattle.std.specs.Prelude.{◌≡◌, ◌+◌, ◌-◌, ◌*◌, ◌/◌, ◌<◌, ◌≤◌, ◌^◌, ◌∷◌, ◌++◌, [], false, true, max, length, slice_index_or, slice_set, vec_capacity, Some, IfSome, IfOk, OnOk};
-ghost use Rattle.block_array.specs.PlainArray.{slot_at, message_of, balance_of};
+ghost use Rattle.block_array.specs.PlainArray.{slot_at, message_of, vote_of, balance_of, is_listed};
 ghost use Rattle.block_array.specs.GetLatestAttestingBalance.{proposer_score};
+ghost use Rattle.block_array.specs.Silence.{with_index};
 ghost use Rattle.block_array.specs.UpdateLatestMessages.{with_message, with_changed, is_news};
 ghost use Rattle.block_array.specs.Calls.{new_array, with_node, with_balances, with_checkpoints, with_boost, made};
 ghost use Rattle.block_array.specs.inside.Held.{IsPlain};
@@ -12,14 +13,15 @@ ghost use Rattle.block_array.specs.inside.Held.{IsPlain};
 use crate::facts::Facts;
 use crate::list::{make_room, push_item};
 use crate::node::{Message, Node};
+use crate::validator_set::ValidatorSet;
 use bc_words::NoMemory;
 use beacon_types::Checkpoint;
 use hash_tree::Root;
 use std::alloc::Global;
 use std::marker::Model;
 
-/// Nodes in order of arrival, each validator's latest message and balance, the checkpoints and the boosted node; and what
-/// changed since weights were made.
+/// Nodes in order of arrival, each validator's latest message and balance, the checkpoints, the boosted node and the silenced
+/// validators; and what changed since weights were made.
 #[derive(Drop)]
 pub(crate) struct Inputs {
     slots_per_epoch: u64,
@@ -33,6 +35,7 @@ pub(crate) struct Inputs {
     justified: Checkpoint,
     finalized: Checkpoint,
     boosted_node: Option<u32>,
+    silenced: ValidatorSet,
     changed: Vec<u64>,
     balances_set: bool,
     anything_changed: bool,
@@ -87,6 +90,7 @@ impl Inputs {
             justified: checkpoint,
             finalized: checkpoint,
             boosted_node: None,
+            silenced: ValidatorSet::new(alloc),
             changed: Vec::new(alloc),
             balances_set: false,
             anything_changed: true,
@@ -103,14 +107,6 @@ impl Inputs {
         self.nodes.as_slice()
     }
 
-    /// How many validators have a place for a message.
-    pub(crate) fn validators(&self) -> usize
-        ensures same { result ≡ length self.now.array.latest_messages }
-        ensures room { length self.now.array.latest_messages ≤ self.now.changed_room }
-    {
-        self.messages.len()
-    }
-
     /// The message of a validator.
     #[tactic(auto, unfolding(crate::specs::PlainArray::message_of), using(crate::proofs::Items::reading))]
     pub(crate) fn message(&self, validator: u64) -> Option<Message>
@@ -122,10 +118,31 @@ impl Inputs {
         }
     }
 
-    /// Whether a message of an epoch is news of a validator: it has none, or one of an earlier epoch.
+    /// Whether a validator is silenced.
+    pub(crate) fn is_silenced(&self, validator: u64) -> bool
+        ensures { result ≡ is_listed self.now.array.silenced_validators validator }
+    {
+        self.silenced.has(validator)
+    }
+
+    /// The message by which a validator weighs: none where it is silenced.
+    #[tactic(auto, unfolding(crate::specs::PlainArray::vote_of))]
+    pub(crate) fn vote(&self, validator: u64) -> Option<Message>
+        ensures { result ≡ vote_of self.now.array validator }
+    {
+        if self.is_silenced(validator) {
+            return None;
+        }
+        self.message(validator)
+    }
+
+    /// Whether a message of an epoch is news of a validator: it has none, or one of an earlier epoch; and it isn't silenced.
     pub(crate) fn is_news(&self, validator: u64, epoch: u64) -> bool
         ensures { result ≡ is_news self.now.array validator epoch }
     {
+        if self.is_silenced(validator) {
+            return false;
+        }
         match self.message(validator) {
             Some(old) => old.epoch < epoch,
             None => true,
@@ -210,11 +227,12 @@ impl Inputs {
         self.spare_nodes
     }
 
-    /// For the votes of how many validators there is room everywhere.
+    /// For the votes and the silencing of how many validators there is room everywhere.
     pub(crate) fn spare_validators(&self) -> u64
         ensures same { result ≡ self.now.array.spare_validators }
         ensures messages { self.now.array.spare_validators ≤ self.now.message_room }
         ensures changed { self.now.array.spare_validators ≤ self.now.changed_room }
+        ensures silenced { self.now.array.spare_validators ≤ self.now.silenced_room }
         ensures few { self.now.array.spare_validators ≤ 2 ^ 40 }
     {
         self.spare_validators
@@ -231,14 +249,19 @@ impl Inputs {
 
     /// Makes room for so many validators in all.
     pub(crate) fn reserve_validators(&mut self, places: usize) -> Result<(), NoMemory>
-        ensures same { self.new ≡ record self.old { message_room = self.new.message_room; changed_room = self.new.changed_room } }
+        ensures same { self.new ≡ record self.old { message_room = self.new.message_room; changed_room = self.new.changed_room; silenced_room = self.new.silenced_room } }
         ensures messages { self.old.message_room ≤ self.new.message_room }
         ensures changed { self.old.changed_room ≤ self.new.changed_room }
+        ensures silenced { self.old.silenced_room ≤ self.new.silenced_room }
         ensures message_room { OnOk result (places ≤ self.new.message_room) }
         ensures changed_room { OnOk result (places ≤ self.new.changed_room) }
+        ensures silenced_room { OnOk result (places ≤ self.new.silenced_room) }
     {
         match make_room(&mut self.messages, places) {
-            Ok(()) => make_room(&mut self.changed, places),
+            Ok(()) => match make_room(&mut self.changed, places) {
+                Ok(()) => self.silenced.reserve(places),
+                Err(refused) => Err(refused),
+            },
             Err(refused) => Err(refused),
         }
     }
@@ -249,6 +272,7 @@ impl Inputs {
         requires nodes { length self.old.array.nodes + nodes ≤ self.old.node_room }
         requires messages { validators ≤ self.old.message_room }
         requires changed { validators ≤ self.old.changed_room }
+        requires silenced { validators ≤ self.old.silenced_room }
         requires few { validators ≤ 2 ^ 40 }
         ensures { self.new ≡ record self.old { array = record self.old.array { spare_nodes = nodes; spare_validators = validators } } }
     {
@@ -281,7 +305,6 @@ impl Inputs {
     #[tactic(auto, using(crate::proofs::Holding::putting))]
     pub(crate) fn put_message(&mut self, validator: u64, message: Message)
         requires room { validator < self.old.message_room }
-        requires changed { validator < self.old.changed_room }
         requires few { validator < 2 ^ 40 }
         requires node { message.node < length self.old.array.nodes }
         ensures put { self.new ≡ record self.old { array = record self.old.array { latest_messages = with_message self.old.array.latest_messages validator message; anything_changed = true }; message_room = self.new.message_room } }
@@ -291,7 +314,18 @@ impl Inputs {
         self.anything_changed = true;
     }
 
-    /// Notes that a validator's message changed. There is room for it.
+    /// Silences one more validator. There is room for it.
+    #[tactic(auto, using(crate::proofs::Holding::silencing))]
+    pub(crate) fn put_silenced(&mut self, validator: u64)
+        requires { validator < self.old.silenced_room }
+        ensures put { self.new ≡ record self.old { array = record self.old.array { silenced_validators = with_index self.old.array.silenced_validators validator; anything_changed = true }; silenced_room = self.new.silenced_room } }
+        ensures room { self.old.silenced_room ≤ self.new.silenced_room }
+    {
+        self.silenced.insert(validator);
+        self.anything_changed = true;
+    }
+
+    /// Notes that a validator changed. There is room for it.
     #[tactic(auto, using(crate::proofs::Holding::noting))]
     pub(crate) fn push_changed(&mut self, validator: u64)
         requires { length self.old.array.changed_validators < self.old.changed_room }

@@ -1,7 +1,7 @@
 //! The nodes of fork choice in order of arrival, with the votes for them.
 //!
-//! Nodes, votes, balances, checkpoints and the boost come from the store above; weights and the head go back to it. Balances
-//! are counted at the nodes that they are voted for, and only what changed is counted anew; then one pass from the last node
+//! Nodes, votes, balances, checkpoints, the boost and who is silenced come from the store above; weights and the head go back to it.
+//! Balances are counted at the nodes that they are voted for, and only what changed is counted anew; then one pass from the last node
 //! to the justified one makes weights and the head.
 #![tactic(auto)]
 
@@ -17,6 +17,7 @@ mod node;
 mod note;
 mod room;
 mod tally;
+mod validator_set;
 mod weight;
 
 pub use block_array::BlockArray;

@@ -1,4 +1,4 @@
-//! Room for nodes and for votes, in all lists that grow with them.
+//! Room for nodes, for votes and for silenced validators, in all lists that grow with them.
 
 ghost use Rattle.std.specs.Prelude.{◌≡◌, ◌+◌, ◌<◌, ◌≤◌, ◌^◌, length, vec_capacity, OnOk, IsOk};
 
@@ -8,7 +8,7 @@ use crate::list::make_room;
 use crate::tally::Tally;
 use bc_words::NoMemory;
 
-/// The greatest number of validators, that of a registry. No memory holds the votes of more.
+/// The greatest number of validators, that of a registry. No memory holds the votes of more, or silences more.
 const VALIDATOR_LIMIT: u64 = 1 << 40;
 
 /// Makes room for one node more.
@@ -68,13 +68,15 @@ pub(crate) fn grow_validators(
     tally: &mut Tally,
     places: u64,
 ) -> Result<(), NoMemory>
-    ensures inputs { inputs.new ≡ record inputs.old { message_room = inputs.new.message_room; changed_room = inputs.new.changed_room } }
+    ensures inputs { inputs.new ≡ record inputs.old { message_room = inputs.new.message_room; changed_room = inputs.new.changed_room; silenced_room = inputs.new.silenced_room } }
     ensures tally { tally.new ≡ record tally.old { validator_room = tally.new.validator_room } }
     ensures tally_more { tally.old.validator_room ≤ tally.new.validator_room }
     ensures messages_more { inputs.old.message_room ≤ inputs.new.message_room }
     ensures changed_more { inputs.old.changed_room ≤ inputs.new.changed_room }
+    ensures silenced_more { inputs.old.silenced_room ≤ inputs.new.silenced_room }
     ensures message_room { OnOk result (places ≤ inputs.new.message_room) }
     ensures changed_room { OnOk result (places ≤ inputs.new.changed_room) }
+    ensures silenced_room { OnOk result (places ≤ inputs.new.silenced_room) }
     ensures tally_room { OnOk result (places ≤ tally.new.validator_room) }
     ensures few { OnOk result (places ≤ 2 ^ 40) }
 {
@@ -87,18 +89,20 @@ pub(crate) fn grow_validators(
     }
 }
 
-/// Makes room for the vote of a validator, where its isn't spare.
-pub(crate) fn room_for_vote(
+/// Makes room for the vote of a validator, or to silence it, where its isn't spare.
+pub(crate) fn room_for_validator(
     inputs: &mut Inputs,
     tally: &mut Tally,
     validator: u64,
 ) -> Result<(), NoMemory>
     requires tally { inputs.old.array.spare_validators ≤ tally.old.validator_room }
-    ensures inputs { inputs.new ≡ record inputs.old { message_room = inputs.new.message_room; changed_room = inputs.new.changed_room } }
+    ensures inputs { inputs.new ≡ record inputs.old { message_room = inputs.new.message_room; changed_room = inputs.new.changed_room; silenced_room = inputs.new.silenced_room } }
     ensures tally { tally.new ≡ record tally.old { validator_room = tally.new.validator_room } }
     ensures tally_more { tally.old.validator_room ≤ tally.new.validator_room }
     ensures message_room { OnOk result (validator < inputs.new.message_room) }
+    ensures changed_more { inputs.old.changed_room ≤ inputs.new.changed_room }
     ensures changed_room { OnOk result (validator < inputs.new.changed_room) }
+    ensures silenced_room { OnOk result (validator < inputs.new.silenced_room) }
     ensures tally_room { OnOk result (validator < tally.new.validator_room) }
     ensures few { OnOk result (validator < 2 ^ 40) }
     ensures spare { validator < inputs.old.array.spare_validators → IsOk result }

@@ -35,7 +35,8 @@ forms =
     ∷ record { name = codes "duties"; arguments = file (codes "CONFIG") ∷ file (codes "STATE") ∷ number (codes "EPOCH") ∷ [] }
     ∷ record { name = codes "anchor"; arguments = file (codes "CONFIG") ∷ file (codes "STATE") ∷ file (codes "BLOCK") ∷ file (codes "RECORD") ∷ [] }
     ∷ record { name = codes "forensic"; arguments = file (codes "CONFIG") ∷ file (codes "GENESIS") ∷ file (codes "A") ∷ file (codes "B") ∷ [] }
-    ∷ record { name = codes "nodes"; arguments = number (codes "NUMBER") ∷ within (codes "COUNT") least_nodes most_nodes ∷ file (codes "CONFIG") ∷ [] } ∷ []
+    ∷ record { name = codes "nodes"; arguments = number (codes "NUMBER") ∷ within (codes "COUNT") least_nodes most_nodes ∷ file (codes "CONFIG") ∷ [] }
+    ∷ record { name = codes "slasher"; arguments = file (codes "CONFIG") ∷ file (codes "GENESIS") ∷ file (codes "A") ∷ file (codes "B") ∷ [] } ∷ []
 
 -- the greatest number that an argument can be
 abbrev pub greatest_number : ℕ
@@ -88,7 +89,7 @@ pub record AnchorFiles : Type 0 where
   pub block : List ℕ
   pub events : List ℕ
 
--- the files that the command `forensic CONFIG GENESIS A B` names
+-- the files that the commands `forensic CONFIG GENESIS A B` and `slasher CONFIG GENESIS A B` name
 pub record ForensicFiles : Type 0 where
   pub config : List ℕ
   pub genesis : List ℕ
@@ -110,6 +111,7 @@ pub data Command : Type 0 where
   anchor : AnchorFiles → Command
   forensic : ForensicFiles → Command
   nodes : NodesWords → Command
+  slasher : ForensicFiles → Command
 
 -- the number that u64's parser reads from a text
 abbrev pub number_in : List ℕ → Option ℕ
@@ -149,11 +151,17 @@ anchor_in rows =
     option_and_then (λ config. option_and_then (λ state. option_and_then (λ block. option_map (λ events. anchor (record { config = config; state = state; block = block; events = events }))
     (first_of (codes "RECORD") rows)) (first_of (codes "BLOCK") rows)) (first_of (codes "STATE") rows)) (first_of (codes "CONFIG") rows)
 
--- `forensic`, likewise
-abbrev pub forensic_in : List Row → Option Command
-forensic_in rows =
-    option_and_then (λ config. option_and_then (λ genesis. option_and_then (λ first. option_map (λ second. forensic (record { config = config; genesis = genesis; first = first; second = second }))
+-- the files of `forensic` and `slasher`, likewise
+abbrev pub records_in : List Row → Option ForensicFiles
+records_in rows =
+    option_and_then (λ config. option_and_then (λ genesis. option_and_then (λ first. option_map (λ second. record { config = config; genesis = genesis; first = first; second = second })
     (first_of (codes "B") rows)) (first_of (codes "A") rows)) (first_of (codes "GENESIS") rows)) (first_of (codes "CONFIG") rows)
+
+abbrev pub forensic_in : List Row → Option Command
+forensic_in rows = option_map forensic (records_in rows)
+
+abbrev pub slasher_in : List Row → Option Command
+slasher_in rows = option_map slasher (records_in rows)
 
 -- so many nodes there can be
 pub record IsNodeCount (count : ℕ) : Type 0 where
@@ -182,7 +190,8 @@ named_command p =
     else if bytes_eq p.0 (codes "duties") then duties_in p.1
     else if bytes_eq p.0 (codes "anchor") then anchor_in p.1
     else if bytes_eq p.0 (codes "forensic") then forensic_in p.1
-    else if bytes_eq p.0 (codes "nodes") then nodes_in p.1 else None
+    else if bytes_eq p.0 (codes "nodes") then nodes_in p.1
+    else if bytes_eq p.0 (codes "slasher") then slasher_in p.1 else None
 
 -- the command that clap's own function of the words gives
 abbrev pub given_command : List (List ℕ) → Option Command
@@ -211,3 +220,4 @@ names_of (Some (duties words)) = words.config ∷ words.state ∷ []
 names_of (Some (anchor files)) = files.config ∷ files.state ∷ files.block ∷ files.events ∷ []
 names_of (Some (forensic files)) = files.config ∷ files.genesis ∷ files.first ∷ files.second ∷ []
 names_of (Some (nodes words)) = words.config ∷ []
+names_of (Some (slasher files)) = files.config ∷ files.genesis ∷ files.first ∷ files.second ∷ []

@@ -2,8 +2,8 @@
 
 ghost use Rattle.std.specs.Prelude.{◌≡◌, ◌↔◌, Some, None, Result, Ok, Err, map, option_map, string_bytes, true, IfSome};
 ghost use Rattle.clap.specs.Words.{first_of, found_of, kind_of, rows_of, takes};
-ghost use Rattle.command_words.specs.Commands.{anchor_in, command_line, drill_in, duties_in, forensic_in, genesis_in, IsNodeCount, named_command, node_count_of, nodes_in, number_in, number_of, replay_in};
-ghost use Rattle.command_words.specs.inside.Reading.{command_value, ReadsCommand};
+ghost use Rattle.command_words.specs.Commands.{anchor_in, command_line, drill_in, duties_in, forensic_in, genesis_in, IsNodeCount, named_command, node_count_of, nodes_in, number_in, number_of, records_in, replay_in, slasher_in};
+ghost use Rattle.command_words.specs.inside.Reading.{command_value, files_value, ReadsCommand};
 
 use crate::forms::{LEAST_NODES, MOST_NODES};
 use crate::line::line;
@@ -65,7 +65,7 @@ pub struct AnchorFiles<'a> {
     pub events: &'a str,
 }
 
-/// The files of the command `forensic CONFIG GENESIS A B`.
+/// The files of the commands `forensic CONFIG GENESIS A B` and `slasher CONFIG GENESIS A B`.
 #[derive(Clone, Copy)]
 pub struct ForensicFiles<'a> {
     /// The configuration's name.
@@ -91,10 +91,12 @@ pub enum Command<'a> {
     Duties(DutiesWords<'a>),
     /// A record of events on a state and its block.
     Anchor(AnchorFiles<'a>),
-    /// Two records on a genesis state.
+    /// Two records on a genesis state, and what is found of them.
     Forensic(ForensicFiles<'a>),
     /// Nodes that are delivered two made chains.
     Nodes(NodesWords<'a>),
+    /// Two records on a genesis state, and the attester slashings that they give.
+    Slasher(ForensicFiles<'a>),
 }
 
 /// Why the words give no command.
@@ -181,16 +183,30 @@ fn anchor_in<'a>(found: &ArgMatches<'a>) -> Option<Command<'a>>
     }))
 }
 
-/// The command `forensic`, where each of its arguments has a value.
-fn forensic_in<'a>(found: &ArgMatches<'a>) -> Option<Command<'a>>
-    ensures { option_map command_value result ≡ forensic_in (rows_of (found_of found.now)) }
+/// The files of two records on a genesis state, where each of these arguments has a value.
+fn records_in<'a>(found: &ArgMatches<'a>) -> Option<ForensicFiles<'a>>
+    ensures { option_map files_value result ≡ records_in (rows_of (found_of found.now)) }
 {
-    Some(Command::Forensic(ForensicFiles {
+    Some(ForensicFiles {
         config: text_of(found, "CONFIG")?,
         genesis: text_of(found, "GENESIS")?,
         first: text_of(found, "A")?,
         second: text_of(found, "B")?,
-    }))
+    })
+}
+
+/// The command `forensic`, where each of its arguments has a value.
+fn forensic_in<'a>(found: &ArgMatches<'a>) -> Option<Command<'a>>
+    ensures { option_map command_value result ≡ forensic_in (rows_of (found_of found.now)) }
+{
+    Some(Command::Forensic(records_in(found)?))
+}
+
+/// The command `slasher`, where each of its arguments has a value.
+fn slasher_in<'a>(found: &ArgMatches<'a>) -> Option<Command<'a>>
+    ensures { option_map command_value result ≡ slasher_in (rows_of (found_of found.now)) }
+{
+    Some(Command::Slasher(records_in(found)?))
 }
 
 /// The first value of the argument with this label, where it is a number of nodes.
@@ -234,6 +250,8 @@ fn named<'a>(name: &str, found: &ArgMatches<'a>) -> Option<Command<'a>>
         forensic_in(found)
     } else if name == "nodes" {
         nodes_in(found)
+    } else if name == "slasher" {
+        slasher_in(found)
     } else {
         None
     }

@@ -53,7 +53,7 @@ pub const LEAST_NODES: u64 = 2;
 pub const MOST_NODES: u64 = 16;
 
 /// The commands.
-pub static COMMANDS: [Form; 7] = [
+pub static COMMANDS: [Form; 8] = [
     Form {
         name: "replay",
         arguments: &[
@@ -102,6 +102,15 @@ pub static COMMANDS: [Form; 7] = [
             Argument::Number("NUMBER"),
             Argument::Within("COUNT", LEAST_NODES, MOST_NODES),
             Argument::File("CONFIG"),
+        ],
+    },
+    Form {
+        name: "slasher",
+        arguments: &[
+            Argument::File("CONFIG"),
+            Argument::File("GENESIS"),
+            Argument::File("A"),
+            Argument::File("B"),
         ],
     },
 ];

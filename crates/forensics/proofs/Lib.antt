@@ -1,12 +1,17 @@
 pub mod ActiveLists
 pub mod BlockVotes
 pub mod Books
+pub mod Carriers
 pub mod Chained
 pub mod Histories
 pub mod Kept
+pub mod Listing
 pub mod Offenders
 pub mod Once
 pub mod Places
 pub mod Presets
+pub mod Published
+pub mod Searching
+pub mod Sorting
 pub mod Votes
 pub mod Watches

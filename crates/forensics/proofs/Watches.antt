@@ -5,7 +5,7 @@ use Rattle.spec_state.specs.Accessors.{get_current_epoch}
 use Rattle.spec_forensics.specs.Steady.{is_steady_at}
 use Rattle.spec_forensics.specs.Verdict.{first_moved}
 use Rattle.transition.specs.Shown.{shown_all}
-use Rattle.forensics.specs.Watches.{PlainWatch, with_entered}
+use Rattle.forensics.specs.Watches.{with_entered}
 
 -- what one state more makes of it
 unfoldable pub or_moved : Option ℕ → Bool → ℕ → Option ℕ

@@ -1,6 +1,7 @@
 pub mod ActiveLists
 pub mod Added
 pub mod BlockVotes
+pub mod Carriers
 pub mod Entries
 pub mod Kept
 pub mod Offenders

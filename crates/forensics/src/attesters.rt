@@ -1,42 +1,22 @@
-//! Who attested in the attestations of a block, by the state behind it.
+//! The attestations of a block with who attested in them, by the state behind it.
 
 ghost use Rattle.std.specs.Prelude.{◌≡◌, ◌⊎◌, ◌<◌, All, IfOk, map};
 ghost use Rattle.spec_state.specs.Misc.{compute_epoch_at_slot};
-ghost use Rattle.spec_state.specs.Accessors.{get_committee_count_per_slot, get_current_epoch, get_previous_epoch};
+ghost use Rattle.spec_state.specs.Accessors.{get_current_epoch, get_previous_epoch};
 ghost use Rattle.spec_state.specs.inside.EpochCommittees.{epoch_committees};
 ghost use Rattle.spec_forensics.specs.CarriedVotes.{WasProcessed};
-ghost use Rattle.vote_spans.specs.Room.{StandOnce};
-ghost use Rattle.forensics.specs.inside.BlockVotes.{attesters_in};
+ghost use Rattle.forensics.specs.inside.Carriers.{attested_in};
 
+use crate::kept_attestation::KeptAttestation;
 use crate::made::Made;
 use crate::recent::{Recent, recent_of};
-use attest_ops::attesting_indices;
 use balance_totals::current_epoch;
 use bc_words::NoMemory;
 use beacon_body::Attestation;
 use beacon_state::State;
 use committees::EpochCommittees;
 use std::alloc::Global;
-
-/// The members of the attestation's committee that attested. The committees are those of the epoch of its slot.
-#[tactic(auto, unfolding(crate::specs::inside::BlockVotes::attesters_in, spec_state::specs::Accessors::get_attesting_indices), using(spec_state::proofs::BeaconCommittees::committee_is_published))]
-fn members_of(
-    alloc: Global,
-    state: &State,
-    committees: &EpochCommittees,
-    attestation: &Attestation,
-) -> Result<Vec<u64>, NoMemory>
-    requires committees { committees.now ≡ epoch_committees state.now (compute_epoch_at_slot state.now.preset attestation.now.content.slot) }
-    requires index { attestation.now.content.index < get_committee_count_per_slot state.now (compute_epoch_at_slot state.now.preset attestation.now.content.slot) }
-    ensures exact { IfOk result (λ members. members.items ≡ attesters_in state.now attestation.now) }
-{
-    let _preset = state.preset();
-    let content = &attestation.content;
-    match committees.committee(content.slot, content.index) {
-        Some(members) => attesting_indices(alloc, members, attestation.aggregation_bits.as_bits()),
-        None => unreachable!(),
-    }
-}
+use std::rc::Rc;
 
 /// The committees of the epoch of a slot, which is the previous or the current one.
 #[tactic(auto, unfolding(spec_state::specs::Misc::compute_epoch_at_slot))]
@@ -45,11 +25,11 @@ fn committees_at<'a>(
     previous: &'a Made,
     current: &'a Made,
     slot: u64,
-) -> &'a EpochCommittees
+) -> &'a Rc<EpochCommittees>
     requires previous { previous.now ≡ epoch_committees state.now (get_previous_epoch state.now) }
     requires current { current.now ≡ epoch_committees state.now (get_current_epoch state.now) }
     requires recent { (compute_epoch_at_slot state.now.preset slot ≡ get_previous_epoch state.now) ⊎ (compute_epoch_at_slot state.now.preset slot ≡ get_current_epoch state.now) }
-    ensures { result.now ≡ epoch_committees state.now (compute_epoch_at_slot state.now.preset slot) }
+    ensures { result.now.value ≡ epoch_committees state.now (compute_epoch_at_slot state.now.preset slot) }
 {
     let preset = state.preset();
     preset.bounds();
@@ -60,39 +40,53 @@ fn committees_at<'a>(
     }
 }
 
-/// The attesters of an attestation that a state of the epoch processed.
-fn attesters_of(
-    alloc: Global,
+/// An attestation that a state of the epoch processed, to be kept.
+fn kept(
     state: &State,
     previous: &Made,
     current: &Made,
     attestation: &Attestation,
-) -> Result<Vec<u64>, NoMemory>
+) -> Result<KeptAttestation, NoMemory>
     requires previous { previous.now ≡ epoch_committees state.now (get_previous_epoch state.now) }
     requires current { current.now ≡ epoch_committees state.now (get_current_epoch state.now) }
     requires processed { WasProcessed state.now attestation.now }
-    ensures { IfOk result (λ members. members.items ≡ attesters_in state.now attestation.now) }
+    ensures { IfOk result (λ kept. kept ≡ attested_in state.now attestation.now) }
 {
+    let _preset = state.preset();
     let committees = committees_at(state, previous, current, attestation.content.slot);
-    members_of(alloc, state, committees, attestation)
+    KeptAttestation::new(attestation, committees)
 }
 
-/// The attesters of each attestation.
-fn list_attesters(
+/// Each of these attestations.
+fn keep_each(
     alloc: Global,
     state: &State,
     previous: &Made,
     current: &Made,
     attestations: &[Attestation],
-) -> Result<Vec<Vec<u64>>, NoMemory>
+) -> Result<Vec<KeptAttestation>, NoMemory>
     requires previous { previous.now ≡ epoch_committees state.now (get_previous_epoch state.now) }
     requires current { current.now ≡ epoch_committees state.now (get_current_epoch state.now) }
     requires processed { All (WasProcessed state.now) attestations.now }
-    ensures { IfOk result (λ lists. map (λ l. l.items) lists.items ≡ map (attesters_in state.now) attestations.now) }
+    ensures { IfOk result (λ all. all.items ≡ map (attested_in state.now) attestations.now) }
+{
+    let mut all = Vec::new(alloc);
+    for attestation in attestations {
+        all.push(kept(state, previous, current, attestation)?)?;
+    }
+    Ok(all)
+}
+
+/// The attesters of each.
+pub(crate) fn list_attesters(
+    alloc: Global,
+    attestations: &[KeptAttestation],
+) -> Result<Vec<Vec<u64>>, NoMemory>
+    ensures { IfOk result (λ lists. map (λ l. l.items) lists.items ≡ map (λ kept. kept.attesters) attestations.now) }
 {
     let mut lists = Vec::new(alloc);
-    for attestation in attestations {
-        lists.push(attesters_of(alloc, state, previous, current, attestation)?)?;
+    for kept in attestations {
+        lists.push(kept.attesters(alloc)?)?;
     }
     Ok(lists)
 }
@@ -109,21 +103,18 @@ impl RecentCommittees {
         RecentCommittees { kept: None }
     }
 
-    /// The attesters of each attestation of a block, by the state behind it. The committees of an epoch are mostly made
-    /// once.
-    pub(crate) fn attesters(
+    /// The attestations of a block, to be kept, by the state behind it. The committees of an epoch are mostly made once.
+    pub(crate) fn keep(
         &mut self,
         alloc: Global,
         state: &State,
         attestations: &[Attestation],
-    ) -> Result<Vec<Vec<u64>>, NoMemory>
+    ) -> Result<Vec<KeptAttestation>, NoMemory>
         requires { All (WasProcessed state.now) attestations.now }
-        ensures exact { IfOk result (λ lists. map (λ l. l.items) lists.items ≡ map (attesters_in state.now) attestations.now) }
-        ensures once { IfOk result (λ lists. StandOnce (map (λ l. l.items) lists.items)) }
+        ensures { IfOk result (λ all. all.items ≡ map (attested_in state.now) attestations.now) }
     {
-        let _preset = state.preset();
         let recent = recent_of(alloc, state, self.kept.take())?;
-        let lists = list_attesters(
+        let all = keep_each(
             alloc,
             state,
             &recent.previous,
@@ -131,6 +122,6 @@ impl RecentCommittees {
             attestations,
         )?;
         self.kept = Some(recent);
-        Ok(lists)
+        Ok(all)
     }
 }

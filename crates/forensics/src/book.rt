@@ -8,6 +8,7 @@ ghost use Rattle.spec_forensics.specs.Offences.{IsCarried, offences_below};
 ghost use Rattle.spec_forensics.specs.declared.verdict.Verdict.TheVariants.{Conflict};
 ghost use Rattle.safety_law.specs.Finals.{IsFinalOf};
 ghost use Rattle.forensics.specs.Books.{IsBeginning, begun, history_of, with_block, with_finalized, votes_of, verdict_on, clash_in, Adds};
+ghost use Rattle.spec_slasher.specs.AttestationOf.{attestation_of};
 ghost use Rattle.forensics.specs.inside.Kept.{kept_first, kept_second};
 
 use crate::book_stop::BookStop;
@@ -18,9 +19,9 @@ use bc_preset::Config;
 use bc_words::NoMemory;
 use beacon_body::BeaconBlock;
 use beacon_state::State;
-use beacon_types::Checkpoint;
+use beacon_types::{Checkpoint, IndexedAttestation};
 use hash_tree::Root;
-use spec_forensics::{Offence, Verdict};
+use spec_forensics::{Offence, Verdict, Vote};
 use std::alloc::Global;
 use std::marker::Model;
 
@@ -182,6 +183,17 @@ impl Book {
         ensures carried { IfOk result (λ list. All (IsCarried (votes_of self.now)) list.items) }
     {
         self.votes.offences(alloc)
+    }
+
+    /// The attestation that a vote names, with all its attesters in ascending order. None exactly where no added block carries it.
+    pub fn attestation(
+        &self,
+        alloc: Global,
+        vote: &Vote,
+    ) -> Result<Option<IndexedAttestation>, NoMemory>
+        ensures { IfOk result (λ found. found ≡ attestation_of self.now.genesis self.now.first self.now.second vote.now) }
+    {
+        self.votes.attestation(alloc, vote)
     }
 
     /// The verdict on the histories as they are closed. It takes no memory.

@@ -1,7 +1,8 @@
-//! Forensics: two histories on one genesis, the votes that their blocks carry, the offences among them, and
-//! the verdict.
+//! Forensics: two histories on one genesis, the votes that their blocks carry, the offences among them with the attester slashings
+//! that these give, and the verdict.
 //!
-//! Blocks come from the stores of two records, with the states behind them; offences and the verdict go to lines.
+//! Blocks come from the stores of two records, with the states behind them; offences and the verdict go to lines, attester slashings
+//! to a record.
 #![tactic(auto)]
 
 mod active_lists;
@@ -11,18 +12,23 @@ mod beginning;
 mod block_votes;
 mod book;
 mod book_stop;
+mod carrier;
 mod entries;
 mod history;
+mod indices;
 mod judge;
+mod kept_attestation;
 mod kept_blocks;
 mod made;
 mod recent;
+mod slashings;
 mod steady;
 mod vote_book;
 mod watch;
 
 pub use book::Book;
 pub use book_stop::BookStop;
+pub use slashings::operations;
 pub use spec_forensics::{Offence, OffenceKind, Verdict, Vote};
 pub use vote_book::VoteBook;
 pub use watch::Watch;

@@ -15,14 +15,15 @@ use committees::{DOMAIN_BEACON_ATTESTER, EpochCommittees, seed_of};
 use hash_tree::Root;
 use std::alloc::Global;
 use std::marker::Model;
+use std::rc::Rc;
 
-/// The committees of an epoch, and what they were made of. Clauses see the committees.
+/// The committees of an epoch, which kept attestations share, and what they were made of. Clauses see the committees.
 #[derive(Drop)]
 pub(crate) struct Made {
     preset: Preset,
     seed: Root,
     active: Vec<u64>,
-    committees: EpochCommittees,
+    committees: Rc<EpochCommittees>,
 }
 
 impl Model for Made {
@@ -32,9 +33,9 @@ impl Model for Made {
 
     ghost Value = { Committees };
 
-    ghost view = { λ made. made.committees };
+    ghost view = { λ made. made.committees.value };
 
-    ghost invariant = { λ made. IsPreset made.preset × (made.committees ≡ committees_of made.preset made.seed made.active.items) };
+    ghost invariant = { λ made. IsPreset made.preset × (made.committees.value ≡ committees_of made.preset made.seed made.active.items) };
 }
 
 /// The seed of the committees of an epoch, which is at most 2^61.
@@ -63,9 +64,9 @@ fn is_same_seed(a: &Root, b: &Root) -> bool
 }
 
 impl Made {
-    /// The committees.
-    pub(crate) fn committees(&self) -> &EpochCommittees
-        ensures { result.now ≡ self.now }
+    /// The committees, to be shared.
+    pub(crate) fn committees(&self) -> &Rc<EpochCommittees>
+        ensures { result.now.value ≡ self.now }
     {
         &self.committees
     }
@@ -87,7 +88,7 @@ impl Made {
     {
         let preset = *state.preset();
         let active = active(alloc, state, epoch)?;
-        let committees = committees_of_epoch(alloc, state, epoch)?;
+        let committees = Rc::new(alloc, committees_of_epoch(alloc, state, epoch)?)?;
         Ok(Made {
             preset,
             seed: attester_seed(state, epoch),

@@ -1,34 +1,40 @@
-//! The votes of two histories on one genesis, and what they come to. No block is kept, and of states a share of genesis alone.
+//! The votes of two histories on one genesis, and what they come to. Of blocks their attestations are kept, and of states a share of
+//! genesis alone.
 
-ghost use Rattle.std.specs.Prelude.{◌≡◌, ℕ, ◌<◌, ◌≤◌, ◌*◌, ◌∷◌, [], length, All, IfOk, None};
+ghost use Rattle.std.specs.Prelude.{◌≡◌, ℕ, ◌<◌, ◌≤◌, ◌*◌, ◌∷◌, [], length, All, IfOk, None, map};
 ghost use Rattle.bc_words.specs.Outcome.{Becomes};
+ghost use Rattle.std.specs.Option.{option_map};
 ghost use Rattle.spec_forensics.specs.Histories.{IsStepOn};
 ghost use Rattle.spec_forensics.specs.Offences.{IsCarried, offences_below};
 ghost use Rattle.spec_forensics.specs.Verdict.{first_moved};
 ghost use Rattle.spec_forensics.specs.declared.verdict.Verdict.TheVariants.{Conflict};
 ghost use Rattle.safety_law.specs.Finals.{IsFinalOf};
 ghost use Rattle.forensics.specs.Books.{IsBeginning, begun, history_of, with_block, with_finalized, votes_of, verdict_on, clash_in};
+ghost use Rattle.spec_slasher.specs.AttestationOf.{attestation_of};
+ghost use Rattle.forensics.specs.inside.Carriers.{attested_in, named_in};
 ghost use Rattle.forensics.specs.inside.Whole.{with_first, with_second, closed_first, closed_second};
 
-use crate::attesters::RecentCommittees;
+use crate::attesters::{RecentCommittees, list_attesters};
 use crate::beginning::begins;
 use crate::block_votes::add_votes;
 use crate::history::History;
 use crate::judge::judge;
+use crate::kept_attestation::KeptAttestation;
 use crate::watch::Watch;
 use bc_preset::Config;
 use bc_words::NoMemory;
 use beacon_body::BeaconBlock;
 use beacon_state::State;
-use beacon_types::Checkpoint;
+use beacon_types::{Checkpoint, IndexedAttestation};
 use hash_tree::Root;
-use spec_forensics::{Offence, Verdict};
+use spec_forensics::{Offence, Verdict, Vote};
 use std::alloc::Global;
 use std::marker::Model;
 use transition::Seen;
 use vote_spans::CarriedVotes;
 
-/// The votes that the blocks of two histories on one genesis carry, and what a verdict reads of each block.
+/// The votes that the blocks of two histories on one genesis carry, the attestations that they are of, and what a verdict reads of
+/// each block.
 #[derive(Drop)]
 pub struct VoteBook {
     config: Config,
@@ -62,16 +68,18 @@ fn add_to(
     state: &State,
     entered: &Seen,
     moved: Option<u64>,
+    attestations: Vec<KeptAttestation>,
 ) -> Result<(), NoMemory>
     requires one_genesis { second.old.genesis ≡ first.old.genesis }
     requires moved { moved ≡ first_moved first.old.genesis entered.now }
+    requires attestations { attestations.items ≡ map (attested_in state.now) block.now.body.attestations }
     ensures first { Becomes result first.old first.new (with_first which first.old record { event = event; root = root; block = block.now; state = state.now; entered = entered.now }) }
     ensures second { Becomes result second.old second.new (with_second which second.old record { event = event; root = root; block = block.now; state = state.now; entered = entered.now }) }
 {
     if which == 0 {
-        first.add(event, block, root, state, entered, moved)
+        first.add(event, block, root, state, entered, moved, attestations)
     } else {
-        second.add(event, block, root, state, entered, moved)
+        second.add(event, block, root, state, entered, moved, attestations)
     }
 }
 
@@ -85,6 +93,25 @@ fn close_one(first: &mut History, second: &mut History, which: u8, finalized: Ch
         first.close(finalized);
     } else {
         second.close(finalized);
+    }
+}
+
+/// The attestation that a vote of one of the validators below a number names, in the history that it is of.
+#[tactic(auto, unfolding(crate::specs::inside::Carriers::named_in))]
+fn named_in<'a>(
+    first: &'a History,
+    second: &'a History,
+    validators: u64,
+    vote: &Vote,
+) -> Option<&'a KeptAttestation>
+    ensures { option_map (λ kept. kept.now) result ≡ named_in validators vote.now first.now.blocks second.now.blocks }
+{
+    if vote.which == 0 {
+        first.named(validators, vote)
+    } else if vote.which == 1 {
+        second.named(validators, vote)
+    } else {
+        None
     }
 }
 
@@ -131,7 +158,8 @@ impl VoteBook {
         let _preset = state.preset();
         let _slot = state.slot();
         let attestations = block.body.attestations.as_slice();
-        let lists = self.committees.attesters(alloc, state, attestations)?;
+        let kept = self.committees.keep(alloc, state, attestations)?;
+        let lists = list_attesters(alloc, &kept)?;
         self.votes.reserve(&lists)?;
         add_to(
             &mut self.first,
@@ -143,6 +171,7 @@ impl VoteBook {
             state,
             watch.entered(),
             watch.moved(),
+            kept,
         )?;
         add_votes(&mut self.votes, which, event, root, attestations, &lists);
         Ok(())
@@ -165,6 +194,24 @@ impl VoteBook {
         ensures carried { IfOk result (λ list. All (IsCarried (votes_of self.now)) list.items) }
     {
         self.votes.offences(alloc)
+    }
+
+    /// The attestation that a vote names, with all its attesters in ascending order. None exactly where no added block carries it.
+    pub fn attestation(
+        &self,
+        alloc: Global,
+        vote: &Vote,
+    ) -> Result<Option<IndexedAttestation>, NoMemory>
+        ensures { IfOk result (λ found. found ≡ attestation_of self.now.genesis self.now.first self.now.second vote.now) }
+    {
+        let validators = self.genesis.validators_len();
+        match named_in(&self.first, &self.second, validators, vote) {
+            Some(kept) => {
+                let indexed = kept.indexed(alloc)?;
+                Ok(Some(indexed))
+            }
+            None => Ok(None),
+        }
     }
 
     /// The verdict on the histories as they are closed, which takes no memory. Where it is a conflict, the offenders have at least a

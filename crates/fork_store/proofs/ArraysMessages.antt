@@ -1,5 +1,5 @@
 -- Votes in the store and in its array: news in one is news in the other.
-use Rattle.std.proofs.Common.{◌≡◌, ℕ, zero, suc, ◌+◌, ◌<◌, ◌≤◌, Bool, true, false, cond, nat_lt, List, [], ◌∷◌, length, drop, fold, get_or, Option, Some, None, slice_index_or, refl, sym, ap, ap₂, subst, ◌∙◌, arith}
+use Rattle.std.proofs.Common.{◌≡◌, ℕ, zero, suc, ◌+◌, ◌<◌, ◌≤◌, Bool, true, false, cond, not, ◌&&◌, nat_lt, List, [], ◌∷◌, length, drop, fold, get_or, Option, Some, None, slice_index_or, refl, sym, ap, ap₂, subst, ◌∙◌, arith}
 use Rattle.std.specs.List.{AllByRecursion}
 use Rattle.std.specs.Option.{option_map, option_map_or}
 use Rattle.std.proofs.lemmas.List.{drop_all}
@@ -15,7 +15,7 @@ use Rattle.spec_fork_choice.specs.StoreTargetCheckpointState.{state_at, store_ta
 use Rattle.spec_fork_choice.specs.UpdateLatestMessages.{with_message, is_news, update_latest_message, update_latest_messages}
 use Rattle.fork_store.specs.Arrays.{message_at, messages_at, IsForNode, balances_at, IsArrayOf}
 use Rattle.fork_store.specs.inside.ArrayVotes.{updated_array}
-use Rattle.fork_store.proofs.ArraysVotes.{read_mapped}
+use Rattle.fork_store.proofs.ArraysVotes.{read_mapped, same_silenced}
 
 -- ---- one message
 
@@ -45,7 +45,7 @@ message_is : (nodes : List Node) (m : Message) → record { epoch = m.epoch; roo
 unfolding message_at
 message_is nodes m = refl
 
-chosen : (b c : Bool) (s t : Store) (x y : PlainArray) → b ≡ c → IsArrayOf s x → IsArrayOf t y → IsArrayOf (cond b s t) (cond c x y)
+pub chosen : (b c : Bool) (s t : Store) (x y : PlainArray) → b ≡ c → IsArrayOf s x → IsArrayOf t y → IsArrayOf (cond b s t) (cond c x y)
 chosen true true s t x y same one two = one
 chosen true false s t x y same one two = absurd cc
 chosen false true s t x y same one two = absurd cc
@@ -55,9 +55,11 @@ module _ (store : Store) (a : PlainArray) (is : IsArrayOf store a) (validator : 
   same_news : (epoch : ℕ) → is_news store validator epoch ≡ array.is_news a validator epoch
   unfolding is_news array.is_news message_of plain_array.message_of messages_at
   same_news epoch =
-      ap (λ (ms : List (Option LatestMessage)). option_map_or (λ old. nat_lt old.epoch epoch) (slice_index_or ms validator None) true) is.messages
+      ap (λ b. not b && option_map_or (λ (old : LatestMessage). nat_lt old.epoch epoch) (slice_index_or store.latest_messages validator None) true) (same_silenced store a is validator)
+      ∙ ap (λ b. not (plain_array.is_listed a.silenced_validators validator) && b)
+      (ap (λ (ms : List (Option LatestMessage)). option_map_or (λ old. nat_lt old.epoch epoch) (slice_index_or ms validator None) true) is.messages
       ∙ ap (λ (o : Option LatestMessage). option_map_or (λ old. nat_lt old.epoch epoch) o true) (read_mapped (message_at a.nodes) a.latest_messages validator)
-      ∙ news_by a.nodes epoch (slice_index_or a.latest_messages validator None)
+      ∙ news_by a.nodes epoch (slice_index_or a.latest_messages validator None))
 
   module _ (epoch node : ℕ) (root : List ℕ) (inside : node < length a.nodes) (named : root_at a.nodes node ≡ root) where
     keeps_vote : IsArrayOf (record store { latest_messages = with_message store.latest_messages validator (record { epoch = epoch; root = root }) })
@@ -70,6 +72,7 @@ module _ (store : Store) (a : PlainArray) (is : IsArrayOf store a) (validator : 
       named = is.named;
       messages = moved;
       voted = with_voted (length a.nodes) a.latest_messages validator (record { epoch = epoch; node = node }) inside is.voted;
+      silenced = is.silenced;
       balances = is.balances;
       justified = is.justified;
       justified_node = is.justified_node;

@@ -51,6 +51,7 @@ first_array config state block balances count total none ready =
       named = one_unkept kept (unclashed_root [] root _ block none);
       messages = refl;
       voted = tt;
+      silenced = refl;
       balances = ready;
       justified = refl;
       justified_node = one_number kept;

@@ -97,6 +97,7 @@ module _ (store : Store) (a : PlainArray) (is : IsArrayOf store a) where
         named = unkept_push store.blocks kept zero_root is.named named;
         messages = is.messages ∙ sym (messages_front a.nodes (node ∷ []) a.latest_messages is.voted);
         voted = voted_more (length a.nodes) (length (a.nodes ++ node ∷ [])) grown a.latest_messages is.voted;
+        silenced = is.silenced;
         balances = is.balances ∙ ap balances_of (sym (state_more store (kept ∷ []) store.justified_checkpoint a.justified_node is.justified_node));
         justified = is.justified;
         justified_node = number_more store.blocks (kept ∷ []) store.justified_checkpoint.root a.justified_node is.justified_node;
@@ -117,6 +118,7 @@ module _ (store : Store) (a : PlainArray) (is : IsArrayOf store a) where
     named = is.named;
     messages = is.messages;
     voted = is.voted;
+    silenced = is.silenced;
     balances = is.balances;
     justified = is.justified;
     justified_node = is.justified_node;
@@ -133,6 +135,7 @@ module _ (store : Store) (a : PlainArray) (is : IsArrayOf store a) where
     named = is.named;
     messages = is.messages;
     voted = is.voted;
+    silenced = is.silenced;
     balances = is.balances;
     justified = is.justified;
     justified_node = is.justified_node;
@@ -149,6 +152,7 @@ module _ (store : Store) (a : PlainArray) (is : IsArrayOf store a) where
     named = is.named;
     messages = is.messages;
     voted = is.voted;
+    silenced = is.silenced;
     balances = is.balances;
     justified = is.justified;
     justified_node = is.justified_node;

@@ -52,6 +52,7 @@ module _ (store : Store) (told : Told) (array : PlainArray) where
         named = fed.named;
         messages = fed.messages;
         voted = fed.voted;
+        silenced = fed.silenced;
         balances = fed.balances;
         justified = fed.justified ∙ j;
         justified_node = subst (λ (c : Checkpoint). node_number store.blocks c.root ≡ Some array.justified_node) j fed.justified_node;
@@ -68,6 +69,7 @@ module _ (store : Store) (told : Told) (array : PlainArray) where
     named = fed.named;
     messages = fed.messages;
     voted = fed.voted;
+    silenced = fed.silenced;
     balances = fed.balances;
     justified = refl;
     justified_node = sym at;
@@ -88,6 +90,7 @@ module _ (store : Store) (told : Told) (array : PlainArray) where
     named = fed.named;
     messages = fed.messages;
     voted = fed.voted;
+    silenced = fed.silenced;
     balances = fed.balances;
     justified = fed.justified ∙ j;
     justified_node = subst (λ (c : Checkpoint). node_number store.blocks c.root ≡ Some array.justified_node) j fed.justified_node;
@@ -107,6 +110,7 @@ module _ (store : Store) (told : Told) (array : PlainArray) where
     named = fed.named;
     messages = fed.messages;
     voted = fed.voted;
+    silenced = fed.silenced;
     balances = fed.balances;
     justified = fed.justified ∙ j;
     justified_node = subst (λ (c : Checkpoint). node_number store.blocks c.root ≡ Some array.justified_node) j fed.justified_node;
@@ -216,6 +220,7 @@ module _ (store : Store) (told : Told) (array : PlainArray) where
     named = a.named;
     messages = a.messages;
     voted = a.voted;
+    silenced = a.silenced;
     balances = balances;
     justified = a.justified;
     justified_node = a.justified_node;
@@ -233,6 +238,7 @@ module _ (store : Store) (told : Told) (array : PlainArray) where
     named = a.named;
     messages = a.messages;
     voted = a.voted;
+    silenced = a.silenced;
     balances = balances;
     justified = a.justified;
     justified_node = a.justified_node;

@@ -3,33 +3,38 @@ use Rattle.std.proofs.Common.{◌≡◌, ◌∙◌, ℕ, Bool, true, false, List
 use Rattle.std.specs.Cmp.Lexicographic.{bytes_decides}
 use Rattle.bc_words.specs.Outcome.{Outcome, done, refused, limited}
 use Rattle.bc_words.specs.Events.{EventOutcome, accepted, event_refused, event_limited, event_clashes, then_event, on_the_way as way_to}
-use Rattle.bc_words.specs.declared.refusal.Refusal.TheVariants.{TickBack, FcEmpty}
+use Rattle.bc_words.specs.declared.refusal.Refusal.TheVariants.{TickBack, FcEmpty, AsData, IndexRange}
 use Rattle.bc_words.specs.declared.store_stop.ClashKind.{ClashKind}
 use Rattle.bc_words.specs.declared.store_stop.StoreStop.{StoreStop}
 use Rattle.bc_preset.specs.declared.configuration.ConfigValues.{ConfigValues}
 use Rattle.beacon_types.specs.Equality.{same_root}
+use Rattle.beacon_types.specs.Slashable.{is_slashable_attestation_data}
 use Rattle.beacon_body.specs.declared.attestation.Attestation.{Attestation}
+use Rattle.beacon_body.specs.declared.attester_slashing.AttesterSlashing.{AttesterSlashing}
 use Rattle.beacon_body.specs.declared.block.BeaconBlock.{BeaconBlock}
 use Rattle.beacon_body.specs.declared.signed_block.SignedBeaconBlock.{SignedBeaconBlock}
-use Rattle.beacon_body.specs.Containers.{signed_block_codec, attestation_codec}
+use Rattle.beacon_body.specs.Containers.{signed_block_codec, attestation_codec, attester_slashing_codec}
 use Rattle.beacon_types.specs.declared.checkpoint.Checkpoint.{Checkpoint}
 use Rattle.spec_state.specs.declared.plain.PlainState.{PlainState}
 use Rattle.spec_state.specs.Genesis.{header_root_of}
 use Rattle.spec_state.specs.Accessors.{get_attesting_indices}
 use Rattle.spec_blocks.specs.Checks.{check}
+use Rattle.spec_blocks.specs.IsValidIndexedAttestation.{is_valid_indexed_attestation}
+use Rattle.spec_blocks.specs.ProcessAttesterSlashing.{in_both}
 use Rattle.spec_blocks.proofs.Done.{on_the_way, chosen, same_value}
 use Rattle.spec_transition.specs.ProcessSlots.{Stepped}
-use Rattle.spec_fork_choice.specs.Store.{KeptBlock, LatestMessage, Store, block_of, is_kept}
+use Rattle.spec_fork_choice.specs.Store.{KeptBlock, LatestMessage, Store, block_of, is_equivocating, is_kept}
 use Rattle.spec_fork_choice.specs.Slots.{get_current_slot}
 use Rattle.spec_fork_choice.specs.ShouldUpdateJustifiedCheckpoint.{should_update_justified_checkpoint}
 use Rattle.spec_fork_choice.specs.OnTick.{on_tick, in_new_slot, in_new_epoch}
 use Rattle.spec_fork_choice.specs.OnBlock.{BlockIn, block_step, accept_block, on_block, with_accepted, with_block, with_boost, with_justified, with_better_justified, with_best_justified, with_finalized}
-use Rattle.spec_fork_choice.specs.OnEvent.{Accepted, without_block, handle_tick, handle_block, handle_attestation, on_event}
+use Rattle.spec_fork_choice.specs.OnEvent.{Accepted, without_block, handle_tick, handle_block, handle_attestation, handle_attester_slashing, on_event}
 use Rattle.spec_fork_choice.specs.UpdateLatestMessages.{update_latest_message, update_latest_messages}
-use Rattle.spec_fork_choice.specs.StoreTargetCheckpointState.{store_target_checkpoint_state}
+use Rattle.spec_fork_choice.specs.StoreTargetCheckpointState.{kept_or, store_target_checkpoint_state}
 use Rattle.spec_fork_choice.specs.ValidateOnAttestation.{validate_on_attestation}
 use Rattle.spec_fork_choice.specs.OnAttestation.{check_target_committee, on_attestation}
-use Rattle.spec_fork_choice.proofs.Blocks.{tick_blocks, vote_blocks, accepted_blocks}
+use Rattle.spec_fork_choice.specs.OnAttesterSlashing.{with_equivocating, on_attester_slashing}
+use Rattle.spec_fork_choice.proofs.Blocks.{tick_blocks, vote_blocks, slashing_blocks, accepted_blocks}
 use Rattle.fork_store.specs.Events.{Accepts, AcceptsBy, accepted_of}
 use Rattle.fork_store.specs.declared.on_event.Accepted as handlers
 use Rattle.fork_store.specs.KeptStates.{KeepsState, KeepsStates}
@@ -112,6 +117,21 @@ vote_config old new attestation from_block is =
     ap (λ (s : Store). s.config) (sym (same_value (update_latest_messages old attesting attestation) new somebody.then_done))
     ∙ messages_config old (record { epoch = attestation.content.target.epoch; root = attestation.content.beacon_block_root }) attesting
 
+equivocating_config : (old : Store) (indices : List ℕ) → (fold with_equivocating old indices).config ≡ old.config
+unfolding with_equivocating
+equivocating_config old [] = refl
+equivocating_config old (index ∷ indices) = equivocating_config (with_equivocating old index) indices ∙ either_config (is_equivocating old index) old _ old.config refl refl
+
+slashing_config : (old new : Store) (slashing : AttesterSlashing) → on_attester_slashing old slashing ≡ done new → new.config ≡ old.config
+unfolding on_attester_slashing
+slashing_config old new slashing is =
+    let slashable = on_the_way (check (is_slashable_attestation_data slashing.attestation_1.content slashing.attestation_2.content) AsData) _ new is in
+    let justified = on_the_way (kept_or IndexRange (block_of old.blocks old.justified_checkpoint.root)) _ new slashable.then_done in
+    let first = on_the_way (is_valid_indexed_attestation justified.value.state slashing.attestation_1) _ new justified.then_done in
+    let second = on_the_way (is_valid_indexed_attestation justified.value.state slashing.attestation_2) _ new first.then_done in
+    let both = in_both slashing.attestation_1.attesting_indices slashing.attestation_2.attesting_indices in
+    ap (λ (s : Store). s.config) (sym (same_value (fold with_equivocating old both) new second.then_done)) ∙ equivocating_config old both
+
 -- ---- the states
 
 same_states : (old new : Store) → new.config ≡ old.config → new.blocks ≡ old.blocks → KeepsStates old new
@@ -192,6 +212,12 @@ read_vote old from_block None = tt
 read_vote old from_block (Some attestation) =
     no_block old (on_attestation old attestation from_block) (λ new is. same_states old new (vote_config old new attestation from_block is) (vote_blocks old new attestation from_block is))
 
+read_slashing : (old : Store) (read : Option AttesterSlashing) → Keeps old (handle_attester_slashing old read)
+unfolding handle_attester_slashing
+read_slashing old None = tt
+read_slashing old (Some slashing) =
+    no_block old (on_attester_slashing old slashing) (λ new is. same_states old new (slashing_config old new slashing is) (slashing_blocks old new slashing is))
+
 either_keeps : {A : Type 0} (old : Store) (choice : Bool) (x y : EventOutcome (Store × A)) → Keeps old x → Keeps old y → Keeps old (if choice then x else y)
 either_keeps old true x y h k = h
 either_keeps old false x y h k = k
@@ -205,9 +231,13 @@ unfolding on_event
 event old kind payload =
     let block_read = signed_block_codec.deserialize payload in
     let vote_read = attestation_codec.deserialize payload in
-    either_keeps old (kind == 1) (handle_tick old payload) (if kind == 2 then handle_block old block_read else handle_attestation old (kind == 4) vote_read)
+    let slashing_read = attester_slashing_codec.deserialize payload in
+    let slashing_or_vote = if kind == 5 then handle_attester_slashing old slashing_read else handle_attestation old (kind == 4) vote_read in
+    either_keeps old (kind == 1) (handle_tick old payload) (if kind == 2 then handle_block old block_read else slashing_or_vote)
     (read_tick old payload)
-    (either_keeps old (kind == 2) (handle_block old block_read) (handle_attestation old (kind == 4) vote_read) (read_block old block_read) (read_vote old (kind == 4) vote_read))
+    (either_keeps old (kind == 2) (handle_block old block_read) slashing_or_vote
+    (read_block old block_read)
+    (either_keeps old (kind == 5) (handle_attester_slashing old slashing_read) (handle_attestation old (kind == 4) vote_read) (read_slashing old slashing_read) (read_vote old (kind == 4) vote_read)))
 
 pub event_keeps_states : (old new : Store) (kind : ℕ) (payload : List ℕ) (given : Accepted) → on_event old kind payload ≡ accepted (new, given) → KeepsStates old new
 event_keeps_states old new kind payload given is = rw is at (event old kind payload)

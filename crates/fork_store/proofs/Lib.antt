@@ -33,6 +33,7 @@ pub mod Preparing
 pub mod Adding
 pub mod Settling
 pub mod Voting
+pub mod Silences
 pub mod Heads
 pub mod Anchors
 pub mod Opened

@@ -135,7 +135,7 @@ handled store attestation is_from_block =
     ∙ same_next (check_target_committee s attestation) _ _ (λ _.
     assoc (check (not (length (get_attesting_indices s attestation.content attestation.aggregation_bits) == 0)) FcEmpty) _ update)))
 
-stops_event : {A : Type 0} (stop : Stop) (outcome : Outcome A) → Stops stop outcome → StoreStops (store_stop stop) (event_of outcome)
+pub stops_event : {A : Type 0} (stop : Stop) (outcome : Outcome A) → Stops stop outcome → StoreStops (store_stop stop) (event_of outcome)
 stops_event (stops.Refused why) outcome e = ap event_of e
 stops_event (stops.Limit bound) outcome e = ap event_of e
 stops_event stops.NoMemory outcome e = tt

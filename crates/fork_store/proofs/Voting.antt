@@ -1,5 +1,5 @@
 -- The votes of an attestation in the array.
-use Rattle.std.proofs.Common.{◌≡◌, ◌∙◌, ◌<◌, ℕ, Bool, true, false, if◌then◌else◌, max, List, [], ◌∷◌, length, Option, Some, Result, Ok, Err, IsOk, refl, sym, ap, subst, arith}
+use Rattle.std.proofs.Common.{◌≡◌, ◌∙◌, ◌<◌, ap₂, ℕ, Bool, true, false, if◌then◌else◌, max, List, [], ◌∷◌, length, Option, Some, Result, Ok, Err, IsOk, refl, sym, ap, subst, arith}
 use Rattle.std.proofs.lemmas.Bool.{false≢true}
 use Rattle.bc_words.specs.Outcome.{Becomes}
 use Rattle.bc_words.specs.declared.stop.NoMemory.{NoMemory}
@@ -17,10 +17,19 @@ use Rattle.fork_store.specs.Arrays.{Balances, node_number, messages_at, IsArrayO
 use Rattle.fork_store.specs.inside.ArrayVotes.{updated_array}
 use Rattle.fork_store.specs.inside.Wholes.{IsReady, IsWhole}
 use Rattle.fork_store.proofs.Following.{number_fits}
-use Rattle.fork_store.proofs.Messages.{messages_voted}
+use Rattle.fork_store.proofs.Messages.{IsOf, messages_voted}
 use Rattle.fork_store.proofs.ArraysNodes.{root_of_number}
 use Rattle.fork_store.proofs.ArraysSteps.{keeps_spare}
 use Rattle.fork_store.proofs.ArraysMessages.{votes_begin, votes_step, votes_end, message_nodes, keeps_attestation}
+
+-- ---- a store whose messages and equivocating validators are those of an array
+
+pub store_taken : (store s after : Store) (new : PlainArray) → IsOf store s → IsArrayOf s new
+    → after ≡ record store { latest_messages = messages_at new.nodes new.latest_messages; equivocating_indices = new.silenced_validators } → after ≡ s
+store_taken store s after new of array is =
+    is
+    ∙ ap₂ (λ (messages : List (Option LatestMessage)) (indices : List ℕ). record store { latest_messages = messages; equivocating_indices = indices }) (sym array.messages) array.silenced
+    ∙ sym of
 
 -- ---- one vote
 
@@ -73,22 +82,19 @@ module _ (store : Store) (a told : PlainArray) (places : ℕ) (is : IsArrayOf st
         (keeps_attestation store told told_array indices attestation node (voter_fits attestation.content.beacon_block_root node at) named)
 
     -- a store whose votes are those of the array
-    pub store_voted : (after : Store) → after ≡ record store { latest_messages = messages_at new.nodes new.latest_messages } → after ≡ update_latest_messages store indices attestation
-    store_voted after is =
-        is
-        ∙ ap (λ (messages : List (Option LatestMessage)). record store { latest_messages = messages }) (sym voted_array.messages)
-        ∙ sym (messages_voted store indices attestation)
+    pub store_voted : (after : Store) → after ≡ record store { latest_messages = messages_at new.nodes new.latest_messages; equivocating_indices = new.silenced_validators } → after ≡ update_latest_messages store indices attestation
+    store_voted after is = store_taken store (update_latest_messages store indices attestation) after new (messages_voted store indices attestation) voted_array is
 
-    pub array_voted : (after : Store) → after ≡ record store { latest_messages = messages_at new.nodes new.latest_messages } → IsArrayOf after new
+    pub array_voted : (after : Store) → after ≡ record store { latest_messages = messages_at new.nodes new.latest_messages; equivocating_indices = new.silenced_validators } → IsArrayOf after new
     array_voted after is = subst (λ (s : Store). IsArrayOf s new) (sym (store_voted after is)) voted_array
 
-ready_voted : (store : Store) (messages : List (Option LatestMessage)) (ready : Option Balances) → IsReady store ready → IsReady (record store { latest_messages = messages }) ready
+ready_voted : (store : Store) (messages : List (Option LatestMessage)) (indices : List ℕ) (ready : Option Balances) → IsReady store ready → IsReady (record store { latest_messages = messages; equivocating_indices = indices }) ready
 unfolding store_target_checkpoint_state state_at IsReady
-ready_voted store messages ready is = is
+ready_voted store messages indices ready is = is
 
-pub votes_whole : (store after : Store) (a new : PlainArray) (ready : Option Balances) (messages : List (Option LatestMessage)) → IsWhole store a ready → after ≡ record store { latest_messages = messages } → IsArrayOf after new → IsWhole after new ready
-votes_whole store after a new ready messages whole is array =
-    subst (λ (x : Store). IsArrayOf x new → IsWhole x new ready) (sym is) (λ one. record { array_of = one; chained = whole.chained; few = whole.few; ready_is = ready_voted store messages ready whole.ready_is }) array
+pub votes_whole : (store after : Store) (a new : PlainArray) (ready : Option Balances) (messages : List (Option LatestMessage)) (indices : List ℕ) → IsWhole store a ready → after ≡ record store { latest_messages = messages; equivocating_indices = indices } → IsArrayOf after new → IsWhole after new ready
+votes_whole store after a new ready messages indices whole is array =
+    subst (λ (x : Store). IsArrayOf x new → IsWhole x new ready) (sym is) (λ one. record { array_of = one; chained = whole.chained; few = whole.few; ready_is = ready_voted store messages indices ready whole.ready_is }) array
 
 pub same_array : (store : Store) (a after : PlainArray) (ready : Option Balances) → IsWhole store a ready → after ≡ a → IsWhole store after ready
 same_array store a after ready whole is = subst (λ (x : PlainArray). IsWhole store x ready) (sym is) whole

@@ -104,8 +104,9 @@ balances_at array = record { list = array.balances; count = array.active_count; 
 
 -- ---- the array of a store
 
--- Each field of the array by the store's: the balances are those of the justified checkpoint's state, and a message names the
--- number of the node whose root the store's message names. No block has the zero root. What was changed since weights were made, and what room there is,
+-- Each field of the array by the store's: the balances are those of the justified checkpoint's state, a message names the
+-- number of the node whose root the store's message names, and the silenced validators are the equivocating ones. No block has the
+-- zero root. What was changed since weights were made, and what room there is,
 -- is left open
 pub record IsArrayOf (store : Store) (array : PlainArray) : Type 0 where
   pub slots_per_epoch : array.slots_per_epoch ≡ store.config.preset.slots_per_epoch
@@ -119,3 +120,4 @@ pub record IsArrayOf (store : Store) (array : PlainArray) : Type 0 where
   pub justified_node : node_number store.blocks store.justified_checkpoint.root ≡ Some array.justified_node
   pub finalized : array.finalized_checkpoint ≡ store.finalized_checkpoint
   pub boosted_node : IsBoostedNode store.blocks store.proposer_boost_root array.boosted_node
+  pub silenced : array.silenced_validators ≡ store.equivocating_indices

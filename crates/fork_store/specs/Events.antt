@@ -5,7 +5,7 @@ use Rattle.bc_words.specs.declared.store_stop.StoreStop.{StoreStop}
 use Rattle.spec_state.specs.declared.plain.PlainState.{PlainState}
 use Rattle.spec_fork_choice.specs.OnEvent as plain
 use Rattle.fork_store.specs.declared.on_event.EventKind.{EventKind}
-use Rattle.fork_store.specs.declared.on_event.EventKind.TheVariants.{Tick, SignedBlock, WireAttestation, BlockAttestation}
+use Rattle.fork_store.specs.declared.on_event.EventKind.TheVariants.{Tick, SignedBlock, WireAttestation, BlockAttestation, Slashing}
 use Rattle.fork_store.specs.declared.on_event.Accepted.{Accepted}
 use Rattle.fork_store.specs.declared.on_event.Accepted.TheVariants.{Block, Other}
 
@@ -15,6 +15,7 @@ number_of_kind Tick = 1
 number_of_kind SignedBlock = 2
 number_of_kind WireAttestation = 3
 number_of_kind BlockAttestation = 4
+number_of_kind Slashing = 5
 
 -- what an accepted event gives
 abbrev pub accepted_of : Accepted → plain.Accepted

@@ -9,6 +9,7 @@ pub mod Kept
 pub mod Messages
 pub mod Openings
 pub mod Plain
+pub mod Slashings
 pub mod Votes
 pub mod Weights
 pub mod Wholes

@@ -19,6 +19,7 @@ mod get_head;
 mod kept_blocks;
 mod kept_state;
 mod on_attestation;
+mod on_attester_slashing;
 mod on_block;
 mod on_event;
 mod on_tick;

@@ -3,10 +3,11 @@
 //! The payload's bytes come from a record; the store changes, and what an accepted block leaves goes to the event's line.
 
 ghost use Rattle.std.specs.Prelude.{◌≡◌, ◌≢◌, ◌<◌, ◌≤◌, ◌-◌, ◌^◌, Some, length, IfErr, IfOk};
-ghost use Rattle.beacon_body.specs.Containers.{signed_block_codec, attestation_codec};
+ghost use Rattle.beacon_body.specs.Containers.{signed_block_codec, attestation_codec, attester_slashing_codec};
 ghost use Rattle.spec_fork_choice.specs.OnTick.{on_tick};
 ghost use Rattle.spec_fork_choice.specs.OnAttestation.{on_attestation};
-ghost use Rattle.spec_fork_choice.specs.OnEvent.{without_block, handle_tick, handle_block, handle_attestation, on_event};
+ghost use Rattle.spec_fork_choice.specs.OnAttesterSlashing.{on_attester_slashing};
+ghost use Rattle.spec_fork_choice.specs.OnEvent.{without_block, handle_tick, handle_block, handle_attestation, handle_attester_slashing, on_event};
 ghost use Rattle.fork_store.specs.Events.{AcceptsBy, accepted_of, entered_of, number_of_kind};
 ghost use Rattle.fork_store.specs.Seen.{StoreStays};
 ghost use Rattle.transition.specs.Shown.{shown_all};
@@ -14,7 +15,7 @@ ghost use Rattle.transition.specs.Shown.{shown_all};
 use crate::block_in::BlockIn;
 use crate::store::Store;
 use bc_words::{Refusal, StoreStop};
-use beacon_body::{Attestation, SignedBeaconBlock};
+use beacon_body::{Attestation, AttesterSlashing, SignedBeaconBlock};
 use ssz_codec::{Ssz, SszFault};
 use std::alloc::Global;
 use transition::{Seen, Visitor, Watched};
@@ -30,21 +31,24 @@ pub enum EventKind {
     WireAttestation,
     /// An attestation from a block.
     BlockAttestation,
+    /// An attester slashing.
+    Slashing,
 }
 
 impl EventKind {
-    /// The kind of a number: 1 is a tick, 2 a signed block, 3 an attestation from the wire, 4 one from a block.
+    /// The kind of a number: 1 is a tick, 2 a signed block, 3 an attestation from the wire, 4 one from a block, 5 an attester slashing.
     #[tactic(auto, unfolding(crate::specs::Events::number_of_kind))]
     pub fn of(number: u8) -> EventKind
         requires first { 1 ≤ number }
-        requires last { number ≤ 4 }
+        requires last { number ≤ 5 }
         ensures { number_of_kind result ≡ number }
     {
         match number {
             1 => EventKind::Tick,
             2 => EventKind::SignedBlock,
             3 => EventKind::WireAttestation,
-            _ => EventKind::BlockAttestation,
+            4 => EventKind::BlockAttestation,
+            _ => EventKind::Slashing,
         }
     }
 }
@@ -165,6 +169,43 @@ fn handle_attestation(
     }
 }
 
+/// Takes an attester slashing.
+#[tactic(auto, using(crate::proofs::Events::voting))]
+fn take_attester_slashing(
+    alloc: Global,
+    store: &mut Store,
+    slashing: &AttesterSlashing,
+) -> Result<Accepted, StoreStop>
+    ensures exact { AcceptsBy accepted_of result store.old.plain store.new.plain (without_block (on_attester_slashing store.old.plain slashing.now)) }
+    ensures other { IfOk result (λ given. given ≡ Accepted.Other) }
+    ensures balances_set_stays { store.new.plain.justified_checkpoint ≡ store.old.plain.justified_checkpoint → store.new.array.balances_set ≡ store.old.array.balances_set }
+    ensures stays { IfErr result (λ _. StoreStays store.old store.new) }
+{
+    match store.on_attester_slashing(alloc, slashing) {
+        Ok(()) => Ok(Accepted::Other),
+        Err(stop) => Err(stop),
+    }
+}
+
+/// Takes an attester slashing, whose payload is its writing.
+#[tactic(auto, unfolding(spec_fork_choice::specs::OnEvent::handle_attester_slashing), using(crate::proofs::StoreStays::unchanged))]
+fn handle_attester_slashing(
+    alloc: Global,
+    store: &mut Store,
+    payload: &[u8],
+) -> Result<Accepted, StoreStop>
+    ensures exact { AcceptsBy accepted_of result store.old.plain store.new.plain (handle_attester_slashing store.old.plain (attester_slashing_codec.deserialize payload.now)) }
+    ensures other { IfOk result (λ given. given ≡ Accepted.Other) }
+    ensures balances_set_stays { store.new.plain.justified_checkpoint ≡ store.old.plain.justified_checkpoint → store.new.array.balances_set ≡ store.old.array.balances_set }
+    ensures stays { IfErr result (λ _. StoreStays store.old store.new) }
+{
+    match AttesterSlashing::read(alloc, payload) {
+        Ok(slashing) => take_attester_slashing(alloc, store, &slashing),
+        Err(SszFault::NotAWriting) => Err(StoreStop::Refused(Refusal::Malformed)),
+        Err(SszFault::NoMemory) => Err(StoreStop::NoMemory),
+    }
+}
+
 impl Store {
     /// Takes an event of a kind as `take_event` does, and shows a visitor each state on which epoch processing is entered by a block.
     #[tactic(auto, unfolding(spec_fork_choice::specs::OnEvent::on_event, crate::specs::Events::number_of_kind, transition::specs::Shown::shown_all))]
@@ -187,6 +228,7 @@ impl Store {
             EventKind::SignedBlock => handle_block(alloc, self, payload, visitor),
             EventKind::WireAttestation => handle_attestation(alloc, self, payload, false),
             EventKind::BlockAttestation => handle_attestation(alloc, self, payload, true),
+            EventKind::Slashing => handle_attester_slashing(alloc, self, payload),
         }
     }
 
@@ -203,7 +245,7 @@ impl Store {
     ) -> Result<Accepted, StoreStop>
         requires few { length self.old.plain.blocks < 2 ^ 32 - 1 }
         requires first { 1 ≤ kind }
-        requires last { kind ≤ 4 }
+        requires last { kind ≤ 5 }
         ensures exact { AcceptsBy accepted_of result self.old.plain self.new.plain (on_event self.old.plain kind payload.now) }
         ensures shown { IfOk result (λ given. visitor.new.visitor ≡ shown_all V.shown visitor.old.visitor (entered_of (accepted_of given))) }
         ensures no_block { kind ≢ 2 → visitor.new.visitor ≡ visitor.old.visitor }
@@ -233,7 +275,7 @@ impl Store {
         self.visit_kind(alloc, kind, payload, &mut visitor)
     }
 
-    /// Takes an event by the number of its kind in a record, 1 to 4, as `take_event` does.
+    /// Takes an event by the number of its kind in a record, 1 to 5, as `take_event` does.
     pub fn on_event(
         &mut self,
         alloc: Global,
@@ -242,7 +284,7 @@ impl Store {
     ) -> Result<Accepted, StoreStop>
         requires few { length self.old.plain.blocks < 2 ^ 32 - 1 }
         requires first { 1 ≤ kind }
-        requires last { kind ≤ 4 }
+        requires last { kind ≤ 5 }
         ensures exact { AcceptsBy accepted_of result self.old.plain self.new.plain (on_event self.old.plain kind payload.now) }
         ensures balances_set_stays { self.new.plain.justified_checkpoint ≡ self.old.plain.justified_checkpoint → self.new.array.balances_set ≡ self.old.array.balances_set }
         ensures stays { IfErr result (λ _. StoreStays self.old self.new) }

@@ -134,7 +134,7 @@ impl Store {
     ) -> (Result<Accepted, StoreStop>, bool)
         requires few { length self.old.plain.blocks < 2 ^ 32 - 1 }
         requires first { 1 ≤ kind }
-        requires last { kind ≤ 4 }
+        requires last { kind ≤ 5 }
         requires made { IsStepOfKept self.old.plain block.now step }
         ensures exact { AcceptsBy accepted_of result.0 self.old.plain self.new.plain (on_event self.old.plain kind payload.now) }
         ensures kept { result.1 ≡ true → KeepsState self.new.plain (header_root_of step.state) step.state }

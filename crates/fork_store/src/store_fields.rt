@@ -35,8 +35,8 @@ use std::snapshot::Snapshot;
 
 /// The fields: the configuration, the time, three checkpoints, the boosted block's root, and the roots of the kept blocks.
 ///
-/// The blocks and the states behind them are kept in the keeper alone, and the latest votes in the array of nodes alone. What is
-/// here of them is the keeper as it was when a block was last kept, and the array as it was when votes were last taken, which only
+/// The blocks and the states behind them are kept in the keeper alone, and the latest votes and the equivocating validators in the
+/// array of nodes alone. What is here of them is the keeper as it was when a block was last kept, and the array as it was when votes were last taken, which only
 /// clauses read.
 pub struct StoreFields {
     config: Config,
@@ -203,9 +203,9 @@ impl StoreFields {
         self.blocks.node_number(root).is_some()
     }
 
-    /// The latest votes are those that the array has now. It takes no memory.
+    /// The latest votes and the equivocating validators are those that the array has now. It takes no memory.
     pub fn take_votes(&mut self, array: &BlockArray)
-        ensures { self.new ≡ record self.old { latest_messages = messages_at array.now.nodes array.now.latest_messages } }
+        ensures { self.new ≡ record self.old { latest_messages = messages_at array.now.nodes array.now.latest_messages; equivocating_indices = array.now.silenced_validators } }
     {
         self.voted = Some(Snapshot::of(array));
     }

@@ -10,6 +10,8 @@ mod configuration;
 #[cfg(test)]
 mod containers;
 #[cfg(test)]
+mod deliveries;
+#[cfg(test)]
 mod epoch_duties;
 #[cfg(test)]
 mod genesis;
@@ -29,6 +31,8 @@ mod safety;
 mod shuffles;
 #[cfg(test)]
 mod small_state;
+#[cfg(test)]
+mod spans;
 #[cfg(test)]
 mod ssz;
 #[cfg(test)]

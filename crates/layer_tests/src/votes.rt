@@ -1,6 +1,6 @@
-//! Weights and heads of a chain of 21 nodes with three votes, and of a fork.
+//! Weights and heads of a chain of 21 nodes with three votes, and of a fork, also where voters are silenced.
 
-ghost use Rattle.std.specs.Prelude.{◌≡◌, ◌+◌, ◌<◌, ◌≤◌, ◌^◌, false, length, is_some, IfOk, OnOk};
+ghost use Rattle.std.specs.Prelude.{◌≡◌, ◌+◌, ◌<◌, ◌≤◌, ◌^◌, [], false, length, is_some, IfOk, OnOk};
 ghost use Rattle.std.specs.List.{count_by};
 ghost use Rattle.block_array.specs.PlainArray.{slot_at};
 
@@ -97,11 +97,13 @@ fn steps_of_three_votes<L: Ledger>(
     Ok(())
 }
 
-/// Balances where at most 64 validators of a chain of 21 nodes have a message: the `apply` behind them takes at most 106 steps.
+/// Balances where at most 64 validators of a chain of 21 nodes have a message, and nobody was silenced since: the `apply` behind them takes at most
+/// 106 steps.
 #[tactic(auto, unfolding(block_array::specs::Work::steps_of, block_array::specs::Work::deltas_of))]
 fn steps_of_balances<L: Ledger>(array: &mut BlockArray, list: Vec<u64>, steps: &mut Steps<L>)
     requires nodes { length array.old.nodes ≡ 21 }
     requires voters { count_by is_some array.old.latest_messages ≤ 64 }
+    requires changed { array.old.changed_validators ≡ [] }
     requires few { length list.items ≤ 2 ^ 40 }
     ensures { steps.new ≤ steps.old + 106 }
 {
@@ -130,6 +132,28 @@ fn voted<L: Ledger>(
     ensures { length array.new.nodes ≡ length array.old.nodes }
 {
     vote(array, vote_of.0, vote_of.1, vote_of.2)?;
+    Ok(apply_and_look(array, node, steps))
+}
+
+/// Silences a validator.
+#[tactic(auto, using(crate::proofs::Silenced::silencing))]
+fn silence(array: &mut BlockArray, validator: u64) -> Result<(), NoMemory>
+    ensures { length array.new.nodes ≡ length array.old.nodes }
+{
+    array.silence(validator)
+}
+
+/// Head and weight behind a silencing.
+fn silenced<L: Ledger>(
+    array: &mut BlockArray,
+    validator: u64,
+    node: u32,
+    steps: &mut Steps<L>,
+) -> Result<Made, NoMemory>
+    requires { node < length array.old.nodes }
+    ensures { length array.new.nodes ≡ length array.old.nodes }
+{
+    silence(array, validator)?;
     Ok(apply_and_look(array, node, steps))
 }
 
@@ -191,6 +215,26 @@ fn fork_rows<L: Ledger>(
     Ok([tie, second, first, boosted, apply_and_look(array, 2, steps)])
 }
 
+/// Two votes for the first child and one for the second; a voter of the first is silenced, and then the other one; a silenced one votes for the
+/// second; the first is boosted: heads and weights.
+fn silenced_rows<L: Ledger>(
+    alloc: Global,
+    array: &mut BlockArray,
+    steps: &mut Steps<L>,
+) -> Result<[Made; 5], NoMemory>
+    requires { length array.old.nodes ≡ 3 }
+{
+    vote(array, 1, 1, 1)?;
+    vote(array, 2, 1, 1)?;
+    vote(array, 3, 2, 1)?;
+    let first = weighed(alloc, array, 32, 1, steps)?;
+    let tie = silenced(array, 1, 1, steps)?;
+    let second = silenced(array, 2, 2, steps)?;
+    let unheard = voted(array, (1, 2, 9), 2, steps)?;
+    array.boost(Some(1));
+    Ok([first, tie, second, unheard, apply_and_look(array, 1, steps)])
+}
+
 /// The rows of a chain.
 fn rows_of_a_chain<L: Ledger>(alloc: Global, steps: &mut Steps<L>) -> Result<[Made; 6], NoMemory> {
     match chain(alloc) {
@@ -207,7 +251,15 @@ fn rows_of_a_fork<L: Ledger>(alloc: Global, steps: &mut Steps<L>) -> Result<[Mad
     }
 }
 
-/// The rows of both are the expected ones.
+/// The rows of a fork whose voters are silenced.
+fn rows_of_silenced<L: Ledger>(alloc: Global, steps: &mut Steps<L>) -> Result<[Made; 5], NoMemory> {
+    match fork(alloc) {
+        Ok(mut array) => silenced_rows(alloc, &mut array, steps),
+        Err(refused) => Err(refused),
+    }
+}
+
+/// The rows of all three are the expected ones.
 fn rows_hold<L: Ledger>(rt: &(impl AllocGlobal + Abort), blank: Blank) -> Result<(), Fail>
     requires name { blank.name ≡ L.name }
     requires parts { blank.parts ≡ L.parts }
@@ -218,6 +270,8 @@ fn rows_hold<L: Ledger>(rt: &(impl AllocGlobal + Abort), blank: Blank) -> Result
     assert!(rt; rows == [(20, 0), (20, 64), (20, 64), (20, 32), (20, 14), (20, 14)]);
     let rows = rows_of_a_fork(rt.alloc(), &mut steps)?;
     assert!(rt; rows == [(1, 0), (2, 32), (1, 0), (2, 102), (1, 0)]);
+    let rows = rows_of_silenced(rt.alloc(), &mut steps)?;
+    assert!(rt; rows == [(1, 64), (1, 32), (2, 32), (2, 32), (1, 102)]);
     Ok(())
 }
 

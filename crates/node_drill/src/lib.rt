@@ -5,8 +5,6 @@
 
 mod delivery;
 mod order;
-#[cfg(test)]
-mod tests;
 
 pub use delivery::Delivery;
 pub use order::deliver;

@@ -5,7 +5,9 @@ use Rattle.std.proofs.lemmas.Nat.{from_le_bytes-to_le_bytes_4}
 use Rattle.std.proofs.lemmas.Bool.Decides.{nat_tests}
 use Rattle.std.specs.Int.{w32, to_le_bytes}
 use Rattle.record_file.specs.declared.event.Event.{Event}
-use Rattle.record_file.specs.Record.{framed, payload_of, sized_of, frame_of, events_from, events_of, is_kind, longest_payload, most_events, with_event, done}
+use Rattle.record_file.specs.declared.version.Version.{Version}
+use Rattle.record_file.specs.declared.version.Version.TheVariants.{One, Two}
+use Rattle.record_file.specs.Record.{framed, payload_of, sized_of, frame_of, events_from, events_of, is_kind_of, longest_payload, most_events, with_event, done}
 use Rattle.record_file.specs.laws.Written.{frame_of_event, frames_of_events, AreEvents, ReadsAgain}
 use Rattle.record_file.proofs.Coming.{from_ended, from_framed, nothing}
 
@@ -25,21 +27,22 @@ sized_step kind n bytes lt =
     let whole : nat_lt (length (to_le_bytes w32 n ++ bytes)) 4 ≡ false = not_below (length (to_le_bytes w32 n ++ bytes)) 4 (omega arith) in
     rw whole (ap (λ m. payload_of kind m bytes) (from_le_bytes-to_le_bytes_4 n lt))
 
-frame_step : (events : ℕ) (event : Event) (rest : List ℕ) → events < most_events → is_kind event.kind ≡ true → length event.payload ≤ longest_payload → frame_of events (frame_of_event event ++ rest) ≡ framed event rest
+frame_step : (version : Version) (events : ℕ) (event : Event) (rest : List ℕ) → events < most_events → is_kind_of version event.kind ≡ true → length event.payload ≤ longest_payload → frame_of version events (frame_of_event event ++ rest) ≡ framed event rest
 unfolding frame_of
-frame_step events event rest lt known le =
+frame_step version events event rest lt known le =
     let few : nat_le most_events events ≡ false = grind (arith, nat_tests) in
     rw (few, known, append_assoc (to_le_bytes w32 (length event.payload)) event.payload rest)
     (sized_step event.kind (length event.payload) (event.payload ++ rest) (omega arith) ∙ payload_step event.kind event.payload rest le)
 
-all_again : (es : List Event) (room events : ℕ) → AreEvents es → room + events ≡ most_events → length es ≤ room → events_from room events (frames_of_events es) ≡ record { events = es; end = done }
+all_again : (version : Version) (es : List Event) (room events : ℕ) → AreEvents version es → room + events ≡ most_events → length es ≤ room → events_from version room events (frames_of_events es) ≡ record { events = es; end = done }
 unfolding frames_of_events AreEvents
-all_again [] room events fits r le = from_ended room events [] r (nothing events)
-all_again (event ∷ es) zero events fits r le = absurd (omega arith)
-all_again (event ∷ es) (suc room) events fits r le =
-    from_framed room events _ event (frames_of_events es) (frame_step events event (frames_of_events es) (omega arith) fits.0 fits.1)
-    ∙ ap (with_event event) (all_again es room (events + 1) fits.2 (omega arith) (omega arith))
+all_again version [] room events fits r le = from_ended version room events [] r (nothing version events)
+all_again version (event ∷ es) zero events fits r le = absurd (omega arith)
+all_again version (event ∷ es) (suc room) events fits r le =
+    from_framed version room events _ event (frames_of_events es) (frame_step version events event (frames_of_events es) (omega arith) fits.0 fits.1)
+    ∙ ap (with_event event) (all_again version es room (events + 1) fits.2 (omega arith) (omega arith))
 
 pub reads_again : ReadsAgain
 unfolding events_of
-reads_again events fits le = all_again events most_events 0 fits (omega arith) le
+reads_again One events fits le = all_again One events most_events 0 fits (omega arith) le
+reads_again Two events fits le = all_again Two events most_events 0 fits (omega arith) le

@@ -3,7 +3,8 @@ use Rattle.std.proofs.Common.{◌≡◌, ◌≤◌, ℕ, Bool, true, false, List
 use Rattle.std.proofs.Common.{length-append}
 use Rattle.std.proofs.lemmas.List.{take-append-le, drop-append-le}
 use Rattle.std.specs.Int.{w32, from_le_bytes}
-use Rattle.record_file.specs.Record.{is_kind, most_events}
+use Rattle.record_file.specs.Record.{is_kind_of, most_events}
+use Rattle.record_file.specs.declared.version.Version.{Version}
 use Rattle.std.proofs.lemmas.Bool.Decides.{nat_tests}
 use Rattle.record_file.specs.declared.fault.RecordFault.TheVariants.{BadMagic, TooMany, BadKind, Torn, TooLong}
 use Rattle.record_file.specs.declared.found.Found.{Found}
@@ -60,10 +61,10 @@ frame_cases kind bytes more true known h = refl
 frame_cases kind bytes more false true h = sized_grows kind bytes more h
 frame_cases kind bytes more false false h = refl
 
-frame_grows : (events : ℕ) (bytes more : List ℕ) → may_grow (frame_of events bytes) ≡ false → frame_of events (bytes ++ more) ≡ with_behind more (frame_of events bytes)
+frame_grows : (version : Version) (events : ℕ) (bytes more : List ℕ) → may_grow (frame_of version events bytes) ≡ false → frame_of version events (bytes ++ more) ≡ with_behind more (frame_of version events bytes)
 unfolding frame_of may_grow
-frame_grows events [] more h = cc
-frame_grows events (kind ∷ bytes) more h = frame_cases kind bytes more (nat_le most_events events) (is_kind kind) h
+frame_grows version events [] more h = cc
+frame_grows version events (kind ∷ bytes) more h = frame_cases kind bytes more (nat_le most_events events) (is_kind_of version kind) h
 
 read_grows : (f : Found) (bytes : List ℕ) → is_short f ≡ false → may_grow (read_of f bytes) ≡ false
 unfolding may_grow
@@ -76,5 +77,5 @@ read_grows (found.Fault (TooLong n)) bytes h = refl
 read_grows (found.Frame kind size) bytes h = refl
 
 -- A frame or a fault that was found in the buffer stands there, whatever is behind it.
-pub found_whole : (events : ℕ) (f : Found) (buffered behind : List ℕ) → is_short f ≡ false → frame_of events buffered ≡ read_of f buffered → frame_of events (buffered ++ behind) ≡ with_behind behind (read_of f buffered)
-found_whole events f buffered behind s e = frame_grows events buffered behind (rw e (read_grows f buffered s)) ∙ ap (with_behind behind) e
+pub found_whole : (version : Version) (events : ℕ) (f : Found) (buffered behind : List ℕ) → is_short f ≡ false → frame_of version events buffered ≡ read_of f buffered → frame_of version events (buffered ++ behind) ≡ with_behind behind (read_of f buffered)
+found_whole version events f buffered behind s e = frame_grows version events buffered behind (rw e (read_grows f buffered s)) ∙ ap (with_behind behind) e

@@ -7,8 +7,9 @@ use Rattle.record_file.specs.declared.fault.RecordFault.{RecordFault}
 use Rattle.record_file.specs.declared.fault.FrameStop.{FrameStop}
 use Rattle.record_file.specs.declared.fault.FrameStop.TheVariants.{Fault, ReadFault, NoMemory}
 use Rattle.record_file.specs.declared.place.Place.{Place}
+use Rattle.record_file.specs.declared.version.Version.{Version}
 use Rattle.record_file.specs.declared.place.Place.TheVariants.{AtMagic, AtFrame, Stopped}
-use Rattle.record_file.specs.Record.{Events, done, fault, fault_event, events_from, events_of, most_events, longest_payload, is_kind, with_event}
+use Rattle.record_file.specs.Record.{Events, done, fault, fault_event, events_from, events_of, most_events, longest_payload, is_kind_of, with_event}
 
 -- The file, how many events were read of it, where the next call stands, and the bytes that were taken of the file and
 -- not read yet.
@@ -25,7 +26,7 @@ unread_file file = record { file = file; events = 0; place = AtMagic; buffered =
 -- what these bytes are at a place, behind that many events
 unfoldable pub events_at : Place → ℕ → List ℕ → Events
 events_at AtMagic events bytes = events_of bytes
-events_at AtFrame events bytes = events_from (most_events - events) events bytes
+events_at (AtFrame version) events bytes = events_from version (most_events - events) events bytes
 events_at (Stopped reason) events bytes = record { events = []; end = fault (fault_event events reason) reason }
 
 -- what is still to come, where the buffered bytes and these behind them are the rest of the record
@@ -57,21 +58,27 @@ pub record Nexts (result : Result (Option Event) FrameStop) (old new : Reading) 
   pub taken : Takes old.file bytes met told told_then
   pub gives : Gives result bytes met old new
 
+-- a place stands at a frame of a version
+abbrev pub IsAtFrame : Place → (Version → Type 0) → Type 0
+IsAtFrame AtMagic P = ⊥
+IsAtFrame (AtFrame version) P = P version
+IsAtFrame (Stopped reason) P = ⊥
+
 -- What `next` does to the place.
 abbrev pub Moves : Result (Option Event) FrameStop → Reading → Reading → Type 0
-Moves (Ok (Some event)) before now = (now.events ≡ before.events + 1) × (now.place ≡ AtFrame) × (is_kind event.kind ≡ true) × (length event.payload ≤ longest_payload)
-Moves (Ok None) before now = (now.events ≡ before.events) × (now.place ≡ AtFrame)
+Moves (Ok (Some event)) before now = (now.events ≡ before.events + 1) × IsAtFrame now.place (λ version. is_kind_of version event.kind ≡ true) × (length event.payload ≤ longest_payload)
+Moves (Ok None) before now = (now.events ≡ before.events) × IsAtFrame now.place (λ version. Unit {0})
 Moves (Err (Fault reason)) before now = (now.events ≡ before.events) × (now.place ≡ Stopped reason)
 Moves (Err _) before now = now.events ≡ before.events
 
 -- a fact of the fault that reading stopped at, if it did
 abbrev pub IfStopped : Place → (RecordFault → Type 0) → Type 0
 IfStopped AtMagic P = Unit {0}
-IfStopped AtFrame P = Unit {0}
+IfStopped (AtFrame version) P = Unit {0}
 IfStopped (Stopped reason) P = P reason
 
 -- what is true of each place: no event was read before the magic, and there are never more than a record may have
 abbrev pub IsPlace : Place → ℕ → Type 0
 IsPlace AtMagic events = events ≡ 0
-IsPlace AtFrame events = events ≤ most_events
+IsPlace (AtFrame version) events = events ≤ most_events
 IsPlace (Stopped reason) events = events ≤ most_events

@@ -1,20 +1,39 @@
--- The grammar of a record: the four bytes `BCR1`, then frames until the end of the file. A frame is a kind (1 byte), a
--- length (4 bytes, little endian) and a payload of that many bytes. Each frame is an event, and events count from 1.
-use Rattle.std.specs.Prelude.{ℕ, zero, suc, ◌+◌, Bool, ◌&&◌, List, [], ◌∷◌, length, take, drop, nat_lt, nat_le, ◌==◌, if◌then◌else◌}
+-- The grammar of a record: the four bytes `BCR1` or `BCR2`, by its version, then frames until the end of the file. A frame is a
+-- kind (1 byte), a length (4 bytes, little endian) and a payload of that many bytes. Each frame is an event, and events count from 1.
+use Rattle.std.specs.Prelude.{ℕ, zero, suc, ◌+◌, Bool, ◌&&◌, List, [], ◌∷◌, length, take, drop, nat_lt, nat_le, Option, Some, None, if◌then◌else◌}
 use Rattle.std.specs.Int.{w32, from_le_bytes}
 use Rattle.std.specs.Str.{bytes_eq}
 use Rattle.bc_words.specs.declared.stop.Limit.{Limit}
 use Rattle.record_file.specs.declared.event.Event.{Event}
+use Rattle.record_file.specs.declared.version.Version.{Version}
+use Rattle.record_file.specs.declared.version.Version.TheVariants.{One, Two}
 use Rattle.record_file.specs.declared.fault.RecordFault.{RecordFault}
 use Rattle.record_file.specs.declared.fault.RecordFault.TheVariants.{BadMagic, TooMany, BadKind, Torn, TooLong}
 
--- the bytes that a record begins with: `BCR1`
-abbrev pub magic : List ℕ
-magic = 66 ∷ 67 ∷ 82 ∷ 49 ∷ []
+-- the bytes that a record of a version begins with: `BCR1` or `BCR2`
+abbrev pub magic : Version → List ℕ
+magic One = 66 ∷ 67 ∷ 82 ∷ 49 ∷ []
+magic Two = 66 ∷ 67 ∷ 82 ∷ 50 ∷ []
 
--- the kinds of frames: 1 is a tick, 2 a signed block, 3 an attestation from the wire, 4 an attestation from a block
+-- the version of a record with these first bytes, if they are one's
+abbrev pub version_of : List ℕ → Option Version
+version_of bytes =
+    if bytes_eq bytes (magic One) then Some One
+    else if bytes_eq bytes (magic Two) then Some Two
+    else None
+
+-- the kinds of frames: 1 is a tick, 2 a signed block, 3 an attestation from the wire, 4 an attestation from a block, and in version
+-- 2 alone 5 is an attester slashing
+abbrev pub last_kind : Version → ℕ
+last_kind One = 4
+last_kind Two = 5
+
+abbrev pub is_kind_of : Version → ℕ → Bool
+is_kind_of version kind = nat_le 1 kind && nat_le kind (last_kind version)
+
+-- the kinds of events, whatever the version
 abbrev pub is_kind : ℕ → Bool
-is_kind kind = nat_le 1 kind && nat_le kind 4
+is_kind kind = is_kind_of Two kind
 
 -- how many events a record may have
 abbrev pub most_events : ℕ
@@ -44,11 +63,11 @@ sized_of kind bytes =
     else payload_of kind (from_le_bytes w32 (take 4 bytes)) (drop 4 bytes)
 
 -- what stands behind that many events
-unfoldable pub frame_of : ℕ → List ℕ → FrameRead
-frame_of events [] = ended
-frame_of events (kind ∷ bytes) =
+unfoldable pub frame_of : Version → ℕ → List ℕ → FrameRead
+frame_of version events [] = ended
+frame_of version events (kind ∷ bytes) =
     if nat_le most_events events then faulted TooMany
-    else if is_kind kind then sized_of kind bytes
+    else if is_kind_of version kind then sized_of kind bytes
     else faulted (BadKind kind)
 
 -- How events end: they were read to their end; or the event with this number could not be read, or, where events are made and not
@@ -73,17 +92,20 @@ fault_event events BadMagic = 0
 fault_event events _ = events + 1
 
 -- The events that stand behind that many others. room is how many more there may be: with none left a frame is TooMany.
-unfoldable pub events_from : ℕ → ℕ → List ℕ → Events
-events_from zero events [] = record { events = []; end = done }
-events_from zero events (_ ∷ _) = record { events = []; end = fault (events + 1) TooMany }
-events_from (suc room) events bytes = elim (frame_of events bytes) [
+unfoldable pub events_from : Version → ℕ → ℕ → List ℕ → Events
+events_from version zero events [] = record { events = []; end = done }
+events_from version zero events (_ ∷ _) = record { events = []; end = fault (events + 1) TooMany }
+events_from version (suc room) events bytes = elim (frame_of version events bytes) [
   | ended ↦ record { events = []; end = done }
   | faulted reason ↦ record { events = []; end = fault (fault_event events reason) reason }
-  | framed event rest ↦ with_event event (events_from room (events + 1) rest)
+  | framed event rest ↦ with_event event (events_from version room (events + 1) rest)
 ]
+
+-- the events behind the first bytes of a record, of a version if it has one
+abbrev pub events_under : Option Version → List ℕ → Events
+events_under (Some version) bytes = events_from version most_events 0 bytes
+events_under None bytes = record { events = []; end = fault 0 BadMagic }
 
 -- the events of a record
 unfoldable pub events_of : List ℕ → Events
-events_of bytes =
-    if bytes_eq (take 4 bytes) magic then events_from most_events 0 (drop 4 bytes)
-    else record { events = []; end = fault 0 BadMagic }
+events_of bytes = events_under (version_of (take 4 bytes)) (drop 4 bytes)

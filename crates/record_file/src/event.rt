@@ -35,7 +35,8 @@ impl Payload {
 /// One frame of a record.
 #[derive(Drop)]
 pub struct Event {
-    /// What kind of event it is: 1 is a tick, 2 a signed block, 3 an attestation from the wire, 4 one from a block.
+    /// What kind of event it is: 1 is a tick, 2 a signed block, 3 an attestation from the wire, 4 one from a block, 5 an attester
+    /// slashing.
     pub kind: u8,
     /// The bytes of the frame behind its length, at most 2^22.
     pub payload: Payload,

@@ -10,14 +10,14 @@ use thiserror::Error;
 /// What is wrong with the bytes of a record, at the first event that can't be read.
 #[derive(Clone, Copy, Debug, PartialEq, Eq, Error)]
 pub enum RecordFault {
-    /// The first four bytes aren't `BCR1`.
-    #[error("a record begins with BCR1")]
+    /// The first four bytes are neither `BCR1` nor `BCR2`.
+    #[error("a record begins with BCR1 or BCR2")]
     BadMagic,
     /// A frame begins after 2^22 events.
     #[error("more than 4194304 events")]
     TooMany,
-    /// There is no such kind of frame.
-    #[error("a frame of kind {0}, and kinds are 1 to 4")]
+    /// There is no such kind of frame in a record of this version.
+    #[error("a frame of kind {0}, and kinds are 1 to 4, or with BCR2 1 to 5")]
     BadKind(u8),
     /// The file ends inside a frame.
     #[error("the record ends inside the event")]

@@ -2,10 +2,10 @@
 
 ghost use Rattle.std.specs.Prelude.{◌≡◌, ◌≤◌, ◌<◌, ◌+◌, ℕ, ◌∷◌, length, true, IsTrue};
 ghost use Rattle.std.specs.Int.{w32, from_le_bytes};
-ghost use Rattle.record_file.specs.Record.{frame_of, sized_of, is_kind, most_events, longest_payload};
+ghost use Rattle.record_file.specs.Record.{frame_of, sized_of, last_kind, is_kind_of, most_events, longest_payload};
 ghost use Rattle.record_file.specs.inside.Found.{read_of, IsWhole, is_short, is_frame};
 
-use crate::RecordFault;
+use crate::{RecordFault, Version};
 
 /// How many events a record may have.
 pub const MOST_EVENTS: u32 = 4_194_304;
@@ -33,11 +33,21 @@ impl Found {
     }
 }
 
-/// Whether frames have this kind: 1 is a tick, 2 a signed block, 3 and 4 are attestations.
-pub fn is_kind(kind: u8) -> bool
-    ensures { result ≡ is_kind kind }
+/// The last kind that frames of a version have.
+fn last_kind(version: Version) -> u8
+    ensures { result ≡ last_kind version }
 {
-    kind >= 1 && kind <= 4
+    match version {
+        Version::One => 4,
+        Version::Two => 5,
+    }
+}
+
+/// Whether frames of a version have this kind: 1 is a tick, 2 a signed block, 3 and 4 are attestations, 5 is an attester slashing.
+fn is_kind_of(version: Version, kind: u8) -> bool
+    ensures { result ≡ is_kind_of version kind }
+{
+    kind >= 1 && kind <= last_kind(version)
 }
 
 // The length that four bytes write.
@@ -50,9 +60,9 @@ fn length_in(bytes: &[u8]) -> u32
 
 // Behind the kind of a frame.
 #[tactic(auto, unfolding(crate::specs::Record::sized_of, crate::specs::Record::payload_of))]
-fn sized_at(kind: u8, bytes: &[u8]) -> Found
+fn sized_at(version: Version, kind: u8, bytes: &[u8]) -> Found
     ensures read { sized_of kind bytes.now ≡ read_of result (kind ∷ bytes.now) }
-    ensures whole { is_kind kind ≡ true → IsWhole result (kind ∷ bytes.now) }
+    ensures whole { is_kind_of version kind ≡ true → IsWhole version result (kind ∷ bytes.now) }
     ensures short { is_short result ≡ true → length bytes.now < 4 + longest_payload }
 {
     if bytes.len() < 4 {
@@ -71,9 +81,9 @@ fn sized_at(kind: u8, bytes: &[u8]) -> Found
 
 /// What stands at the front of the bytes, behind that many events, if no more bytes come.
 #[tactic(auto, unfolding(crate::specs::Record::frame_of, crate::specs::Record::sized_of, crate::specs::Record::payload_of))]
-pub fn frame_at(events: u32, bytes: &[u8]) -> Found
-    ensures read { frame_of events bytes.now ≡ read_of result bytes.now }
-    ensures whole { IsWhole result bytes.now }
+pub fn frame_at(version: Version, events: u32, bytes: &[u8]) -> Found
+    ensures read { frame_of version events bytes.now ≡ read_of result bytes.now }
+    ensures whole { IsWhole version result bytes.now }
     ensures short { is_short result ≡ true → length bytes.now < 5 + longest_payload }
     ensures room { is_frame result ≡ true → events < most_events }
 {
@@ -83,8 +93,8 @@ pub fn frame_at(events: u32, bytes: &[u8]) -> Found
     if events >= MOST_EVENTS {
         return Found::Fault(RecordFault::TooMany);
     }
-    if !is_kind(*kind) {
+    if !is_kind_of(version, *kind) {
         return Found::Fault(RecordFault::BadKind(*kind));
     }
-    sized_at(*kind, behind)
+    sized_at(version, *kind, behind)
 }

@@ -1,9 +1,8 @@
 //! The frames of a record, one after the other.
 
 ghost use Rattle.std.specs.Prelude.{◌≡◌, ◌<◌, [], take, length, true, Err};
-ghost use Rattle.std.specs.Str.{bytes_eq};
 ghost use Rattle.bc_outside.specs.Calls.{ShelfKeeps};
-ghost use Rattle.record_file.specs.Record.{fault_event, magic, most_events};
+ghost use Rattle.record_file.specs.Record.{fault_event, version_of, most_events};
 ghost use Rattle.record_file.specs.Stops.{StopsBy};
 ghost use Rattle.record_file.specs.declared.fault.FrameStop.TheVariants.{Fault};
 ghost use Rattle.record_file.specs.Frames.{unread_file, Nexts, Moves, IsPlace, IfStopped};
@@ -15,7 +14,7 @@ ghost use Rattle.record_file.specs.declared.place.Place.TheVariants.{AtMagic, At
 use crate::buffer::Buffer;
 use crate::fill::{fill, find_frame};
 use crate::found::Found;
-use crate::{Event, FrameStop, Payload, Place, RecordFault};
+use crate::{Event, FrameStop, Payload, Place, RecordFault, Version};
 use bc_outside::Shelf;
 use std::alloc::Global;
 use std::marker::Model;
@@ -74,8 +73,8 @@ impl Frames {
         }
     }
 
-    // Reads the record's first bytes, which have to be the magic.
-    fn read_magic<F: Shelf>(&mut self, shelf: &mut F) -> Result<(), FrameStop>
+    // Reads the record's first bytes, which tell its version.
+    fn read_magic<F: Shelf>(&mut self, shelf: &mut F) -> Result<Version, FrameStop>
         requires opened { self.old.file < length (F.told shelf.old).files }
         requires at { self.old.place ≡ AtMagic }
         ensures begins { Begins result self.old self.new (F.told shelf.old) (F.told shelf.new) }
@@ -87,35 +86,43 @@ impl Frames {
             Ok(()) => {}
             Err(trouble) => return Err(FrameStop::from(trouble)),
         }
-        if !has_magic(self.buffer.as_slice()) {
-            self.place = Place::Stopped(RecordFault::BadMagic);
-            return Err(FrameStop::Fault(RecordFault::BadMagic));
+        match version_of(self.buffer.as_slice()) {
+            Some(version) => {
+                self.buffer.read(4);
+                self.place = Place::AtFrame(version);
+                Ok(version)
+            }
+            None => {
+                self.place = Place::Stopped(RecordFault::BadMagic);
+                Err(FrameStop::Fault(RecordFault::BadMagic))
+            }
         }
-        self.buffer.read(4);
-        self.place = Place::AtFrame;
-        Ok(())
     }
 
-    // Reads the next frame.
-    fn read_frame<F: Shelf>(&mut self, shelf: &mut F) -> Result<Option<Event>, FrameStop>
+    // Reads the next frame of a record of this version.
+    fn read_frame<F: Shelf>(
+        &mut self,
+        version: Version,
+        shelf: &mut F,
+    ) -> Result<Option<Event>, FrameStop>
         requires opened { self.old.file < length (F.told shelf.old).files }
-        requires at { self.old.place ≡ AtFrame }
+        requires at { self.old.place ≡ AtFrame version }
         ensures nexts { Nexts result self.old self.new (F.told shelf.old) (F.told shelf.new) }
         ensures moves { Moves result self.old self.new }
         ensures file { self.new.file ≡ self.old.file }
         ensures causes { StopsBy result (F.told shelf.old).faults (F.told shelf.new).faults }
         ensures keeps { ShelfKeeps [] (F.told shelf.old) (F.told shelf.new) }
     {
-        match find_frame(&mut self.buffer, shelf, self.file, self.events) {
-            Ok(found) => self.give(found),
+        match find_frame(&mut self.buffer, shelf, self.file, version, self.events) {
+            Ok(found) => self.give(version, found),
             Err(trouble) => Err(FrameStop::from(trouble)),
         }
     }
 
     // Gives what was found at the front of the buffer. A frame is read, unless memory runs out.
-    fn give(&mut self, found: Found) -> Result<Option<Event>, FrameStop>
-        requires at { self.old.place ≡ AtFrame }
-        requires whole { IsWhole found self.old.buffered }
+    fn give(&mut self, version: Version, found: Found) -> Result<Option<Event>, FrameStop>
+        requires at { self.old.place ≡ AtFrame version }
+        requires whole { IsWhole version found self.old.buffered }
         requires room { is_frame found ≡ true → self.old.events < most_events }
         ensures given { Given found result self.old self.new }
     {
@@ -156,17 +163,23 @@ impl Frames {
         match self.place {
             Place::Stopped(fault) => Err(FrameStop::Fault(fault)),
             Place::AtMagic => match self.read_magic(shelf) {
-                Ok(()) => self.read_frame(shelf),
+                Ok(version) => self.read_frame(version, shelf),
                 Err(stop) => Err(stop),
             },
-            Place::AtFrame => self.read_frame(shelf),
+            Place::AtFrame(version) => self.read_frame(version, shelf),
         }
     }
 }
 
-// Whether the bytes begin as a record does.
-fn has_magic(bytes: &[u8]) -> bool
-    ensures { result ≡ bytes_eq (take 4 bytes.now) magic }
+// The version of a record that begins with these bytes, if they begin as one does.
+fn version_of(bytes: &[u8]) -> Option<Version>
+    ensures { result ≡ version_of (take 4 bytes.now) }
 {
-    bytes.starts_with(b"BCR1")
+    if bytes.starts_with(b"BCR1") {
+        return Some(Version::One);
+    }
+    if bytes.starts_with(b"BCR2") {
+        return Some(Version::Two);
+    }
+    None
 }

@@ -12,10 +12,12 @@ mod frames;
 mod law;
 mod place;
 mod source;
+mod version;
 
 pub use event::{Event, Payload};
 pub use fault::{FrameStop, RecordFault};
 pub use frames::Frames;
-pub use law::written_is_read_again;
+pub use law::{versions_read_alike, written_is_read_again};
 pub use place::Place;
 pub use source::{EventSource, SourceStop};
+pub use version::Version;

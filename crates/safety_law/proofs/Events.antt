@@ -5,18 +5,20 @@ use Rattle.bc_words.specs.Events.{EventOutcome, accepted, event_refused, event_l
 use Rattle.bc_words.specs.declared.refusal.Refusal.TheVariants.{Malformed}
 use Rattle.ssz_codec.specs.Lawful.{IsBytes}
 use Rattle.hash_tree.specs.Merkle.{bytes_to_uint64}
-use Rattle.beacon_body.specs.Containers.{signed_block_codec, attestation_codec}
+use Rattle.beacon_body.specs.Containers.{signed_block_codec, attestation_codec, attester_slashing_codec}
 use Rattle.beacon_body.specs.laws.Containers.{signed_block_lawful}
 use Rattle.beacon_body.specs.declared.attestation.Attestation.{Attestation}
+use Rattle.beacon_body.specs.declared.attester_slashing.AttesterSlashing.{AttesterSlashing}
 use Rattle.beacon_body.specs.declared.signed_block.SignedBeaconBlock.{SignedBeaconBlock}
 use Rattle.spec_blocks.proofs.Done.{chosen}
 use Rattle.spec_fork_choice.specs.Store.{Store}
 use Rattle.spec_fork_choice.specs.OnTick.{on_tick}
 use Rattle.spec_fork_choice.specs.OnBlock.{BlockIn, on_block}
 use Rattle.spec_fork_choice.specs.OnAttestation.{on_attestation}
-use Rattle.spec_fork_choice.specs.OnEvent.{Accepted, block, other, without_block, handle_tick, handle_block, handle_attestation, on_event}
-use Rattle.spec_fork_choice.proofs.Blocks.{tick_blocks, vote_blocks}
-use Rattle.safety_law.proofs.Leaves.{Leaves, tick_leaves, vote_leaves}
+use Rattle.spec_fork_choice.specs.OnAttesterSlashing.{on_attester_slashing}
+use Rattle.spec_fork_choice.specs.OnEvent.{Accepted, block, other, without_block, handle_tick, handle_block, handle_attestation, handle_attester_slashing, on_event}
+use Rattle.spec_fork_choice.proofs.Blocks.{tick_blocks, vote_blocks, slashing_blocks}
+use Rattle.safety_law.proofs.Leaves.{Leaves, tick_leaves, vote_leaves, slashing_leaves}
 
 -- an event that is no block
 pub record IsOther (store new : Store) (given : Accepted) : Type 0 where
@@ -68,6 +70,13 @@ a_vote store new from_block (Some attestation) given is =
     let vote = no_block store new given (on_attestation store attestation from_block) is in
     record { blocks = vote_blocks store new attestation from_block vote.0; leaves = vote_leaves store new attestation from_block vote.0; given_is = vote.1 }
 
+a_slashing : (store new : Store) (read : Option AttesterSlashing) (given : Accepted) → handle_attester_slashing store read ≡ accepted (new, given) → IsOther store new given
+unfolding handle_attester_slashing
+a_slashing store new None given is = absurd cc
+a_slashing store new (Some slashing) given is =
+    let taken = no_block store new given (on_attester_slashing store slashing) is in
+    record { blocks = slashing_blocks store new slashing taken.0; leaves = slashing_leaves store new slashing taken.0; given_is = taken.1 }
+
 -- ---- blocks
 
 record HandedOn (outcome : EventOutcome (Store × BlockIn)) (new : Store) (given : Accepted) : Type 0 where
@@ -101,11 +110,16 @@ unfolding on_event
 event_is store new kind payload given is =
     let block_read = signed_block_codec.deserialize payload in
     let vote_read = attestation_codec.deserialize payload in
-    elim (chosen (kind == 1) (handle_tick store payload) (if kind == 2 then handle_block store block_read else handle_attestation store (kind == 4) vote_read) (accepted (new, given)) is) [
+    let slashing_read = attester_slashing_codec.deserialize payload in
+    let slashing_or_vote = if kind == 5 then handle_attester_slashing store slashing_read else handle_attestation store (kind == 4) vote_read in
+    elim (chosen (kind == 1) (handle_tick store payload) (if kind == 2 then handle_block store block_read else slashing_or_vote) (accepted (new, given)) is) [
       | inl tick ↦ inl (a_tick store new payload given tick.1)
-      | inr later ↦ elim (chosen (kind == 2) (handle_block store block_read) (handle_attestation store (kind == 4) vote_read) (accepted (new, given)) later.1) [
+      | inr later ↦ elim (chosen (kind == 2) (handle_block store block_read) slashing_or_vote (accepted (new, given)) later.1) [
         | inl taken ↦ inr (a_block store new payload block_read given refl taken.1)
-        | inr vote ↦ inl (a_vote store new (kind == 4) vote_read given vote.1)
+        | inr last ↦ elim (chosen (kind == 5) (handle_attester_slashing store slashing_read) (handle_attestation store (kind == 4) vote_read) (accepted (new, given)) last.1) [
+          | inl slashing ↦ inl (a_slashing store new slashing_read given slashing.1)
+          | inr vote ↦ inl (a_vote store new (kind == 4) vote_read given vote.1)
+        ]
       ]
     ]
 

@@ -2,22 +2,27 @@
 -- an accepted block's state.
 use Rattle.std.proofs.Common.{◌≡◌, ◌∙◌, ◌⊎◌, inl, inr, ℕ, Bool, true, false, not, ◌==◌, nat_lt, if◌then◌else◌, List, [], ◌∷◌, ◌++◌, fold, length, refl, subst}
 use Rattle.bc_words.specs.Outcome.{done, refused}
-use Rattle.bc_words.specs.declared.refusal.Refusal.TheVariants.{TickBack, FcEmpty}
+use Rattle.bc_words.specs.declared.refusal.Refusal.TheVariants.{TickBack, FcEmpty, AsData, IndexRange}
 use Rattle.beacon_types.specs.declared.checkpoint.Checkpoint.{Checkpoint}
+use Rattle.beacon_types.specs.Slashable.{is_slashable_attestation_data}
 use Rattle.beacon_body.specs.declared.attestation.Attestation.{Attestation}
+use Rattle.beacon_body.specs.declared.attester_slashing.AttesterSlashing.{AttesterSlashing}
 use Rattle.spec_state.specs.declared.plain.PlainState.{PlainState}
 use Rattle.spec_state.specs.Accessors.{get_attesting_indices}
 use Rattle.spec_blocks.specs.Checks.{check}
+use Rattle.spec_blocks.specs.IsValidIndexedAttestation.{is_valid_indexed_attestation}
+use Rattle.spec_blocks.specs.ProcessAttesterSlashing.{in_both}
 use Rattle.spec_blocks.proofs.Done.{on_the_way, chosen, same_value}
-use Rattle.spec_fork_choice.specs.Store.{KeptBlock, LatestMessage, Store, is_kept}
+use Rattle.spec_fork_choice.specs.Store.{KeptBlock, LatestMessage, Store, block_of, is_kept, is_equivocating}
 use Rattle.spec_fork_choice.specs.Slots.{get_current_slot}
 use Rattle.spec_fork_choice.specs.ShouldUpdateJustifiedCheckpoint.{should_update_justified_checkpoint}
 use Rattle.spec_fork_choice.specs.OnTick.{on_tick, in_new_slot, in_new_epoch}
 use Rattle.spec_fork_choice.specs.OnBlock.{with_accepted, with_block, with_boost, with_justified, with_better_justified, with_best_justified, with_finalized}
 use Rattle.spec_fork_choice.specs.UpdateLatestMessages.{update_latest_message, update_latest_messages}
-use Rattle.spec_fork_choice.specs.StoreTargetCheckpointState.{store_target_checkpoint_state}
+use Rattle.spec_fork_choice.specs.StoreTargetCheckpointState.{store_target_checkpoint_state, kept_or}
 use Rattle.spec_fork_choice.specs.ValidateOnAttestation.{validate_on_attestation}
 use Rattle.spec_fork_choice.specs.OnAttestation.{check_target_committee, on_attestation}
+use Rattle.spec_fork_choice.specs.OnAttesterSlashing.{with_equivocating, on_attester_slashing}
 
 -- a store has the configuration and the finalized checkpoint of another
 pub record Leaves (old new : Store) : Type 0 where
@@ -82,6 +87,25 @@ vote_leaves old new attestation from_block is =
     let somebody = on_the_way (check (not (length attesting == 0)) FcEmpty) _ new committee.then_done in
     subst (Leaves old) (same_value (update_latest_messages old attesting attestation) new somebody.then_done)
     (messages_leave old (record { epoch = attestation.content.target.epoch; root = attestation.content.beacon_block_root }) attesting)
+
+-- ---- an attester slashing
+
+marks_leave : (old : Store) (indices : List ℕ) → Leaves old (fold with_equivocating old indices)
+unfolding with_equivocating
+marks_leave old [] = unchanged old
+marks_leave old (index ∷ indices) =
+    behind old (with_equivocating old index) (fold with_equivocating (with_equivocating old index) indices) (marks_leave (with_equivocating old index) indices)
+    (either (is_equivocating old index) old old _ (unchanged old) (record { config = refl; finalized = refl }))
+
+pub slashing_leaves : (old new : Store) (slashing : AttesterSlashing) → on_attester_slashing old slashing ≡ done new → Leaves old new
+unfolding on_attester_slashing
+slashing_leaves old new slashing is =
+    let slashable = on_the_way (check (is_slashable_attestation_data slashing.attestation_1.content slashing.attestation_2.content) AsData) _ new is in
+    let justified = on_the_way (kept_or IndexRange (block_of old.blocks old.justified_checkpoint.root)) _ new slashable.then_done in
+    let first = on_the_way (is_valid_indexed_attestation justified.value.state slashing.attestation_1) _ new justified.then_done in
+    let second = on_the_way (is_valid_indexed_attestation justified.value.state slashing.attestation_2) _ new first.then_done in
+    let both = in_both slashing.attestation_1.attesting_indices slashing.attestation_2.attesting_indices in
+    subst (Leaves old) (same_value (fold with_equivocating old both) new second.then_done) (marks_leave old both)
 
 -- ---- a block
 

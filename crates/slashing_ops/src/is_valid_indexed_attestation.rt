@@ -37,7 +37,7 @@ fn all_below(indices: &[u64], count: u64) -> bool
 /// Refused where there are no indices, or they aren't sorted, each once; and then where one is past the registry
 /// (beacon-chain.md, `is_valid_indexed_attestation`). The signature isn't checked.
 #[tactic(auto, unfolding(spec_blocks::specs::IsValidIndexedAttestation::is_valid_indexed_attestation))]
-pub(crate) fn is_valid_indexed_attestation(
+pub fn is_valid_indexed_attestation(
     state: &State,
     attestation: &IndexedAttestation,
 ) -> Result<(), Stop>

@@ -7,7 +7,7 @@
 mod decrease_balance;
 mod increase_balance;
 mod is_slashable_validator;
-mod is_valid_indexed_attestation;
+pub mod is_valid_indexed_attestation;
 pub mod process_attester_slashing;
 pub mod process_proposer_slashing;
 mod read;

@@ -18,7 +18,7 @@ use beacon_state::State;
 use beacon_types::is_slashable_data;
 
 /// Whether an index is among these.
-fn is_among(indices: &[u64], index: u64) -> bool
+pub fn is_among(indices: &[u64], index: u64) -> bool
     ensures { result ≡ list_any (λ other. other == index) indices.now }
 {
     for other in indices {

@@ -1,23 +1,28 @@
--- What each handler makes of the blocks that a store keeps: a tick and an attestation leave them, and an accepted block adds itself
--- at most.
+-- What each handler makes of the blocks that a store keeps: a tick, an attestation and an attester slashing leave them, and an
+-- accepted block adds itself at most.
 use Rattle.std.proofs.Common.{◌≡◌, ◌∙◌, ℕ, Bool, true, false, List, [], ◌∷◌, length, fold, if◌then◌else◌, nat_lt, not, ◌==◌, refl, sym, ap, inl, inr}
 use Rattle.bc_words.specs.Outcome.{done, refused}
-use Rattle.bc_words.specs.declared.refusal.Refusal.TheVariants.{TickBack, FcEmpty}
+use Rattle.bc_words.specs.declared.refusal.Refusal.TheVariants.{TickBack, FcEmpty, AsData, IndexRange}
 use Rattle.beacon_types.specs.declared.checkpoint.Checkpoint.{Checkpoint}
+use Rattle.beacon_types.specs.Slashable.{is_slashable_attestation_data}
 use Rattle.beacon_body.specs.declared.attestation.Attestation.{Attestation}
+use Rattle.beacon_body.specs.declared.attester_slashing.AttesterSlashing.{AttesterSlashing}
 use Rattle.spec_state.specs.declared.plain.PlainState.{PlainState}
 use Rattle.spec_state.specs.Accessors.{get_attesting_indices}
 use Rattle.spec_blocks.specs.Checks.{check}
+use Rattle.spec_blocks.specs.IsValidIndexedAttestation.{is_valid_indexed_attestation}
+use Rattle.spec_blocks.specs.ProcessAttesterSlashing.{in_both}
 use Rattle.spec_blocks.proofs.Done.{on_the_way, chosen, same_value}
-use Rattle.spec_fork_choice.specs.Store.{KeptBlock, LatestMessage, Store}
+use Rattle.spec_fork_choice.specs.Store.{KeptBlock, LatestMessage, Store, block_of, is_equivocating}
 use Rattle.spec_fork_choice.specs.Slots.{get_current_slot}
 use Rattle.spec_fork_choice.specs.ShouldUpdateJustifiedCheckpoint.{should_update_justified_checkpoint}
 use Rattle.spec_fork_choice.specs.OnTick.{on_tick, in_new_slot, in_new_epoch}
 use Rattle.spec_fork_choice.specs.OnBlock.{with_accepted, with_block, with_boost, with_justified, with_better_justified, with_best_justified, with_finalized}
 use Rattle.spec_fork_choice.specs.UpdateLatestMessages.{update_latest_message, update_latest_messages}
-use Rattle.spec_fork_choice.specs.StoreTargetCheckpointState.{store_target_checkpoint_state}
+use Rattle.spec_fork_choice.specs.StoreTargetCheckpointState.{store_target_checkpoint_state, kept_or}
 use Rattle.spec_fork_choice.specs.ValidateOnAttestation.{validate_on_attestation}
 use Rattle.spec_fork_choice.specs.OnAttestation.{check_target_committee, on_attestation}
+use Rattle.spec_fork_choice.specs.OnAttesterSlashing.{with_equivocating, on_attester_slashing}
 
 -- both of a choice have these blocks
 either_blocks : (choice : Bool) (x y : Store) (blocks : List KeptBlock) → x.blocks ≡ blocks → y.blocks ≡ blocks → (if choice then x else y).blocks ≡ blocks
@@ -97,3 +102,20 @@ vote_blocks old new attestation from_block is =
     let somebody = on_the_way (check (not (length attesting == 0)) FcEmpty) _ new committee.then_done in
     ap (λ (s : Store). s.blocks) (sym (same_value (update_latest_messages old attesting attestation) new somebody.then_done))
     ∙ messages_blocks old (record { epoch = attestation.content.target.epoch; root = attestation.content.beacon_block_root }) attesting
+
+-- ---- an attester slashing
+
+equivocating_blocks : (old : Store) (indices : List ℕ) → (fold with_equivocating old indices).blocks ≡ old.blocks
+unfolding with_equivocating
+equivocating_blocks old [] = refl
+equivocating_blocks old (index ∷ indices) = equivocating_blocks (with_equivocating old index) indices ∙ either_blocks (is_equivocating old index) old _ old.blocks refl refl
+
+pub slashing_blocks : (old new : Store) (slashing : AttesterSlashing) → on_attester_slashing old slashing ≡ done new → new.blocks ≡ old.blocks
+unfolding on_attester_slashing
+slashing_blocks old new slashing is =
+    let slashable = on_the_way (check (is_slashable_attestation_data slashing.attestation_1.content slashing.attestation_2.content) AsData) _ new is in
+    let justified = on_the_way (kept_or IndexRange (block_of old.blocks old.justified_checkpoint.root)) _ new slashable.then_done in
+    let first = on_the_way (is_valid_indexed_attestation justified.value.state slashing.attestation_1) _ new justified.then_done in
+    let second = on_the_way (is_valid_indexed_attestation justified.value.state slashing.attestation_2) _ new first.then_done in
+    let both = in_both slashing.attestation_1.attesting_indices slashing.attestation_2.attesting_indices in
+    ap (λ (s : Store). s.blocks) (sym (same_value (fold with_equivocating old both) new second.then_done)) ∙ equivocating_blocks old both

@@ -1,5 +1,5 @@
 -- The store at genesis, whose state is of slot 0: its time is that of genesis, and its checkpoints are of epoch 0.
-use Rattle.std.proofs.Common.{◌≡◌, ◌+◌, ◌*◌, ◌/◌, ℕ, List, [], ◌∷◌, ap, ◌∙◌, arith}
+use Rattle.std.proofs.Common.{◌≡◌, ◌+◌, ◌*◌, ◌/◌, ℕ, [], ◌∷◌, ap, ◌∙◌, arith}
 use Rattle.std.proofs.Math.Nat.{zero-div}
 use Rattle.bc_preset.specs.declared.configuration.ConfigValues.{ConfigValues}
 use Rattle.beacon_types.specs.declared.checkpoint.Checkpoint.{Checkpoint}
@@ -25,6 +25,7 @@ store_of_slot_zero config genesis = record {
   proposer_boost_root = zero_root;
   blocks = record { root = block_codec.hash_tree_root (genesis_block genesis); block = genesis_block genesis; state = genesis } ∷ [];
   latest_messages = [];
+  equivocating_indices = [];
 }
 
 pub genesis_store_is : (config : ConfigValues) (genesis : PlainState) → genesis.slot ≡ 0 → genesis_store config genesis ≡ store_of_slot_zero config genesis

@@ -5,15 +5,17 @@ use Rattle.bc_words.specs.Events.{EventOutcome, accepted, event_refused, event_l
 use Rattle.bc_words.specs.declared.store_stop.ClashKind.{ClashKind}
 use Rattle.beacon_body.specs.declared.block.BeaconBlock.{BeaconBlock}
 use Rattle.beacon_body.specs.declared.attestation.Attestation.{Attestation}
+use Rattle.beacon_body.specs.declared.attester_slashing.AttesterSlashing.{AttesterSlashing}
 use Rattle.beacon_body.specs.declared.signed_block.SignedBeaconBlock.{SignedBeaconBlock}
-use Rattle.beacon_body.specs.Containers.{signed_block_codec, attestation_codec}
+use Rattle.beacon_body.specs.Containers.{signed_block_codec, attestation_codec, attester_slashing_codec}
 use Rattle.spec_transition.specs.ProcessSlots.{Stepped}
 use Rattle.spec_fork_choice.specs.Store.{KeptBlock, Store, is_kept}
 use Rattle.spec_fork_choice.specs.OnTick.{on_tick}
 use Rattle.spec_fork_choice.specs.OnBlock.{BlockIn, block_step, accept_block, on_block, with_accepted, with_block}
 use Rattle.spec_fork_choice.specs.OnAttestation.{on_attestation}
-use Rattle.spec_fork_choice.specs.OnEvent.{Accepted, without_block, handle_tick, handle_block, handle_attestation, on_event}
-use Rattle.spec_fork_choice.proofs.Blocks.{tick_blocks, vote_blocks, accepted_blocks}
+use Rattle.spec_fork_choice.specs.OnAttesterSlashing.{on_attester_slashing}
+use Rattle.spec_fork_choice.specs.OnEvent.{Accepted, without_block, handle_tick, handle_block, handle_attestation, handle_attester_slashing, on_event}
+use Rattle.spec_fork_choice.proofs.Blocks.{tick_blocks, vote_blocks, slashing_blocks, accepted_blocks}
 
 -- a store with as many blocks, or at most one more, than there were
 abbrev pub KeepsOneMore : Store → Store → Type 0
@@ -80,6 +82,11 @@ unfolding handle_attestation
 read_vote old from_block None = tt
 read_vote old from_block (Some attestation) = no_block old (on_attestation old attestation from_block) (λ new is. vote_blocks old new attestation from_block is)
 
+read_slashing : (old : Store) (read : Option AttesterSlashing) → Keeps old (handle_attester_slashing old read)
+unfolding handle_attester_slashing
+read_slashing old None = tt
+read_slashing old (Some slashing) = no_block old (on_attester_slashing old slashing) (λ new is. slashing_blocks old new slashing is)
+
 either_keeps : {A : Type 0} (old : Store) (choice : Bool) (x y : EventOutcome (Store × A)) → Keeps old x → Keeps old y → Keeps old (if choice then x else y)
 either_keeps old true x y h k = h
 either_keeps old false x y h k = k
@@ -93,9 +100,11 @@ unfolding on_event
 event old kind payload =
     let block_read = signed_block_codec.deserialize payload in
     let vote_read = attestation_codec.deserialize payload in
-    either_keeps old (kind == 1) (handle_tick old payload) (if kind == 2 then handle_block old block_read else handle_attestation old (kind == 4) vote_read)
-    (read_tick old payload)
-    (either_keeps old (kind == 2) (handle_block old block_read) (handle_attestation old (kind == 4) vote_read) (read_block old block_read) (read_vote old (kind == 4) vote_read))
+    let slashing_read = attester_slashing_codec.deserialize payload in
+    let slashing_or_vote = if kind == 5 then handle_attester_slashing old slashing_read else handle_attestation old (kind == 4) vote_read in
+    either_keeps old (kind == 1) (handle_tick old payload) (if kind == 2 then handle_block old block_read else slashing_or_vote) (read_tick old payload)
+    (either_keeps old (kind == 2) (handle_block old block_read) slashing_or_vote (read_block old block_read)
+    (either_keeps old (kind == 5) (handle_attester_slashing old slashing_read) (handle_attestation old (kind == 4) vote_read) (read_slashing old slashing_read) (read_vote old (kind == 4) vote_read)))
 
 pub event_keeps_one_more : (old new : Store) (kind : ℕ) (payload : List ℕ) (given : Accepted) → on_event old kind payload ≡ accepted (new, given) → KeepsOneMore old new
 event_keeps_one_more old new kind payload given is = rw is at (event old kind payload)

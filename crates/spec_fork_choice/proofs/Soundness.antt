@@ -1,12 +1,11 @@
 -- The test of soundness is true exactly of the sound states.
-use Rattle.std.proofs.Common.{◌≡◌, ◌↔◌, ℕ, Bool, true, false, IsTrue, not, ◌||◌, nat_eq, List, [], ◌∷◌, length, refl, sym, ap, arith, inl, inr}
+use Rattle.std.proofs.Common.{◌≡◌, ◌↔◌, ℕ, Bool, true, false, IsTrue, not, ◌||◌, List, [], ◌∷◌, length, refl, ap, arith, inl, inr}
 use Rattle.std.specs.Prelude.{◌==◌}
 use Rattle.std.specs.List.{list_all, AllByRecursion}
 use Rattle.std.proofs.lemmas.Bool.{and_parts, and_from, ltb-true, leb-true, eqb-true, lt-ltb, le-leb, eq-eqb, or_cases, or_left, or_right, cases_Bool, not-true, both_ways, not_from_false}
 use Rattle.beacon_types.specs.declared.pending_attestation.PendingAttestation.{PendingAttestation}
 use Rattle.spec_state.specs.declared.plain.PlainState.{PlainState}
-use Rattle.spec_state.specs.Accessors.{get_current_epoch, get_previous_epoch}
-use Rattle.spec_state.specs.Soundness.{IsSoundPending, IsSoundTo, IsSound}
+use Rattle.spec_state.specs.Soundness.{IsSoundPending, IsSound}
 use Rattle.spec_fork_choice.specs.Soundness.{is_sound, is_sound_pending}
 
 pending_from : (s : PlainState) (epoch : ℕ) (a : PendingAttestation) → is_sound_pending s epoch a ≡ true → IsSoundPending s epoch a

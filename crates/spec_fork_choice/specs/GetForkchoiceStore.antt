@@ -13,7 +13,7 @@ use Rattle.spec_fork_choice.specs.Store.{Store}
 use Rattle.spec_fork_choice.specs.Anchor.{time_of_slot}
 
 -- get_forkchoice_store(anchor_state, anchor_block). The best justified checkpoint is that of the anchor too, there is no boost,
--- and nobody has voted
+-- and nobody has voted or is equivocating
 unfoldable pub get_forkchoice_store : ConfigValues → PlainState → BeaconBlock → Store
 get_forkchoice_store config anchor_state anchor_block =
     let anchor_root : List ℕ = block_codec.hash_tree_root anchor_block in
@@ -28,6 +28,7 @@ get_forkchoice_store config anchor_state anchor_block =
       proposer_boost_root = zero_root;
       blocks = record { root = anchor_root; block = anchor_block; state = anchor_state } ∷ [];
       latest_messages = [];
+      equivocating_indices = [];
     }
 
 -- the genesis block of a genesis state

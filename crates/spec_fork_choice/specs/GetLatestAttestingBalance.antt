@@ -9,7 +9,7 @@ use Rattle.spec_state.specs.declared.plain.PlainState.{PlainState}
 use Rattle.spec_state.specs.Misc.{effective_balance}
 use Rattle.spec_state.specs.Genesis.{zero_root}
 use Rattle.spec_state.specs.Accessors.{get_current_epoch, get_active_validator_indices}
-use Rattle.spec_fork_choice.specs.Store.{Store, slot_of, message_of}
+use Rattle.spec_fork_choice.specs.Store.{Store, slot_of, vote_of}
 use Rattle.spec_fork_choice.specs.GetAncestor.{get_ancestor}
 use Rattle.spec_fork_choice.specs.StoreTargetCheckpointState.{store_target_checkpoint_state}
 
@@ -17,9 +17,9 @@ use Rattle.spec_fork_choice.specs.StoreTargetCheckpointState.{store_target_check
 unfoldable pub is_on_chain_of : Store → List ℕ → List ℕ → Bool
 is_on_chain_of store root descendant = same_root (get_ancestor store descendant (slot_of store.blocks root)) root
 
--- whether a validator's latest message is for a block or one behind it
+-- whether a validator that isn't equivocating has a latest message for a block or one behind it
 unfoldable pub votes_for : Store → List ℕ → ℕ → Bool
-votes_for store root validator = option_map_or (λ message. is_on_chain_of store root message.root) (message_of store validator) false
+votes_for store root validator = option_map_or (λ message. is_on_chain_of store root message.root) (vote_of store validator) false
 
 -- the validators that are active in a state, slashed ones included
 unfoldable pub active_in : PlainState → List ℕ
@@ -31,7 +31,7 @@ attestation_score store state root =
     sum_by (effective_balance state.validators) (filter (votes_for store root) (active_in state))
 
 -- the boost: so many hundredths of what a slot's committees weigh on average; nothing where nobody is active, since no slot
--- has a member then. The total is at least one increment, and exact
+-- has a member then. The total is at least one increment, and exact. Equivocating validators count here as others do
 unfoldable pub proposer_score : Store → PlainState → ℕ
 proposer_score store state =
     let active : List ℕ = active_in state in

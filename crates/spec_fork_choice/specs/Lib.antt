@@ -6,6 +6,7 @@ pub mod GetForkchoiceStore
 pub mod GetHead
 pub mod GetLatestAttestingBalance
 pub mod OnAttestation
+pub mod OnAttesterSlashing
 pub mod OnBlock
 pub mod OnEvent
 pub mod OnTick

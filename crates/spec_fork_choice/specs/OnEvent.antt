@@ -1,4 +1,4 @@
--- One event of a record: its payload is read and handled (fork-choice.md, "Handlers"). Events are of four kinds.
+-- One event of a record: its payload is read and handled (fork-choice.md, "Handlers"). Events are of five kinds.
 use Rattle.std.specs.Prelude.{ℕ, ◌==◌, List, [], Bool, length, Option, Some, None, if◌then◌else◌}
 use Rattle.hash_tree.specs.Merkle.{bytes_to_uint64}
 use Rattle.bc_words.specs.Events.{EventOutcome, accepted, event_refused, event_clashes, then_event, on_the_way}
@@ -6,9 +6,10 @@ use Rattle.bc_words.specs.Outcome.{Outcome}
 use Rattle.bc_words.specs.declared.refusal.Refusal.TheVariants.{Malformed}
 use Rattle.bc_words.specs.declared.store_stop.ClashKind.{ClashKind}
 use Rattle.beacon_body.specs.declared.attestation.Attestation.{Attestation}
+use Rattle.beacon_body.specs.declared.attester_slashing.AttesterSlashing.{AttesterSlashing}
 use Rattle.beacon_body.specs.declared.block.BeaconBlock.{BeaconBlock}
 use Rattle.beacon_body.specs.declared.signed_block.SignedBeaconBlock.{SignedBeaconBlock}
-use Rattle.beacon_body.specs.Containers.{block_codec, signed_block_codec, attestation_codec}
+use Rattle.beacon_body.specs.Containers.{block_codec, signed_block_codec, attestation_codec, attester_slashing_codec}
 use Rattle.spec_state.specs.declared.plain.PlainState.{PlainState}
 use Rattle.bc_preset.specs.declared.configuration.ConfigValues.{ConfigValues}
 use Rattle.spec_fork_choice.specs.Store.{Store}
@@ -17,6 +18,7 @@ use Rattle.spec_fork_choice.specs.Clash.{clash_of}
 use Rattle.spec_fork_choice.specs.OnTick.{on_tick}
 use Rattle.spec_fork_choice.specs.OnBlock.{BlockIn, on_block}
 use Rattle.spec_fork_choice.specs.OnAttestation.{on_attestation}
+use Rattle.spec_fork_choice.specs.OnAttesterSlashing.{on_attester_slashing}
 
 -- What an accepted event gives beside the new store: what a block leaves, and nothing for another event
 pub data Accepted : Type 0 where
@@ -42,12 +44,18 @@ unfoldable pub handle_attestation : Store → Bool → Option Attestation → Ev
 handle_attestation store is_from_block None = event_refused Malformed
 handle_attestation store is_from_block (Some attestation) = without_block (on_attestation store attestation is_from_block)
 
--- The handler of an event's kind: 1 a tick, 2 a block, 3 an attestation from the wire, 4 an attestation from a block. A
--- record has no other kind
+-- an attester slashing, if the payload is the writing of one
+unfoldable pub handle_attester_slashing : Store → Option AttesterSlashing → EventOutcome (Store × Accepted)
+handle_attester_slashing store None = event_refused Malformed
+handle_attester_slashing store (Some attester_slashing) = without_block (on_attester_slashing store attester_slashing)
+
+-- The handler of an event's kind: 1 a tick, 2 a block, 3 an attestation from the wire, 4 an attestation from a block, 5 an
+-- attester slashing. A record has no other kind
 unfoldable pub on_event : Store → ℕ → List ℕ → EventOutcome (Store × Accepted)
 on_event store kind payload =
     if kind == 1 then handle_tick store payload
     else if kind == 2 then handle_block store (signed_block_codec.deserialize payload)
+    else if kind == 5 then handle_attester_slashing store (attester_slashing_codec.deserialize payload)
     else handle_attestation store (kind == 4) (attestation_codec.deserialize payload)
 
 -- how the first kept block clashes, if it does: its root is zero, or else its state root is

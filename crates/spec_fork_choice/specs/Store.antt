@@ -1,7 +1,7 @@
 -- The store of fork choice (fork-choice.md, "LatestMessage" and "Store"). Where our profile differs from the published text
 -- a comment says so.
-use Rattle.std.specs.Prelude.{ℕ, List, [], ◌∷◌, Bool, Option, None, is_some, slice_index_or}
-use Rattle.std.specs.List.{find}
+use Rattle.std.specs.Prelude.{ℕ, List, [], ◌∷◌, Bool, Option, None, is_some, slice_index_or, ◌==◌, if◌then◌else◌}
+use Rattle.std.specs.List.{find, list_any}
 use Rattle.std.specs.Option.{option_map_or}
 use Rattle.bc_preset.specs.declared.configuration.ConfigValues.{ConfigValues}
 use Rattle.beacon_types.specs.declared.checkpoint.Checkpoint.{Checkpoint}
@@ -22,8 +22,9 @@ pub record LatestMessage : Type 0 where
   pub root : List ℕ
 
 -- Store. It holds its configuration, as a state holds its preset. `blocks` are in the order in which they were first
--- accepted; `latest_messages` has a place for each validator up to the last that has one. The states of checkpoints are
--- no part of it: they are computed each time
+-- accepted; `latest_messages` has a place for each validator up to the last that has one. `equivocating_indices`, which later
+-- releases of the published text have, is a set: its members in ascending order. The states of checkpoints are no part of the
+-- store: they are computed each time
 pub record Store : Type 0 where
   pub config : ConfigValues
   pub time : ℕ
@@ -34,6 +35,7 @@ pub record Store : Type 0 where
   pub proposer_boost_root : List ℕ
   pub blocks : List KeptBlock
   pub latest_messages : List (Option LatestMessage)
+  pub equivocating_indices : List ℕ
 
 -- store.blocks[root] with store.block_states[root], where the root is kept
 unfoldable pub block_of : List KeptBlock → List ℕ → Option KeptBlock
@@ -59,3 +61,11 @@ first_slot (first ∷ later) = first.block.slot
 -- the latest message of a validator, if it has one
 unfoldable pub message_of : Store → ℕ → Option LatestMessage
 message_of store validator = slice_index_or store.latest_messages validator None
+
+-- i in store.equivocating_indices
+unfoldable pub is_equivocating : Store → ℕ → Bool
+is_equivocating store validator = list_any (λ index. index == validator) store.equivocating_indices
+
+-- the message by which a validator weighs: its latest one, and none where it is equivocating
+unfoldable pub vote_of : Store → ℕ → Option LatestMessage
+vote_of store validator = if is_equivocating store validator then None else message_of store validator

@@ -1,5 +1,5 @@
--- The run of `forensic CONFIG GENESIS A B`: two records run on one genesis, each in a store of its own, and the offences and the
--- verdict are what is written.
+-- The run of `forensic CONFIG GENESIS A B` and of `slasher CONFIG GENESIS A B`: two records run on one genesis, each in a store of its
+-- own. What is told of them is what is written: by `forensic` the offences and the verdict, by `slasher` the attester slashings.
 use Rattle.std.specs.Prelude.{ℕ, ◌+◌, List, [], ◌∷◌, ◌++◌, flat_map, codes, ◌==◌, Option, Some, None, Result, Ok, Err, option_and_then}
 use Rattle.std.specs.Fmt.{decimal}
 use Rattle.bc_preset.specs.Configs.{config_of}
@@ -22,8 +22,12 @@ use Rattle.spec_forensics.specs.declared.verdict.Verdict.TheVariants.{Agree, Sma
 use Rattle.spec_forensics.specs.Histories.{AcceptedBlock, with_event}
 use Rattle.spec_forensics.specs.Clash.{clash_among, first_accepted}
 use Rattle.spec_forensics.specs.Verdict.{offences_of, verdict_of}
+use Rattle.spec_slasher.specs.Operations.{operations}
+use Rattle.spec_replay.specs.declared.report.Report.{Report}
+use Rattle.spec_replay.specs.declared.report.Report.TheVariants.{Findings, Slashings}
 use Rattle.spec_replay.specs.Lines.{root_text}
 use Rattle.spec_replay.specs.OffenceLines.{history_text, offence_line}
+use Rattle.spec_replay.specs.Slasher.{slashing_record}
 use Rattle.spec_replay.specs.Run.{Run, End, done, bad_config, bad_genesis, bad_record, limited, clash, over, missing, after_file, after_lines}
 
 -- ---- a record's history
@@ -67,7 +71,7 @@ follow_events which others number followed (event ∷ events) end =
 abbrev pub follow : ℕ → List KeptBlock → Store → Events → Result Followed End
 follow which others store events = follow_events which others 1 (record { store = store; history = [] }) events.events events.end
 
--- ---- the lines
+-- ---- what is told
 
 -- the line of the verdict
 unfoldable pub verdict_line : Verdict → List ℕ
@@ -84,49 +88,61 @@ verdict_on genesis first second = verdict_of genesis first.history second.histor
 unfoldable pub forensic_lines : PlainState → Followed → Followed → List ℕ
 forensic_lines genesis first second = flat_map offence_line (offences_of genesis first.history second.history) ++ verdict_line (verdict_on genesis first second)
 
+-- what a command tells of both records
+unfoldable pub told_of : Report → PlainState → Followed → Followed → List ℕ
+told_of Findings genesis first second = forensic_lines genesis first second
+told_of Slashings genesis first second = slashing_record (operations genesis first.history second.history)
+
 -- ---- the files
 
 -- both records were followed, unless the second ended the run
-unfoldable pub judge : PlainState → Followed → Result Followed End → Run
-judge genesis first (Err end) = over end
-judge genesis first (Ok second) = after_lines (forensic_lines genesis first second) (over done)
+unfoldable pub judge : Report → PlainState → Followed → Result Followed End → Run
+judge report genesis first (Err end) = over end
+judge report genesis first (Ok second) = after_lines (told_of report genesis first second) (over done)
 
 -- the second record, if it is there
-unfoldable pub with_second : PlainState → Store → Followed → Option (List ℕ) → Run
-with_second genesis store first None = missing
-with_second genesis store first (Some bytes) = after_file (judge genesis first (follow 1 (first_accepted genesis first.history) store (events_of bytes)))
+unfoldable pub with_second : Report → PlainState → Store → Followed → Option (List ℕ) → Run
+with_second report genesis store first None = missing
+with_second report genesis store first (Some bytes) = after_file (judge report genesis first (follow 1 (first_accepted genesis first.history) store (events_of bytes)))
 
 -- the first record was followed, unless it ended the run; only then the second one is asked for
-unfoldable pub behind_first : PlainState → Store → Result Followed End → Option (List ℕ) → Run
-behind_first genesis store (Err end) second = over end
-behind_first genesis store (Ok first) second = with_second genesis store first second
+unfoldable pub behind_first : Report → PlainState → Store → Result Followed End → Option (List ℕ) → Run
+behind_first report genesis store (Err end) second = over end
+behind_first report genesis store (Ok first) second = with_second report genesis store first second
 
 -- the first record, if it is there
-unfoldable pub with_first : PlainState → Store → Option (List ℕ) → Option (List ℕ) → Run
-with_first genesis store None second = missing
-with_first genesis store (Some bytes) second = after_file (behind_first genesis store (follow 0 [] store (events_of bytes)) second)
+unfoldable pub with_first : Report → PlainState → Store → Option (List ℕ) → Option (List ℕ) → Run
+with_first report genesis store None second = missing
+with_first report genesis store (Some bytes) second = after_file (behind_first report genesis store (follow 0 [] store (events_of bytes)) second)
 
 -- the store at genesis, unless the genesis block clashes
-unfoldable pub with_store : Option ClashKind → PlainState → Store → Option (List ℕ) → Option (List ℕ) → Run
-with_store (Some kind) genesis store first second = over (clash 0 0 kind 0)
-with_store None genesis store first second = with_first genesis store first second
+unfoldable pub with_store : Report → Option ClashKind → PlainState → Store → Option (List ℕ) → Option (List ℕ) → Run
+with_store report (Some kind) genesis store first second = over (clash 0 0 kind 0)
+with_store report None genesis store first second = with_first report genesis store first second
 
 -- the genesis state, or its first fault
-unfoldable pub with_state : ConfigValues → Result PlainState GenesisFault → Option (List ℕ) → Option (List ℕ) → Run
-with_state config (Err part) first second = over (bad_genesis part)
-with_state config (Ok genesis) first second = with_store (genesis_clash genesis) genesis (genesis_store config genesis) first second
+unfoldable pub with_state : Report → ConfigValues → Result PlainState GenesisFault → Option (List ℕ) → Option (List ℕ) → Run
+with_state report config (Err part) first second = over (bad_genesis part)
+with_state report config (Ok genesis) first second = with_store report (genesis_clash genesis) genesis (genesis_store config genesis) first second
 
 -- the genesis file, if it is there
-unfoldable pub with_genesis : ConfigValues → Option (List ℕ) → Option (List ℕ) → Option (List ℕ) → Run
-with_genesis config None first second = missing
-with_genesis config (Some bytes) first second = after_file (with_state config (genesis_of config.preset bytes) first second)
+unfoldable pub with_genesis : Report → ConfigValues → Option (List ℕ) → Option (List ℕ) → Option (List ℕ) → Run
+with_genesis report config None first second = missing
+with_genesis report config (Some bytes) first second = after_file (with_state report config (genesis_of config.preset bytes) first second)
 
 -- the configuration, or its first fault
-unfoldable pub with_config : Result ConfigValues ConfigFault → Option (List ℕ) → Option (List ℕ) → Option (List ℕ) → Run
-with_config (Err reason) genesis first second = over (bad_config reason)
-with_config (Ok config) genesis first second = with_genesis config genesis first second
+unfoldable pub with_config : Report → Result ConfigValues ConfigFault → Option (List ℕ) → Option (List ℕ) → Option (List ℕ) → Run
+with_config report (Err reason) genesis first second = over (bad_config reason)
+with_config report (Ok config) genesis first second = with_genesis report config genesis first second
 
--- the configuration's file, if it is there, and then the genesis file and the two records
-unfoldable pub forensic_run : Option (List ℕ) → Option (List ℕ) → Option (List ℕ) → Option (List ℕ) → Run
-forensic_run None genesis first second = missing
-forensic_run (Some bytes) genesis first second = after_file (with_config (config_of bytes) genesis first second)
+-- the run of two records: the configuration's file, if it is there, and then the genesis file and the two records
+unfoldable pub records_run : Report → Option (List ℕ) → Option (List ℕ) → Option (List ℕ) → Option (List ℕ) → Run
+records_run report None genesis first second = missing
+records_run report (Some bytes) genesis first second = after_file (with_config report (config_of bytes) genesis first second)
+
+-- the runs of the two commands
+abbrev pub forensic_run : Option (List ℕ) → Option (List ℕ) → Option (List ℕ) → Option (List ℕ) → Run
+forensic_run = records_run Findings
+
+abbrev pub slasher_run : Option (List ℕ) → Option (List ℕ) → Option (List ℕ) → Option (List ℕ) → Run
+slasher_run = records_run Slashings

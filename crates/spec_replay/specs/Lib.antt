@@ -8,3 +8,4 @@ pub mod Lines
 pub mod Nodes
 pub mod OffenceLines
 pub mod Run
+pub mod Slasher

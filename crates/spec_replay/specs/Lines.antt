@@ -39,6 +39,7 @@ kind_text kind =
     if kind == 1 then codes " tick "
     else if kind == 2 then codes " block "
     else if kind == 3 then codes " wire "
+    else if kind == 5 then codes " slashing "
     else codes " carried "
 
 -- the words before the head and the two checkpoints

@@ -12,3 +12,4 @@ pub mod One
 pub mod Sorted
 pub mod Events
 pub mod Evidence
+pub mod Taken

@@ -48,7 +48,7 @@ vote_in : (genesis : PlainState) (c : CarriedAttestation) (i : ℕ) → IsOneOf 
 unfolding votes_of votes_of_attestation attesters_of vote_at
 vote_in genesis c i attests low = in_map (vote_at c) i _ (in_filter (λ validator. nat_lt validator (length genesis.validators)) i _ (lt-ltb _ _ low) attests)
 
-into_votes : (genesis : PlainState) (v : Vote) (c : CarriedAttestation) → ComesFrom genesis v c → IsOneOf v (votes_of genesis c)
+pub into_votes : (genesis : PlainState) (v : Vote) (c : CarriedAttestation) → ComesFrom genesis v c → IsOneOf v (votes_of genesis c)
 into_votes genesis v c from = subst (λ (w : Vote). IsOneOf w (votes_of genesis c)) from.is (vote_in genesis c v.validator from.attests from.low)
 
 -- ---- the votes of blocks are those of their attestations
@@ -138,7 +138,7 @@ vote_decides a b =
     (λ h i. record { which = h.0 i; event = h.1.0 i; position = h.1.1.0 i; block_root = h.1.1.1.0 i; validator = h.1.1.1.1.0 i; content = h.1.1.1.1.1 i })
     (λ e. (λ i. (e i).which, (λ i. (e i).event, (λ i. (e i).position, (λ i. (e i).block_root, (λ i. (e i).validator, λ i. (e i).content))))))
 
-named : (genesis : PlainState) (v : Vote) (c : CarriedAttestation) → IsOneOf v (votes_of genesis c) → names genesis v c ≡ true
+pub named : (genesis : PlainState) (v : Vote) (c : CarriedAttestation) → IsOneOf v (votes_of genesis c) → names genesis v c ≡ true
 unfolding names
 named genesis v c h = to_any (λ other. same_vote other v) v (votes_of genesis c) h ((vote_decides v v).1 refl)
 

@@ -1,6 +1,6 @@
 -- What a block's step answers to an operation.
 use Rattle.std.proofs.Common.{◌≡◌, ℕ, ◌<◌, List, length}
-use Rattle.std.specs.List.{Contains}
+use Rattle.std.specs.List.{All, Contains}
 use Rattle.bc_words.specs.Outcome.{done, refused}
 use Rattle.bc_words.specs.declared.refusal.Refusal.TheVariants.{AsNone}
 use Rattle.bc_preset.specs.declared.configuration.ConfigValues.{ConfigValues}
@@ -12,8 +12,8 @@ use Rattle.spec_blocks.specs.IsValidIndexedAttestation.{is_valid_indexed_attesta
 use Rattle.spec_blocks.specs.ProcessAttesterSlashing.{process_attester_slashing}
 use Rattle.spec_forensics.specs.Histories.{AcceptedBlock}
 use Rattle.spec_slasher.specs.Operations.{operations}
-use Rattle.spec_slasher.specs.Accepts.{IsDoneOrOverflow, IsHeld, HasSlashable, HasNoSlashable}
-use Rattle.spec_slasher.proofs.Lists.{one_of}
+use Rattle.spec_slasher.specs.Accepts.{IsDoneOrOverflow, IsHeld, HasSlashable, HasNoSlashable, IsProcessed}
+use Rattle.spec_slasher.proofs.Lists.{one_of, contained, all_are}
 use Rattle.spec_slasher.proofs.Accepts.{operation_right, first_valid, second_valid, right_processed}
 use Rattle.spec_slasher.proofs.Nobody.{right_none}
 
@@ -33,3 +33,8 @@ operation_processed genesis first second operation s proposer config h state sou
 pub operation_for_nobody : (genesis : PlainState) (first second : List AcceptedBlock) (operation : AttesterSlashing) (s : PlainState) (proposer : ℕ) (config : ConfigValues)
     → Contains (operations genesis first second) operation → IsHeld s operation → HasNoSlashable s operation → process_attester_slashing s operation proposer config ≡ refused AsNone
 operation_for_nobody genesis first second operation s proposer config h held none = right_none proposer config s operation (operation_right genesis first second operation (one_of _ operation h)) held none
+
+pub all_processed : (genesis : PlainState) (first second : List AcceptedBlock) → All IsProcessed (operations genesis first second)
+all_processed genesis first second =
+    all_are IsProcessed (operations genesis first second)
+    (λ operation h s proposer config state sound proposes held slashable. operation_processed genesis first second operation s proposer config (contained (operations genesis first second) operation h) state sound proposes held slashable)

@@ -44,7 +44,7 @@ long_either : (b : Bool) (m : ℕ) (xs : List ℕ) (n : ℕ) → length xs ≤ n
 long_either true m xs n less = omega (arith, less)
 long_either false m xs n less = omega (arith, less)
 
-members_long : (members : List ℕ) (bits : List Bool) → length (members_with_bits members bits) ≤ length bits
+pub members_long : (members : List ℕ) (bits : List Bool) → length (members_with_bits members bits) ≤ length bits
 unfolding members_with_bits
 members_long [] bits = omega arith
 members_long (m ∷ members) [] = omega arith

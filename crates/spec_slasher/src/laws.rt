@@ -21,7 +21,7 @@ ghost use Rattle.spec_forensics.specs.Verdict.{offences_of};
 ghost use Rattle.spec_slasher.specs.GetIndexedAttestation.{in_order};
 ghost use Rattle.spec_slasher.specs.AttestationOf.{CarriedAttestation, all_attestations, AreInOrder, names, indexed, attestation_of};
 ghost use Rattle.spec_slasher.specs.Operations.{operations, AreCarriedIn, HasOperation, offenders, IsNamed};
-ghost use Rattle.spec_slasher.specs.Accepts.{IsDoneOrOverflow, IsHeld, HasSlashable, HasNoSlashable};
+ghost use Rattle.spec_slasher.specs.Accepts.{IsDoneOrOverflow, IsHeld, HasSlashable, HasNoSlashable, IsTaken};
 ghost use Rattle.spec_slasher.specs.Written.{IsReadable};
 
 /// The sorted list of a list's indices ascends strictly, has the same indices, and is the only such list.
@@ -96,6 +96,12 @@ pub fn operations_are_processed()
         → IsState s → IsSound s → proposer < length s.validators → IsHeld s operation → HasSlashable s operation → IsDoneOrOverflow (process_attester_slashing s operation proposer config) }
     ensures none { (genesis : PlainState) (first second : List AcceptedBlock) (operation : AttesterSlashing) (s : PlainState) (proposer : ℕ) (config : ConfigValues) → Contains (operations genesis first second) operation
         → IsHeld s operation → HasNoSlashable s operation → process_attester_slashing s operation proposer config ≡ refused AsNone }
+{}
+
+/// Fork choice accepts each operation in a store whose justified root's own state holds every index: behind it exactly the common
+/// validators are equivocating beside those before, and all else is as it was.
+pub fn operations_are_taken()
+    ensures { (genesis : PlainState) (first second : List AcceptedBlock) → All IsTaken (operations genesis first second) }
 {}
 
 /// Where the accepted blocks are readable, each operation has a writing that is read as it, of at most 33,232 bytes.

@@ -14,8 +14,6 @@ mod one;
 mod pairs;
 mod place;
 mod reserve;
-#[cfg(test)]
-mod rows;
 mod spans;
 mod votes;
 

@@ -13,6 +13,7 @@ use Rattle.spec_forensics.specs.Histories.{AcceptedBlock}
 use Rattle.spec_forensics.specs.Offences.{IsCarried}
 use Rattle.spec_forensics.specs.Verdict.{offences_of, verdict_of}
 use Rattle.spec_forensics.specs.declared.verdict.Verdict.TheVariants.{Conflict}
+use Rattle.spec_replay.specs.declared.report.Report.{Report}
 use Rattle.spec_replay.specs.Run.{Run}
 use Rattle.spec_replay.specs.Forensic.{with_store}
 use Rattle.safety_law.specs.Histories.{Begins}
@@ -52,8 +53,8 @@ pub record AreOpened (config : ConfigValues) (genesis : PlainState) (histories :
   pub begins : Begins genesis
 
 -- the run of two records on a genesis
-abbrev pub run_of_records : ConfigValues → PlainState → Option (List ℕ) → Option (List ℕ) → Run
-run_of_records config genesis first second = with_store (genesis_clash genesis) genesis (genesis_store config genesis) first second
+abbrev pub run_of_records : Report → ConfigValues → PlainState → Option (List ℕ) → Option (List ℕ) → Run
+run_of_records report config genesis first second = with_store report (genesis_clash genesis) genesis (genesis_store config genesis) first second
 
 -- What a book finds: the offences and the verdict of both histories. Both votes of each offence are carried, and a conflict convicts.
 pub record HasFound (genesis : PlainState) (first second : List AcceptedBlock) (first_store second_store : Store) (findings : Findings) : Type 0 where

@@ -18,7 +18,7 @@ best_descendant_at bests number = slice_index_or bests number no_best_descendant
 -- all that is counted is what is due
 pub record IsCounted (array : PlainArray) (counts : Counts) : Type 0 where
   pub nodes : counts.nodes ≡ length array.nodes
-  pub length_is : length counts.validators ≡ length array.latest_messages
+  pub covers : length array.latest_messages ≤ length counts.validators
   pub validators : (v : ℕ) → v < length counts.validators → slice_index_or counts.validators v nothing ≡ due array v
   pub boost : counts.boost ≡ boost_due array
 

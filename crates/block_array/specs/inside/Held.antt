@@ -2,7 +2,7 @@
 use Rattle.std.specs.Prelude.{◌≡◌, ℕ, ◌+◌, ◌<◌, ◌≤◌, ◌^◌, false, length, slice_index_or, Some, None}
 use Rattle.std.specs.Option.{option_map_or}
 use Rattle.block_array.specs.declared.node.Message.{Message}
-use Rattle.block_array.specs.PlainArray.{PlainArray, message_of, balance_of}
+use Rattle.block_array.specs.PlainArray.{PlainArray, vote_of, balance_of}
 use Rattle.block_array.specs.GetLatestAttestingBalance.{proposer_score}
 use Rattle.block_array.specs.declared.tally.Counted.{Counted}
 use Rattle.block_array.specs.inside.Counts.{nothing}
@@ -13,6 +13,7 @@ pub record Held : Type 0 where
   pub node_room : ℕ
   pub message_room : ℕ
   pub changed_room : ℕ
+  pub silenced_room : ℕ
 
 -- the nodes are a tree, and all that is named is one of them
 pub record IsPlain (array : PlainArray) : Type 0 where
@@ -35,11 +36,11 @@ pub record IsHeld (held : Held) : Type 0 where
   pub nodes : length held.array.nodes + held.array.spare_nodes ≤ held.node_room
   pub messages : held.array.spare_validators ≤ held.message_room
   pub changed : held.array.spare_validators ≤ held.changed_room
-  pub all_changed : length held.array.latest_messages ≤ held.changed_room
+  pub silenced : held.array.spare_validators ≤ held.silenced_room
 
 -- what is to be counted of a validator, and of the boost
 unfoldable pub due : PlainArray → ℕ → Counted
-due array validator = option_map_or (λ message. record { node = message.node; balance = balance_of array validator; changed = false }) (message_of array validator) nothing
+due array validator = option_map_or (λ message. record { node = message.node; balance = balance_of array validator; changed = false }) (vote_of array validator) nothing
 
 unfoldable pub boost_due : PlainArray → Counted
 boost_due array = option_map_or (λ boosted. record { node = boosted; balance = proposer_score array; changed = false }) array.boosted_node nothing

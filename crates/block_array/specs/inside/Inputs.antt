@@ -17,6 +17,7 @@ array_of s = record {
   justified_checkpoint = s.justified;
   finalized_checkpoint = s.finalized;
   boosted_node = s.boosted_node;
+  silenced_validators = s.silenced.indices;
   changed_validators = s.changed.items;
   balances_set = s.balances_set;
   anything_changed = s.anything_changed;
@@ -30,4 +31,5 @@ held_of s = record {
   node_room = vec_capacity s.nodes;
   message_room = vec_capacity s.messages;
   changed_room = vec_capacity s.changed;
+  silenced_room = s.silenced.room;
 }

@@ -1,10 +1,15 @@
 -- How an answer of reading the words meets their definition.
 use Rattle.std.specs.Prelude.{◌≡◌, ℕ, List, Some, None, Result, Ok, Err}
-use Rattle.command_words.specs.Commands.{Command, IsDeclined, anchor, command_of, drill, duties, forensic, genesis, nodes, replay}
+use Rattle.command_words.specs.Commands.{Command, ForensicFiles, IsDeclined, anchor, command_of, drill, duties, forensic, genesis, nodes, replay, slasher}
 use Rattle.command_words.specs.declared.command.Command as code
+use Rattle.command_words.specs.declared.command.ForensicFiles as followed
 use Rattle.command_words.specs.declared.command.Command.TheVariants as commands
 use Rattle.command_words.specs.declared.command.WordsStop.{WordsStop}
 use Rattle.command_words.specs.declared.command.WordsStop.TheVariants.{NoCommand, NoMemory}
+
+-- the files that a value of the code names
+abbrev pub files_value : followed.ForensicFiles → ForensicFiles
+files_value f = record { config = f.config.now; genesis = f.genesis.now; first = f.first.now; second = f.second.now }
 
 -- the command that a value of the code is
 abbrev pub command_value : code.Command → Command
@@ -13,8 +18,9 @@ command_value (commands.Drill w) = drill (record { number = w.number; config = w
 command_value (commands.Genesis f) = genesis (record { config = f.config.now; deposits = f.deposits.now })
 command_value (commands.Duties w) = duties (record { config = w.config.now; state = w.state.now; epoch = w.epoch })
 command_value (commands.Anchor f) = anchor (record { config = f.config.now; state = f.state.now; block = f.block.now; events = f.events.now })
-command_value (commands.Forensic f) = forensic (record { config = f.config.now; genesis = f.genesis.now; first = f.first.now; second = f.second.now })
+command_value (commands.Forensic f) = forensic (files_value f)
 command_value (commands.Nodes w) = nodes (record { number = w.number; count = w.count; config = w.config.now })
+command_value (commands.Slasher f) = slasher (files_value f)
 
 -- The answer is the command that the words are, or that they are none, unless memory ran out.
 abbrev pub ReadsCommand : List (List ℕ) → Result code.Command WordsStop → Type 0

@@ -42,6 +42,7 @@ pub record IsFed (store : Store) (told : Told) (array : PlainArray) : Type 0 whe
   pub justified_node : node_number store.blocks told.justified.root ≡ Some array.justified_node
   pub finalized : array.finalized_checkpoint ≡ told.finalized
   pub boosted_node : IsBoostedNode store.blocks told.boost_root array.boosted_node
+  pub silenced : array.silenced_validators ≡ store.equivocating_indices
 
 -- the blocks of the justified checkpoint and of the boost are kept, and there are fewer than 2^32
 pub record AreKept (store : Store) : Type 0 where

@@ -1,5 +1,5 @@
 -- A store as it opens.
-use Rattle.std.specs.Prelude.{ℕ, List, Option}
+use Rattle.std.specs.Prelude.{ℕ, List, [], Option}
 use Rattle.bc_preset.specs.declared.configuration.ConfigValues.{ConfigValues}
 use Rattle.beacon_types.specs.declared.checkpoint.Checkpoint.{Checkpoint}
 use Rattle.spec_state.specs.Genesis.{zero_root}
@@ -10,7 +10,7 @@ use Rattle.fork_store.specs.Arrays.{Balances}
 use Rattle.fork_store.specs.inside.Wholes.{balances_for}
 use Rattle.spec_fork_choice.specs.Store.{KeptBlock, LatestMessage, Store}
 
--- the store whose checkpoints are all this one, without a boost
+-- the store whose checkpoints are all this one, without a boost and without equivocating validators
 abbrev pub as_opened : ConfigValues → ℕ → ℕ → Checkpoint → List KeptBlock → List (Option LatestMessage) → Store
 as_opened config time genesis_time checkpoint blocks messages = record {
   config = config;
@@ -22,6 +22,7 @@ as_opened config time genesis_time checkpoint blocks messages = record {
   proposer_boost_root = zero_root;
   blocks = blocks;
   latest_messages = messages;
+  equivocating_indices = [];
 }
 
 -- the array of a store whose one block has this slot and root and facts of its state: it has the store's checkpoints

@@ -5,7 +5,7 @@ use Rattle.spec_fork_choice.specs.Store.{Store}
 use Rattle.fork_store.specs.Arrays.{messages_at}
 use Rattle.fork_store.specs.declared.store_fields.StoreFields.TheInside.{Inside}
 
--- The latest messages are those that the array had when votes were last taken, and none before
+-- The latest messages and the equivocating validators are those that the array had when votes were last taken, and none before
 abbrev pub plain_of : Inside → Store
 plain_of s = record {
   config = s.config;
@@ -17,4 +17,5 @@ plain_of s = record {
   proposer_boost_root = s.boost_root;
   blocks = s.blocks;
   latest_messages = option_map_or (λ seen. messages_at seen.value.nodes seen.value.latest_messages) s.voted [];
+  equivocating_indices = option_map_or (λ seen. seen.value.silenced_validators) s.voted [];
 }

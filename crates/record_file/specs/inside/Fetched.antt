@@ -5,6 +5,7 @@ use Rattle.bc_outside.specs.Calls.{Stays, Takes}
 use Rattle.bc_outside.specs.declared.trouble.Trouble.{Trouble}
 use Rattle.record_file.specs.declared.fault.FrameStop.{FrameStop}
 use Rattle.record_file.specs.declared.found.Found.{Found}
+use Rattle.record_file.specs.declared.version.Version.{Version}
 use Rattle.record_file.specs.declared.place.Place.TheVariants.{AtFrame}
 use Rattle.record_file.specs.Record.{frame_of}
 use Rattle.record_file.specs.Frames.{Reading, Comes, Nexts, Moves}
@@ -27,16 +28,16 @@ Fills (Ok _) want file old new told told_then = (met : Bool) × Fetched file met
 Fills (Err _) want file old new told told_then = Fetched file false old new told told_then × (length new < want)
 
 -- What the bytes show is a frame, or may change when more come.
-abbrev pub Shows : ℕ → Found → List ℕ → Type 0
-Shows events found bytes = frame_of events bytes ≡ read_of found bytes
+abbrev pub Shows : Version → ℕ → Found → List ℕ → Type 0
+Shows version events found bytes = frame_of version events bytes ≡ read_of found bytes
 
 -- Several calls, until the buffer shows what comes next or the end was met. After an error it doesn't.
-abbrev pub Finds : Result Found Trouble → ℕ → ℕ → List ℕ → List ℕ → ShelfTold → ShelfTold → Type 0
-Finds (Ok found) events file old new told told_then = Fetched file (is_short found) old new told told_then × Shows events found new
-Finds (Err _) events file old new told told_then = Fetched file false old new told told_then × ((found : Found) × (is_short found ≡ true) × Shows events found new)
+abbrev pub Finds : Result Found Trouble → Version → ℕ → ℕ → List ℕ → List ℕ → ShelfTold → ShelfTold → Type 0
+Finds (Ok found) version events file old new told told_then = Fetched file (is_short found) old new told told_then × Shows version events found new
+Finds (Err _) version events file old new told told_then = Fetched file false old new told told_then × ((found : Found) × (is_short found ≡ true) × Shows version events found new)
 
 -- Reading the record's first bytes: the same is still to come, or what `next` answers.
-abbrev pub Begins : Result (Unit {0}) FrameStop → Reading → Reading → ShelfTold → ShelfTold → Type 0
-Begins (Ok _) old new told told_then = (new.events ≡ old.events) × (new.place ≡ AtFrame)
+abbrev pub Begins : Result Version FrameStop → Reading → Reading → ShelfTold → ShelfTold → Type 0
+Begins (Ok version) old new told told_then = (new.events ≡ old.events) × (new.place ≡ AtFrame version)
     × ((bytes : List ℕ) × Takes old.file bytes false told told_then × Comes bytes old new)
 Begins (Err stop) old new told told_then = Nexts (Err stop) old new told told_then × Moves (Err stop) old new

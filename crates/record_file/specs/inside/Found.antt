@@ -1,9 +1,10 @@
 -- What the bytes in the buffer show of the next frame.
 use Rattle.std.specs.Prelude.{◌≡◌, ℕ, ◌+◌, ◌≤◌, Bool, true, false, List, ◌++◌, length, take, drop}
 use Rattle.record_file.specs.declared.fault.RecordFault.TheVariants.{Torn}
+use Rattle.record_file.specs.declared.version.Version.{Version}
 use Rattle.record_file.specs.declared.found.Found.{Found}
 use Rattle.record_file.specs.declared.found.Found.TheVariants as found
-use Rattle.record_file.specs.Record.{FrameRead, ended, faulted, framed, is_kind, longest_payload}
+use Rattle.record_file.specs.Record.{FrameRead, ended, faulted, framed, is_kind_of, longest_payload}
 
 -- what was found, as what stands at a place of a record
 abbrev pub read_of : Found → List ℕ → FrameRead
@@ -12,10 +13,10 @@ read_of (found.Fault reason) bytes = faulted reason
 read_of (found.Frame kind size) bytes = framed (record { kind = kind; payload = take size (drop 5 bytes) }) (drop (5 + size) bytes)
 
 -- A frame that was found is whole, and may be one.
-abbrev pub IsWhole : Found → List ℕ → Type 0
-IsWhole found.Ended bytes = Unit {0}
-IsWhole (found.Fault reason) bytes = Unit {0}
-IsWhole (found.Frame kind size) bytes = (5 + size ≤ length bytes) × (size ≤ longest_payload) × (is_kind kind ≡ true)
+abbrev pub IsWhole : Version → Found → List ℕ → Type 0
+IsWhole version found.Ended bytes = Unit {0}
+IsWhole version (found.Fault reason) bytes = Unit {0}
+IsWhole version (found.Frame kind size) bytes = (5 + size ≤ length bytes) × (size ≤ longest_payload) × (is_kind_of version kind ≡ true)
 
 -- whether more bytes may change what was found: there was no byte, or a frame that is cut
 abbrev pub is_short : Found → Bool

@@ -1,19 +1,16 @@
--- What the book finds is written, or memory ran out.
-use Rattle.std.proofs.Common.{◌∙◌, sym}
-use Rattle.forensics.specs.Books.{history_of}
-use Rattle.beacon_node.proofs.Findings.{findings_conclude, findings_written, nothing_concludes}
+-- What the command tells is written.
+use Rattle.beacon_node.proofs.SlashingRecords.{slashings_conclude, slashings_written}
 use Rattle.beacon_node.proofs.forensic.tell.Goals as goal
 
-pub returns-in-Ok-clause-told : goal.returns-in-Ok-clause-told
-returns-in-Ok-clause-told g c =
-    rw c.written.ensures (findings_conclude c.args.book.genesis (record { store = c.args.first.now.plain; history = history_of c.args.book 0 }) (record { store = c.args.second.now.plain; history = history_of c.args.book 1 }) c.in-Ok.findings c.in-Ok.ensures
-    c.write_findings.result _ _ c.write_findings.ensures)
+pub returns-in-Findings-clause-told : goal.returns-in-Findings-clause-told
+returns-in-Findings-clause-told g c = rw c.in-Findings.is c.tell_findings.ensures.told
 
-pub returns-in-Ok-clause-findings : goal.returns-in-Ok-clause-findings
-returns-in-Ok-clause-findings g c = λ is.
-    findings_written c.args.book.config c.args.book.genesis (history_of c.args.book 0) (history_of c.args.book 1) c.args.first.now.plain c.args.second.now.plain c.in-Ok.findings c.write_findings.result _ _ c.requires.first c.requires.second
-    c.in-Ok.ensures c.write_findings.ensures (sym c.written.ensures ∙ is)
+pub returns-in-Findings-clause-reports : goal.returns-in-Findings-clause-reports
+returns-in-Findings-clause-reports g c = rw c.in-Findings.is c.tell_findings.ensures.findings
 
-pub returns-clause-told : goal.returns-clause-told
-returns-clause-told g c =
-    nothing_concludes c.args.book.genesis (record { store = c.args.first.now.plain; history = history_of c.args.book 0 }) (record { store = c.args.second.now.plain; history = history_of c.args.book 1 }) _
+pub returns-in-Slashings-clause-told : goal.returns-in-Slashings-clause-told
+returns-in-Slashings-clause-told g c = rw c.in-Slashings.is (slashings_conclude c.args.book c.args.first.now.plain c.args.second.now.plain c.tell_slashings.result c.tell_slashings.ensures.told)
+
+pub returns-in-Slashings-clause-reports : goal.returns-in-Slashings-clause-reports
+returns-in-Slashings-clause-reports g c =
+    rw c.in-Slashings.is (λ is. slashings_written c.args.book c.args.first.now.plain c.args.second.now.plain _ _ c.requires.first c.requires.second (c.tell_slashings.ensures.slashings is))

@@ -39,12 +39,12 @@ tell_second-requires-clause-second g c =
 
 pub returns-in-Ok-clause-answers : goal.returns-in-Ok-clause-answers
 returns-in-Ok-clause-answers g c =
-    first_goes_on c.args.histories.genesis c.args.histories.first.plain c.args.files.now.first.now c.args.files.now.second.now (followed_by First c.follow_record.new.store.plain c.follow_record.new.book) c.tell_second.result _ _ _ _ _ c.in-Ok.ensures.followed
+    first_goes_on c.args.report c.args.histories.genesis c.args.histories.first.plain c.args.files.now.first.now c.args.files.now.second.now (followed_by First c.follow_record.new.store.plain c.follow_record.new.book) c.tell_second.result _ _ _ _ _ c.in-Ok.ensures.followed
     (rw (c.requires.opened.second ∙ sym c.requires.opened.first) at c.tell_second.ensures.answers)
 
 pub returns-clause-answers : goal.returns-clause-answers
 returns-clause-answers g c =
-    first_stops c.args.histories.genesis c.args.histories.first.plain c.args.files.now.first.now c.args.files.now.second.now c.in-Err.status (followed_by First c.follow_record.new.store.plain c.follow_record.new.book) _ _ _ c.in-Err.ensures.followed
+    first_stops c.args.report c.args.histories.genesis c.args.histories.first.plain c.args.files.now.first.now c.args.files.now.second.now c.in-Err.status (followed_by First c.follow_record.new.store.plain c.follow_record.new.book) _ _ _ c.in-Err.ensures.followed
 
 pub returns-clause-command : goal.returns-clause-command
 returns-clause-command g c = c.in-Err.ensures.outside.others.0
@@ -55,5 +55,5 @@ returns-in-Ok-clause-outside g c = outside_then (c.args.files.now.first.now ∷ 
 pub returns-clause-outside : goal.returns-clause-outside
 returns-clause-outside g c = follows_outside (c.args.files.now.first.now ∷ []) (c.args.files.now.second.now ∷ []) c.in-Err.status c.in-Err.ensures.outside
 
-pub returns-clause-findings : goal.returns-clause-findings
-returns-clause-findings g c = λ is. absurd (c.in-Err.ensures.outside.others.2 is)
+pub returns-clause-reports : goal.returns-clause-reports
+returns-clause-reports g c = λ is. absurd (c.in-Err.ensures.outside.others.2 is)

@@ -23,14 +23,14 @@ tell-requires-clause-second g c = rw c.in-Ok.ensures.following.genesis_is c.in-O
 pub returns-in-Ok-clause-answers : goal.returns-in-Ok-clause-answers
 unfolding history_of
 returns-in-Ok-clause-answers g c =
-    second_concludes c.args.genesis.now c.args.second.plain (record { store = c.args.first.now.plain; history = history_of c.args.book 0 }) (Second c.args.first) c.args.name.now refl (rw c.requires.genesis at c.requires.first.blocks)
+    second_concludes c.args.report c.args.genesis.now c.args.second.plain (record { store = c.args.first.now.plain; history = history_of c.args.book 0 }) (Second c.args.first) c.args.name.now refl (rw c.requires.genesis at c.requires.first.blocks)
     (followed_by (Second c.args.first) c.follow_record.new.store.plain c.follow_record.new.book) c.tell.result _ _ _ _ c.in-Ok.ensures.followed
-    (rw (judge_of (Second c.args.first) c.args.book c.follow_record.new.book refl c.follow_record.ensures.same c.args.genesis.now c.args.first.now.plain c.follow_record.new.store.plain c.requires.genesis) at c.tell.ensures.told)
+    (rw (judge_of (Second c.args.first) c.args.book c.follow_record.new.book refl c.follow_record.ensures.same c.args.report c.args.genesis.now c.args.first.now.plain c.follow_record.new.store.plain c.requires.genesis) at c.tell.ensures.told)
 
 pub returns-clause-answers : goal.returns-clause-answers
 unfolding history_of
 returns-clause-answers g c =
-    second_stops c.args.genesis.now c.args.second.plain (record { store = c.args.first.now.plain; history = history_of c.args.book 0 }) (Second c.args.first) c.args.name.now refl (rw c.requires.genesis at c.requires.first.blocks)
+    second_stops c.args.report c.args.genesis.now c.args.second.plain (record { store = c.args.first.now.plain; history = history_of c.args.book 0 }) (Second c.args.first) c.args.name.now refl (rw c.requires.genesis at c.requires.first.blocks)
     c.in-Err.status (followed_by (Second c.args.first) c.follow_record.new.store.plain c.follow_record.new.book) _ _ _ c.in-Err.ensures.followed
 
 pub returns-in-Ok-clause-command : goal.returns-in-Ok-clause-command
@@ -45,5 +45,5 @@ returns-in-Ok-clause-outside g c = concludes_outside (c.args.name.now ∷ []) c.
 pub returns-clause-outside : goal.returns-clause-outside
 returns-clause-outside g c = follows_outside (c.args.name.now ∷ []) [] c.in-Err.status c.in-Err.ensures.outside
 
-pub returns-clause-findings : goal.returns-clause-findings
-returns-clause-findings g c = λ is. absurd (c.in-Err.ensures.outside.others.2 is)
+pub returns-clause-reports : goal.returns-clause-reports
+returns-clause-reports g c = λ is. absurd (c.in-Err.ensures.outside.others.2 is)

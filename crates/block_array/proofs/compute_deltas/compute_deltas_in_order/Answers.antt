@@ -26,6 +26,6 @@ loop-validator-preserved g c =
       steps =
           let s = c.compute_delta_if_due.ensures.steps in
           let i = c.loop-validator.invariant.steps in
-          let m = deltas_more c.args.inputs.now.array c.loop-validator.tally.validators c.args.tally.now.validators c.loop-validator.validator here (omega arith) c.requires.noted.length_is in
+          let m = deltas_more c.args.inputs.now.array c.loop-validator.tally.validators c.args.tally.now.validators c.loop-validator.validator here in
           omega arith;
     }

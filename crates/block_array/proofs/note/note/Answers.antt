@@ -1,20 +1,18 @@
-use Rattle.std.proofs.Common.{◌≡◌, ℕ, ◌+◌, ◌≤◌, true, Option, List, length, max, ap, ◌∙◌, sym, subst, arith}
+use Rattle.std.proofs.Common.{◌≡◌, ℕ, ◌+◌, true, Option, List, length, max, ap, ◌∙◌, sym, subst, arith}
 use Rattle.block_array.specs.declared.node.Message.{Message}
 use Rattle.block_array.specs.PlainArray.{PlainArray}
-use Rattle.block_array.specs.UpdateLatestMessages.{with_message, with_changed, voted}
+use Rattle.block_array.specs.UpdateLatestMessages.{with_changed, voted}
 use Rattle.block_array.specs.inside.Held.{Held}
 use Rattle.block_array.specs.inside.Counts.{Counts}
 use Rattle.block_array.specs.inside.Noted.{IsNoted}
-use Rattle.block_array.proofs.Noting.{noted_vote, with_length}
+use Rattle.block_array.proofs.Noting.{noted_vote, marked_length}
 use Rattle.block_array.proofs.note.note.Goals as goal
 
 pub mark_changed-requires-clause-room : goal.mark_changed-requires-clause-room
 mark_changed-requires-clause-room c =
     let e : length c.pad.new.tally.validators ≡ max (length c.args.tally.now.validators) (c.args.validator + 1) = c.pad.ensures.length_is in
-    let p : c.put_message.new.self.array.latest_messages ≡ with_message c.args.inputs.now.array.latest_messages c.args.validator c.args.message = ap (λ (h : Held). h.array.latest_messages) c.put_message.ensures.put in
-    let l : length c.put_message.new.self.array.latest_messages ≡ max (length c.args.inputs.now.array.latest_messages) (c.args.validator + 1) = ap length p ∙ with_length c.args.inputs.now.array.latest_messages c.args.validator c.args.message in
-    let n : length c.args.tally.now.validators ≡ length c.args.inputs.now.array.latest_messages = c.requires.noted.length_is in
-    let r : length c.put_message.new.self.array.latest_messages ≤ c.put_message.new.self.changed_room = c.validators-places.ensures.room in
+    let r : c.put_message.new.self.changed_room ≡ c.args.inputs.now.changed_room = ap (λ (h : Held). h.changed_room) c.put_message.ensures.put in
+    let m = c.requires.marks in let v = c.requires.changed_room in
     omega arith
 
 array_is : (inputs : Held) (after before : Held) (v : ℕ) (messages : List (Option Message)) (changed_room message_room : ℕ) → after ≡ record before { array = record before.array { changed_validators = with_changed before.array.changed_validators v }; changed_room = changed_room } → before ≡ record inputs { array = record inputs.array { latest_messages = messages; anything_changed = true }; message_room = message_room } → after.array ≡ record inputs.array { latest_messages = messages; changed_validators = with_changed inputs.array.changed_validators v; anything_changed = true }
@@ -31,3 +29,17 @@ returns-clause-noted c =
     (noted_vote c.args.inputs.now.array c.args.tally.now c.requires.noted c.args.validator c.args.message c.mark_changed.new.tally c.pad.new.tally.validators c.pad.ensures.counted c.pad.ensures.many c.pad.ensures.length_is
     (ap (λ (x : Counts). x.nodes) c.mark_changed.ensures.tally ∙ ap (λ (x : Counts). x.nodes) c.pad.ensures.same)
     (ap (λ (x : Counts). x.validators) c.mark_changed.ensures.tally))
+
+pub returns-clause-marks : goal.returns-clause-marks
+returns-clause-marks c =
+    let e : length c.pad.new.tally.validators ≡ max (length c.args.tally.now.validators) (c.args.validator + 1) = c.pad.ensures.length_is in
+    let l : length c.mark_changed.new.tally.validators ≡ length c.pad.new.tally.validators = ap (λ (x : Counts). length x.validators) c.mark_changed.ensures.tally ∙ marked_length c.pad.new.tally.validators c.args.validator in
+    let r : c.put_message.new.self.changed_room ≡ c.args.inputs.now.changed_room = ap (λ (h : Held). h.changed_room) c.put_message.ensures.put in
+    let w = c.mark_changed.ensures.more in let m = c.requires.marks in let v = c.requires.changed_room in
+    omega arith
+
+pub returns-clause-changed_more : goal.returns-clause-changed_more
+returns-clause-changed_more c =
+    let r : c.put_message.new.self.changed_room ≡ c.args.inputs.now.changed_room = ap (λ (h : Held). h.changed_room) c.put_message.ensures.put in
+    let w = c.mark_changed.ensures.more in
+    omega arith

@@ -1,4 +1,4 @@
-use Rattle.std.proofs.Common.{◌≡◌, arith}
+use Rattle.std.proofs.Common.{arith}
 use Rattle.forensics.proofs.Chained.{earliest_goes, earliest_passes, earliest_ends}
 use Rattle.forensics.proofs.entries.earliest_move.Goals as goal
 

@@ -1,4 +1,3 @@
-use Rattle.std.proofs.Common.{◌≡◌}
 use Rattle.forensics.proofs.Chained.{finalize_here, finalize_goes}
 use Rattle.forensics.proofs.entries.finalizing_root.Goals as goal
 

@@ -1,4 +1,4 @@
-use Rattle.std.proofs.Common.{◌≡◌, arith}
+use Rattle.std.proofs.Common.{arith}
 use Rattle.forensics.proofs.Chained.{reach_stops, reach_goes, reach_passes, reach_ends}
 use Rattle.forensics.proofs.entries.is_on_chain.Goals as goal
 

@@ -13,7 +13,7 @@ returns-clause-exact c =
 
 pub returns-clause-whole : goal.returns-clause-whole
 returns-clause-whole c =
-    votes_whole c.args.store.now c.take_votes.new.self c.args.array.now c.vote_all.new.array c.args.ready.now _ c.requires.whole c.take_votes.ensures
+    votes_whole c.args.store.now c.take_votes.new.self c.args.array.now c.vote_all.new.array c.args.ready.now _ _ c.requires.whole c.take_votes.ensures
     (array_voted c.args.store.now c.args.array.now c.reserve.new.self c.in_ok-places.places c.requires.whole.array_of c.in_ok-reserve.ensures c.vote_all.new.array c.args.attesting_indices.now
     c.args.attestation.now c.in-Some.node c.is_sound.ensures.store.tree (rw (← c.blocks-2.ensures) c.in-Some.ensures) c.vote_all.ensures c.take_votes.new.self c.take_votes.ensures)
 

@@ -4,9 +4,9 @@ use Rattle.std.proofs.lemmas.Grind.{common_steps}
 use Rattle.record_file.specs.Record.{frame_of, most_events}
 use Rattle.record_file.proofs.found.frame_at.Goals as goal
 
-pub returns-then-not-is_kind-clause-read : goal.returns-then-not-is_kind-clause-read
+pub returns-then-not-is_kind_of-clause-read : goal.returns-then-not-is_kind_of-clause-read
 unfolding frame_of
-returns-then-not-is_kind-clause-read c =
+returns-then-not-is_kind_of-clause-read c =
     let room : c.args.events < most_events = omega arith in
     search rules
 

@@ -21,8 +21,11 @@ invariant_of-self-2 c =
     let sv : c.spare_validators.result ≡ c.self.inside.inputs.array.spare_validators = c.spare_validators.ensures.same ∙ ap (λ (a : PlainArray). a.spare_validators) told in
     let mn : c.max-nodes.result ≡ max c.spare_nodes.result 1 = c.max-nodes.ensures in
     let mv : c.max-voters.result ≡ max c.spare_validators.result c.args.validators = c.max-voters.ensures in
-    subst (λ (t : PlainArray). IsArray t c.grow_validators.new.tally c.grow_nodes.new.bests.items (vec_capacity c.grow_nodes.new.bests))
+    let spared : c.set_spare.new.self.changed_room ≡ c.grow_validators.new.inputs.changed_room = ap (λ (h : Held). h.changed_room) c.set_spare.ensures in
+    let grown : c.grow_nodes.new.inputs.changed_room ≡ c.self.inside.inputs.changed_room = ap (λ (h : Held). h.changed_room) c.in_ok-grow_nodes.ensures.inputs in
+    let wider = c.in_ok-grow_validators.ensures.changed_more in
+    subst (λ (t : PlainArray). IsArray t c.grow_validators.new.tally c.grow_nodes.new.bests.items (vec_capacity c.grow_nodes.new.bests) c.set_spare.new.self.changed_room)
     (sym (ap (λ (h : Held). h.array) c.set_spare.ensures ∙ ap (λ (t : PlainArray). record t { spare_nodes = c.max-nodes.result; spare_validators = c.max-voters.result }) told))
-    (kept_spare c.self.inside.inputs.array c.grow_validators.new.tally c.grow_nodes.new.bests.items (vec_capacity c.grow_nodes.new.bests) c.max-nodes.result c.max-voters.result
-    (kept_rooms c.self.inside.inputs.array c.self.inside.tally c.grow_validators.new.tally c.self.inside.bests.items c.grow_nodes.new.bests.items (vec_capacity c.self.inside.bests) (vec_capacity c.grow_nodes.new.bests) c.self.invariant c.in_ok-grow_nodes.ensures.bests (ap (λ (x : Counts). x.validators) tally) (ap (λ (x : Counts). x.nodes) tally) (ap (λ (x : Counts). x.boost) tally) (omega arith) (omega arith) c.in_ok-grow_nodes.ensures.bests_more)
+    (kept_spare c.self.inside.inputs.array c.grow_validators.new.tally c.grow_nodes.new.bests.items (vec_capacity c.grow_nodes.new.bests) c.set_spare.new.self.changed_room c.max-nodes.result c.max-voters.result
+    (kept_rooms c.self.inside.inputs.array c.self.inside.tally c.grow_validators.new.tally c.self.inside.bests.items c.grow_nodes.new.bests.items (vec_capacity c.self.inside.bests) (vec_capacity c.grow_nodes.new.bests) c.self.inside.inputs.changed_room c.set_spare.new.self.changed_room c.self.invariant c.in_ok-grow_nodes.ensures.bests (ap (λ (x : Counts). x.validators) tally) (ap (λ (x : Counts). x.nodes) tally) (ap (λ (x : Counts). x.boost) tally) (omega arith) (omega arith) c.in_ok-grow_nodes.ensures.bests_more (omega arith))
     (omega arith) (omega arith) (omega arith))

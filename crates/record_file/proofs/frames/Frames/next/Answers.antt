@@ -14,7 +14,7 @@ pub read_frame-requires-clause-opened : goal.read_frame-requires-clause-opened
 read_frame-requires-clause-opened g c = rw (c.read_magic.ensures.file, takes_length c.in-Ok.ensures.begins.2.1) c.requires
 
 pub returns-in-Ok-clause-nexts : goal.returns-in-Ok-clause-nexts
-returns-in-Ok-clause-nexts g c = next_after c.read_frame.result c.args.self.now c.read_magic.new.self c.read_frame.new.self _ _ _ c.read_magic.ensures.file c.in-Ok.ensures.begins c.read_frame.ensures.nexts
+returns-in-Ok-clause-nexts g c = next_after c.in-Ok.version c.read_frame.result c.args.self.now c.read_magic.new.self c.read_frame.new.self _ _ _ c.read_magic.ensures.file c.in-Ok.ensures.begins c.read_frame.ensures.nexts
 
 pub returns-in-Ok-clause-keeps : goal.returns-in-Ok-clause-keeps
 returns-in-Ok-clause-keeps g c = keeps_then [] [] c.read_magic.ensures.keeps c.read_frame.ensures.keeps

@@ -1,8 +1,0 @@
-use Rattle.std.proofs.Common.{◌≡◌, length}
-use Rattle.vote_spans.proofs.rows.offence_of.Given as goal
-
-abbrev pub invariant-loop-source : goal.invariant-loop-source
-invariant-loop-source g l = record {
-  contents : length l.all.contents ≡ l.source-index;
-  spans : length l.all.spans ≡ 2;
-}

@@ -1,4 +1,0 @@
-use Rattle.vote_spans.proofs.rows.rows.Given as goal
-
-abbrev pub ghosts-rows_hold : goal.ghosts-rows_hold
-ghosts-rows_hold g a = record { name = a.blank.name; parts = a.blank.parts }
