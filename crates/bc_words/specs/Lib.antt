@@ -1,4 +1,5 @@
 pub mod Events
+pub mod Indices
 pub mod Outcome
 pub mod Refusals
 pub mod Searches

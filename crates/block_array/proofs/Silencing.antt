@@ -3,10 +3,11 @@ use Rattle.std.proofs.Common.{◌≡◌, ℕ, ◌+◌, ◌≤◌, Bool, true, fa
 use Rattle.std.specs.List.{list_any}
 use Rattle.std.specs.Option.{option_map_or}
 use Rattle.std.proofs.lemmas.Bool.{ne_eqb}
+use Rattle.bc_words.specs.Indices.{with_index}
 use Rattle.block_array.specs.declared.node.Message.{Message}
 use Rattle.block_array.specs.declared.tally.Counted.{Counted}
 use Rattle.block_array.specs.PlainArray.{PlainArray, message_of, vote_of, balance_of, is_listed}
-use Rattle.block_array.specs.Silence.{with_index, silenced, silence}
+use Rattle.block_array.specs.Silence.{silenced, silence}
 use Rattle.block_array.specs.inside.Counts.{Counts, nothing, counted_of}
 use Rattle.block_array.specs.inside.Held.{due, IsPlain}
 use Rattle.block_array.specs.inside.Noted.{count_changed, marked, IsNoted}

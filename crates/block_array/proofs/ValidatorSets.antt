@@ -8,7 +8,7 @@ use Rattle.std.proofs.lemmas.Bool.{cases_eq, cases_lt, eq-eqb, ne_eqb, lt-ltb, l
 use Rattle.std.proofs.lemmas.List.{get_or-set_same, get_or-set_other, get_or_past}
 use Rattle.std.proofs.lemmas.Nat.Bits.{shr_and_one, bit_at-zero, bit_at_set_same, bit_at_set_other}
 use Rattle.block_array.specs.PlainArray.{is_listed}
-use Rattle.block_array.specs.Silence.{with_index}
+use Rattle.bc_words.specs.Indices.{with_index}
 use Rattle.block_array.specs.inside.Silenced.{has_bit, indices_in}
 
 -- ---- the numbers of a range that pass a test

@@ -1,15 +1,8 @@
 -- The silencing of one validator (fork-choice.md, "on_attester_slashing", which adds it to the set of equivocating ones).
-use Rattle.std.specs.Prelude.{ℕ, true, List, [], ◌∷◌, nat_lt, ◌==◌, if◌then◌else◌}
+use Rattle.std.specs.Prelude.{ℕ, true, if◌then◌else◌}
+use Rattle.bc_words.specs.Indices.{with_index}
 use Rattle.block_array.specs.PlainArray.{PlainArray, is_listed}
 use Rattle.block_array.specs.UpdateLatestMessages.{with_changed}
-
--- a set of indices in ascending order with one more
-unfoldable pub with_index : List ℕ → ℕ → List ℕ
-with_index [] index = index ∷ []
-with_index (first ∷ others) index =
-    if nat_lt index first then index ∷ first ∷ others
-    else if first == index then first ∷ others
-    else first ∷ with_index others index
 
 -- the array with one more silenced validator. Its message stays, and weighs nothing
 unfoldable pub silenced : PlainArray → ℕ → PlainArray

@@ -5,7 +5,7 @@
 ghost use Rattle.std.specs.Prelude.{◌≡◌, ◌+◌, ◌-◌, ◌*◌, ◌/◌, ◌<◌, ◌≤◌, ◌^◌, ◌∷◌, ◌++◌, [], false, true, max, length, slice_index_or, slice_set, vec_capacity, Some, IfSome, IfOk, OnOk};
 ghost use Rattle.block_array.specs.PlainArray.{slot_at, message_of, vote_of, balance_of, is_listed};
 ghost use Rattle.block_array.specs.GetLatestAttestingBalance.{proposer_score};
-ghost use Rattle.block_array.specs.Silence.{with_index};
+ghost use Rattle.bc_words.specs.Indices.{with_index};
 ghost use Rattle.block_array.specs.UpdateLatestMessages.{with_message, with_changed, is_news};
 ghost use Rattle.block_array.specs.Calls.{new_array, with_node, with_balances, with_checkpoints, with_boost, made};
 ghost use Rattle.block_array.specs.inside.Held.{IsPlain};

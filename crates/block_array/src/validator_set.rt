@@ -4,7 +4,7 @@
 
 ghost use Rattle.std.specs.Prelude.{slice_index_or, ◌≡◌, ◌*◌, ◌%◌, ◌^◌, ◌<◌, ◌≤◌, [], length, vec_capacity, bit_or, OnOk};
 ghost use Rattle.block_array.specs.PlainArray.{is_listed};
-ghost use Rattle.block_array.specs.Silence.{with_index};
+ghost use Rattle.bc_words.specs.Indices.{with_index};
 ghost use Rattle.block_array.specs.inside.Silenced.{indices_in};
 
 use crate::list::{make_room, push_item};

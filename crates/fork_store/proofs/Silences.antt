@@ -1,9 +1,10 @@
 -- Equivocating validators in the store are silenced ones in its array.
-use Rattle.std.proofs.Common.{◌≡◌, ◌∙◌, ◌<◌, ◌≤◌, ℕ, suc, ◌+◌, Bool, true, false, cond, nat_lt, eqb, max, List, [], ◌∷◌, ◌++◌, length, take, drop, fold, get_or, append-nil, Option, None, Result, Ok, Err, refl, sym, ap, subst, arith}
+use Rattle.std.proofs.Common.{◌≡◌, ◌∙◌, ◌<◌, ◌≤◌, ℕ, suc, ◌+◌, Bool, true, false, cond, eqb, max, List, [], ◌∷◌, ◌++◌, length, take, drop, fold, get_or, append-nil, Option, None, Result, Ok, Err, refl, sym, ap, subst, arith}
 use Rattle.std.specs.List.{list_any}
 use Rattle.std.proofs.lemmas.List.{drop_all, take_all}
 use Rattle.std.proofs.lemmas.List.Elements.{filter_more}
 use Rattle.std.proofs.Math.Seq.{drop-cons}
+use Rattle.bc_words.specs.Indices.{with_index}
 use Rattle.bc_words.specs.Outcome.{Outcome, done, refused, bind, Stops, Gives, GivesExactly}
 use Rattle.bc_words.specs.Events.{accepted, store_stop, StoreStops}
 use Rattle.bc_words.specs.declared.stop.Stop.{Stop}
@@ -16,14 +17,13 @@ use Rattle.block_array.specs.PlainArray.{PlainArray}
 use Rattle.block_array.specs.PlainArray as plain_array
 use Rattle.block_array.specs.Calls.{with_spare}
 use Rattle.block_array.specs.Silence.{silenced, silence}
-use Rattle.block_array.specs.Silence as array
 use Rattle.spec_state.specs.declared.plain.PlainState.{PlainState}
 use Rattle.spec_blocks.specs.Checks.{check}
 use Rattle.spec_blocks.specs.IsValidIndexedAttestation.{is_valid_indexed_attestation}
 use Rattle.spec_blocks.specs.ProcessAttesterSlashing.{in_both}
 use Rattle.spec_fork_choice.specs.Store.{KeptBlock, Store, block_of, is_equivocating}
 use Rattle.spec_fork_choice.specs.StoreTargetCheckpointState.{kept_or, state_at, store_target_checkpoint_state}
-use Rattle.spec_fork_choice.specs.OnAttesterSlashing.{with_index, with_equivocating, on_attester_slashing}
+use Rattle.spec_fork_choice.specs.OnAttesterSlashing.{with_equivocating, on_attester_slashing}
 use Rattle.fork_store.specs.Arrays.{node_number, messages_at, balances_at, IsArrayOf}
 use Rattle.fork_store.specs.inside.ArrayVotes.{silenced_array}
 use Rattle.fork_store.specs.inside.Keepers.{IsStateBehind}
@@ -40,11 +40,6 @@ use Rattle.fork_store.proofs.Voting.{store_taken, vote_made}
 
 -- ---- one validator
 
-index_same : (indices : List ℕ) (v : ℕ) → array.with_index indices v ≡ with_index indices v
-unfolding with_index array.with_index
-index_same [] v = refl
-index_same (x ∷ indices) v = ap (λ rest. cond (nat_lt v x) (v ∷ x ∷ indices) (cond (eqb x v) (x ∷ indices) (x ∷ rest))) (index_same indices v)
-
 module _ (store : Store) (a : PlainArray) (is : IsArrayOf store a) (validator : ℕ) where
   keeps_silenced : IsArrayOf (record store { equivocating_indices = with_index store.equivocating_indices validator }) (silenced a validator)
   unfolding silenced store_target_checkpoint_state state_at balances_at
@@ -60,7 +55,7 @@ module _ (store : Store) (a : PlainArray) (is : IsArrayOf store a) (validator : 
     justified_node = is.justified_node;
     finalized = is.finalized;
     boosted_node = is.boosted_node;
-    silenced = index_same a.silenced_validators validator ∙ ap (λ indices. with_index indices validator) is.silenced;
+    silenced = ap (λ indices. with_index indices validator) is.silenced;
   }
 
   keeps_silence : IsArrayOf (with_equivocating store validator) (silence a validator)

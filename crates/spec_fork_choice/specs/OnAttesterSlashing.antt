@@ -1,6 +1,7 @@
 -- on_attester_slashing, with which later releases of the published text leave validators that voted for two things out of fork
 -- choice (fork-choice.md, "on_attester_slashing"). Signatures are off.
-use Rattle.std.specs.Prelude.{ℕ, List, [], ◌∷◌, fold, nat_lt, ◌==◌, if◌then◌else◌}
+use Rattle.std.specs.Prelude.{ℕ, fold, if◌then◌else◌}
+use Rattle.bc_words.specs.Indices.{with_index}
 use Rattle.bc_words.specs.Outcome.{Outcome, done, ◌>>=◌}
 use Rattle.bc_words.specs.declared.refusal.Refusal.TheVariants.{AsData, IndexRange}
 use Rattle.beacon_types.specs.Slashable.{is_slashable_attestation_data}
@@ -10,14 +11,6 @@ use Rattle.spec_blocks.specs.IsValidIndexedAttestation.{is_valid_indexed_attesta
 use Rattle.spec_blocks.specs.ProcessAttesterSlashing.{in_both}
 use Rattle.spec_fork_choice.specs.Store.{Store, block_of, is_equivocating}
 use Rattle.spec_fork_choice.specs.StoreTargetCheckpointState.{kept_or}
-
--- a set of indices in ascending order with one more
-unfoldable pub with_index : List ℕ → ℕ → List ℕ
-with_index [] index = index ∷ []
-with_index (first ∷ others) index =
-    if nat_lt index first then index ∷ first ∷ others
-    else if first == index then first ∷ others
-    else first ∷ with_index others index
 
 -- store.equivocating_indices.add(index)
 unfoldable pub with_equivocating : Store → ℕ → Store

@@ -4,9 +4,10 @@ use Rattle.std.specs.List.{All, Contains, find, filter, flat_map, filter_map, co
 use Rattle.std.proofs.lemmas.Bool.{lt-ltb, ltb-true, ltb-false, eqb-true, eqb-false, and_parts, false≢true}
 use Rattle.std.proofs.lemmas.List.Elements.{All-cons, All-nil, All-contains}
 use Rattle.std.proofs.lemmas.Option.{same_Some}
+use Rattle.bc_words.specs.Indices.{with_index}
 use Rattle.ffg_law.specs.Links.{IsOneOf}
 use Rattle.spec_blocks.specs.IsValidIndexedAttestation.{is_strictly_ascending}
-use Rattle.spec_slasher.specs.GetIndexedAttestation.{with_index, in_order}
+use Rattle.spec_slasher.specs.GetIndexedAttestation.{in_order}
 
 -- ---- in std's words
 
@@ -192,19 +193,19 @@ module _ (n m : ℕ) (ms rest : List ℕ) where
   begins_put false true low less more = lt-ltb low m more
   begins_put false false low less more = lt-ltb low m more
 
-  ascend_put : (p q : Bool) → nat_lt n m ≡ p → (n == m) ≡ q → is_strictly_ascending (m ∷ ms) ≡ true → (m < n → begins_above m ms ≡ true → begins_above m rest ≡ true) → (is_strictly_ascending ms ≡ true → is_strictly_ascending rest ≡ true)
+  ascend_put : (p q : Bool) → nat_lt n m ≡ p → (m == n) ≡ q → is_strictly_ascending (m ∷ ms) ≡ true → (m < n → begins_above m ms ≡ true → begins_above m rest ≡ true) → (is_strictly_ascending ms ≡ true → is_strictly_ascending rest ≡ true)
       → is_strictly_ascending (put p q) ≡ true
   ascend_put true q less same is above keeps = ascends n (m ∷ ms) less is
   ascend_put false true less same is above keeps = is
   ascend_put false false less same is above keeps =
       let parts = ascend_parts m ms is in
       let high : m ≤ n = ltb-false n m less in
-      let other : n ≡ m → ⊥ = eqb-false n m same in
+      let other : m ≡ n → ⊥ = eqb-false m n same in
       ascends m rest (above (omega (arith, high, other)) parts.0) (keeps parts.1)
 
-  into_put : (p q : Bool) (i : ℕ) → nat_lt n m ≡ p → (n == m) ≡ q → (n ≡ i) ⊎ IsOneOf i (m ∷ ms) → ((n ≡ i) ⊎ IsOneOf i ms → IsOneOf i rest) → IsOneOf i (put p q)
+  into_put : (p q : Bool) (i : ℕ) → nat_lt n m ≡ p → (m == n) ≡ q → (n ≡ i) ⊎ IsOneOf i (m ∷ ms) → ((n ≡ i) ⊎ IsOneOf i ms → IsOneOf i rest) → IsOneOf i (put p q)
   into_put true q i less same h keeps = h
-  into_put false true i less same (inl e) keeps = inl (sym (eqb-true n m same) ∙ e)
+  into_put false true i less same (inl e) keeps = inl (eqb-true m n same ∙ e)
   into_put false true i less same (inr h) keeps = h
   into_put false false i less same (inl e) keeps = inr (keeps (inl e))
   into_put false false i less same (inr (inl e)) keeps = inl e
@@ -221,30 +222,30 @@ module _ (n m : ℕ) (ms rest : List ℕ) where
   long_put false true less = omega arith
   long_put false false less = omega (arith, less)
 
-begins_with : (low n : ℕ) (ms : List ℕ) → low < n → begins_above low ms ≡ true → begins_above low (with_index n ms) ≡ true
+begins_with : (low n : ℕ) (ms : List ℕ) → low < n → begins_above low ms ≡ true → begins_above low (with_index ms n) ≡ true
 unfolding with_index
 begins_with low n [] less above = lt-ltb low n less
-begins_with low n (m ∷ ms) less above = begins_put n m ms (with_index n ms) (nat_lt n m) (n == m) low less (ltb-true low m above)
+begins_with low n (m ∷ ms) less above = begins_put n m ms (with_index ms n) (nat_lt n m) (m == n) low less (ltb-true low m above)
 
-ascend_with : (n : ℕ) (ms : List ℕ) → is_strictly_ascending ms ≡ true → is_strictly_ascending (with_index n ms) ≡ true
+ascend_with : (n : ℕ) (ms : List ℕ) → is_strictly_ascending ms ≡ true → is_strictly_ascending (with_index ms n) ≡ true
 unfolding with_index is_strictly_ascending
 ascend_with n [] is = refl
-ascend_with n (m ∷ ms) is = ascend_put n m ms (with_index n ms) (nat_lt n m) (n == m) refl refl is (λ less above. begins_with m n ms less above) (ascend_with n ms)
+ascend_with n (m ∷ ms) is = ascend_put n m ms (with_index ms n) (nat_lt n m) (m == n) refl refl is (λ less above. begins_with m n ms less above) (ascend_with n ms)
 
 pub in_order_ascends : (ns : List ℕ) → is_strictly_ascending (in_order ns) ≡ true
 unfolding in_order is_strictly_ascending
 in_order_ascends [] = refl
 in_order_ascends (n ∷ ns) = ascend_with n (in_order ns) (in_order_ascends ns)
 
-into_with : (n i : ℕ) (ms : List ℕ) → (n ≡ i) ⊎ IsOneOf i ms → IsOneOf i (with_index n ms)
+pub into_with : (n i : ℕ) (ms : List ℕ) → (n ≡ i) ⊎ IsOneOf i ms → IsOneOf i (with_index ms n)
 unfolding with_index
 into_with n i [] h = h
-into_with n i (m ∷ ms) h = into_put n m ms (with_index n ms) (nat_lt n m) (n == m) i refl refl h (into_with n i ms)
+into_with n i (m ∷ ms) h = into_put n m ms (with_index ms n) (nat_lt n m) (m == n) i refl refl h (into_with n i ms)
 
-of_with : (n i : ℕ) (ms : List ℕ) → IsOneOf i (with_index n ms) → (n ≡ i) ⊎ IsOneOf i ms
+pub of_with : (n i : ℕ) (ms : List ℕ) → IsOneOf i (with_index ms n) → (n ≡ i) ⊎ IsOneOf i ms
 unfolding with_index
 of_with n i [] h = h
-of_with n i (m ∷ ms) h = of_put n m ms (with_index n ms) (nat_lt n m) (n == m) i h (of_with n i ms)
+of_with n i (m ∷ ms) h = of_put n m ms (with_index ms n) (nat_lt n m) (m == n) i h (of_with n i ms)
 
 pub into_order : (i : ℕ) (ns : List ℕ) → IsOneOf i ns → IsOneOf i (in_order ns)
 unfolding in_order
@@ -257,10 +258,10 @@ unfolding in_order
 of_order i [] h = h
 of_order i (n ∷ ns) h = elim (of_with n i (in_order ns) h) [ inl e ↦ inl e | inr more ↦ inr (of_order i ns more) ]
 
-long_with : (n : ℕ) (ms : List ℕ) → length (with_index n ms) ≤ suc (length ms)
+long_with : (n : ℕ) (ms : List ℕ) → length (with_index ms n) ≤ suc (length ms)
 unfolding with_index
 long_with n [] = omega arith
-long_with n (m ∷ ms) = long_put n m ms (with_index n ms) (nat_lt n m) (n == m) (long_with n ms)
+long_with n (m ∷ ms) = long_put n m ms (with_index ms n) (nat_lt n m) (m == n) (long_with n ms)
 
 pub in_order_long : (ns : List ℕ) → length (in_order ns) ≤ length ns
 unfolding in_order

@@ -1,7 +1,8 @@
 -- A store takes each operation whose indices the state of its justified root holds.
-use Rattle.std.proofs.Common.{◌≡◌, ◌∙◌, ℕ, ◌⊎◌, inl, inr, Bool, true, false, cond, nat_lt, ◌==◌, List, [], ◌∷◌, Some, fold, refl, sym, ap, subst}
+use Rattle.std.proofs.Common.{◌≡◌, ◌∙◌, ℕ, ◌⊎◌, inl, inr, Bool, true, false, cond, ◌==◌, List, [], ◌∷◌, Some, fold, refl, sym, ap, subst}
 use Rattle.std.specs.List.{All, list_any}
 use Rattle.std.proofs.lemmas.Bool.{eqb-true, eq-eqb}
+use Rattle.bc_words.specs.Indices.{with_index}
 use Rattle.bc_words.specs.Outcome.{Outcome, done, bind}
 use Rattle.bc_words.specs.declared.refusal.Refusal.TheVariants.{AsData, IndexRange}
 use Rattle.beacon_types.specs.Slashable.{is_slashable_attestation_data}
@@ -12,42 +13,12 @@ use Rattle.spec_state.specs.declared.plain.PlainState.{PlainState}
 use Rattle.ffg_law.specs.Links.{IsOneOf}
 use Rattle.spec_fork_choice.specs.Store.{Store, KeptBlock, block_of, is_equivocating}
 use Rattle.spec_fork_choice.specs.StoreTargetCheckpointState.{kept_or}
-use Rattle.spec_fork_choice.specs.OnAttesterSlashing.{with_index, with_equivocating, on_attester_slashing}
+use Rattle.spec_fork_choice.specs.OnAttesterSlashing.{with_equivocating, on_attester_slashing}
 use Rattle.spec_forensics.specs.Histories.{AcceptedBlock}
 use Rattle.spec_slasher.specs.Operations.{operations, IsCommon}
 use Rattle.spec_slasher.specs.Accepts.{IsHeld, IsTaken}
-use Rattle.spec_slasher.proofs.Lists.{one_of, contained, all_are, in_filter, of_filter, to_any, of_any}
+use Rattle.spec_slasher.proofs.Lists.{one_of, contained, all_are, in_filter, of_filter, to_any, of_any, into_with, of_with}
 use Rattle.spec_slasher.proofs.Accepts.{IsRight, operation_right, first_valid, second_valid, check_done}
-
--- ---- a set with one more
-
--- an index before, at or behind the first
-module _ (n m : ℕ) (ms rest : List ℕ) where
-  into_put : (p q : Bool) (i : ℕ) → nat_lt n m ≡ p → (m == n) ≡ q → (n ≡ i) ⊎ IsOneOf i (m ∷ ms) → ((n ≡ i) ⊎ IsOneOf i ms → IsOneOf i rest) → IsOneOf i (cond p (n ∷ m ∷ ms) (cond q (m ∷ ms) (m ∷ rest)))
-  into_put true q i less same h keeps = h
-  into_put false true i less same (inl e) keeps = inl (eqb-true m n same ∙ e)
-  into_put false true i less same (inr h) keeps = h
-  into_put false false i less same (inl e) keeps = inr (keeps (inl e))
-  into_put false false i less same (inr (inl e)) keeps = inl e
-  into_put false false i less same (inr (inr h)) keeps = inr (keeps (inr h))
-
-  of_put : (p q : Bool) (i : ℕ) → IsOneOf i (cond p (n ∷ m ∷ ms) (cond q (m ∷ ms) (m ∷ rest))) → (IsOneOf i rest → (n ≡ i) ⊎ IsOneOf i ms) → (n ≡ i) ⊎ IsOneOf i (m ∷ ms)
-  of_put true q i h back = h
-  of_put false true i h back = inr h
-  of_put false false i (inl e) back = inr (inl e)
-  of_put false false i (inr h) back = elim (back h) [ inl e ↦ inl e | inr more ↦ inr (inr more) ]
-
-into_with : (n i : ℕ) (ms : List ℕ) → (n ≡ i) ⊎ IsOneOf i ms → IsOneOf i (with_index ms n)
-unfolding with_index
-into_with n i [] (inl e) = inl e
-into_with n i [] (inr h) = absurd h
-into_with n i (m ∷ ms) h = into_put n m ms (with_index ms n) (nat_lt n m) (m == n) i refl refl h (into_with n i ms)
-
-of_with : (n i : ℕ) (ms : List ℕ) → IsOneOf i (with_index ms n) → (n ≡ i) ⊎ IsOneOf i ms
-unfolding with_index
-of_with n i [] (inl e) = inl e
-of_with n i [] (inr h) = inr h
-of_with n i (m ∷ ms) h = of_put n m ms (with_index ms n) (nat_lt n m) (m == n) i h (of_with n i ms)
 
 -- ---- a store with more equivocating validators
 

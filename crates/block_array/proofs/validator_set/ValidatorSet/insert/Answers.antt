@@ -1,6 +1,6 @@
 use Rattle.std.proofs.Common.{◌*◌, ◌/◌, ◌%◌, ◌^◌, set, ap, ◌∙◌}
 use Rattle.std.specs.Prelude.{bit_or}
-use Rattle.block_array.specs.Silence.{with_index}
+use Rattle.bc_words.specs.Indices.{with_index}
 use Rattle.block_array.specs.inside.Silenced.{Indices, indices_in}
 use Rattle.block_array.proofs.ValidatorSets.{word_is, inserted}
 use Rattle.block_array.proofs.validator_set.ValidatorSet.insert.Goals as goal
