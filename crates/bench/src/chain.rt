@@ -258,6 +258,20 @@ pub struct Told {
     pub pairs: Pairs,
 }
 
+impl Told {
+    /// The record of its events.
+    pub fn record(&self, alloc: Global) -> Result<Vec<u8>> {
+        let mut record = Vec::from_slice(alloc, b"BCR1")?;
+        for event in &self.events {
+            let length = u32::try_from(event.payload.len())?;
+            record.push(event.kind)?;
+            record.extend_from_slice(&length.to_le_bytes())?;
+            record.extend_from_slice(&event.payload)?;
+        }
+        Ok(record)
+    }
+}
+
 /// Tells the block with this writing of no state root yet, takes the state through it, and tells its votes again.
 fn tell_written(
     alloc: Global,

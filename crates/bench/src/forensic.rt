@@ -1,7 +1,7 @@
 //! The command `forensic` on two chains of one genesis that finalise apart, from its files to its lines, against `replay` of both;
 //! and the memory that it needs, against that of one replay.
 
-use crate::chain::{Event, Shape, chain};
+use crate::chain::{Shape, chain};
 use crate::command::{Answer, put_file, run, words_of};
 use crate::genesis::{Genesis, Network, read_genesis};
 use crate::memory::greatest_resident;
@@ -27,18 +27,6 @@ struct Bytes {
     second: Vec<u8>,
 }
 
-/// The record of these events.
-fn record_of(alloc: Global, events: &[Event]) -> Result<Vec<u8>> {
-    let mut record = Vec::from_slice(alloc, b"BCR1")?;
-    for event in events {
-        let length = u32::try_from(event.payload.len())?;
-        record.push(event.kind)?;
-        record.extend_from_slice(&length.to_le_bytes())?;
-        record.extend_from_slice(&event.payload)?;
-    }
-    Ok(record)
-}
-
 /// The record of the chain of a genesis that is told apart by its graffiti.
 fn split_of(alloc: Global, genesis: &Genesis, slots: u64, graffiti: u8) -> Result<Vec<u8>> {
     let shape = Shape {
@@ -47,7 +35,7 @@ fn split_of(alloc: Global, genesis: &Genesis, slots: u64, graffiti: u8) -> Resul
         graffiti,
     };
     match chain(alloc, genesis, slots, shape) {
-        Ok(told) => record_of(alloc, &told.events),
+        Ok(told) => told.record(alloc),
         Err(error) => Err(error),
     }
 }
