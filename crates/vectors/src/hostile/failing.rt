@@ -1,6 +1,6 @@
 //! Each call of the outside fails in turn: a run ends with the status of that fault, behind a prefix of its lines.
 
-use crate::run::{Answer, Outside, Run};
+use crate::hostile::run::{Answer, Outside, Run};
 use anyhow::Result;
 use std::alloc::Global;
 

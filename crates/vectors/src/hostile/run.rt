@@ -47,7 +47,7 @@ fn bytes_at<R: Files + AllocGlobal>(rt: &R, path: &str) -> Result<Option<Vec<u8>
 /// Adds a word, and the file of that name, if there is one.
 fn load_word<R: Files + AllocGlobal>(rt: &R, name: &str, word: &str, run: &mut Run) -> Result<()> {
     run.words.push(word.to_string(rt.alloc())?)?;
-    let path = format!(in rt.alloc(); "{name}/{word}")?;
+    let path = format!(in rt.alloc(); "hostile/{name}/{word}")?;
     match bytes_at(rt, path.as_str())? {
         Some(bytes) => Ok(run.files.push((word.to_string(rt.alloc())?, bytes))?),
         None => Ok(()),
@@ -56,9 +56,9 @@ fn load_word<R: Files + AllocGlobal>(rt: &R, name: &str, word: &str, run: &mut R
 
 /// Fills in the run of this name.
 fn load_into<R: Files + AllocGlobal>(rt: &R, name: &str, run: &mut Run) -> Result<()> {
-    let path = format!(in rt.alloc(); "{name}/stdout")?;
+    let path = format!(in rt.alloc(); "hostile/{name}/stdout")?;
     run.lines = bytes_at(rt, path.as_str())?.context("the lines")?;
-    let path = format!(in rt.alloc(); "{name}/words")?;
+    let path = format!(in rt.alloc(); "hostile/{name}/words")?;
     let words = fs::read_to_string(rt, path.as_str())?;
     for word in words.lines() {
         load_word(rt, name, word, run)?;

@@ -1,6 +1,6 @@
 //! Each proper prefix of a record: the lines of the events that are whole in it are written, and the status says where it ends.
 
-use crate::run::{Answer, Outside, Run};
+use crate::hostile::run::{Answer, Outside, Run};
 use anyhow::Result;
 use beacon_node::Status;
 use record_file::RecordFault;
