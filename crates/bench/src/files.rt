@@ -24,7 +24,7 @@ fn network_of(preset: &str) -> Result<Network> {
 }
 
 /// What these words ask for: a preset's name, how many validators there are, and how many slots.
-fn asked(words: &[String]) -> Result<Asked> {
+fn read_words(words: &[String]) -> Result<Asked> {
     match words {
         [preset, validators, slots] => Ok(Asked {
             network: network_of(preset.as_str())?.of_validators(
@@ -53,7 +53,7 @@ fn record_of(alloc: Global, asked: &Asked) -> Result<Vec<u8>> {
 /// Writes the configuration, the genesis state and the record of the chain that these words ask for into the current folder, as
 /// `config.yaml`, `genesis.ssz` and `record.bcr`.
 pub fn write(rt: &(impl AllocGlobal + Files), words: &[String]) -> Result<()> {
-    let asked = asked(words)?;
+    let asked = read_words(words)?;
     let record = record_of(rt.alloc(), &asked)?;
     fs::write(rt, "config.yaml", asked.network.config())?;
     fs::write(rt, "genesis.ssz", asked.network.genesis_bytes(rt.alloc())?)?;
