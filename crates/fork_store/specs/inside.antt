@@ -3,6 +3,7 @@ pub mod ArrayVotes
 pub mod Boosts
 pub mod Chains
 pub mod CheckpointStates
+pub mod Entered
 pub mod Following
 pub mod Keepers
 pub mod Kept
