@@ -12,5 +12,4 @@ pub mod Openings
 pub mod Plain
 pub mod Slashings
 pub mod Votes
-pub mod Weights
 pub mod Wholes
