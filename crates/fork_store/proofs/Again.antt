@@ -72,6 +72,20 @@ entered_again store new block parent step left found_is is accepts =
     entered_by store new block.message root step (clash_of store.blocks root block.message.state_root block.message) left
     (accepted_by (check_block store block.message) step next (new, left) (ap (λ (o : Outcome Stepped). on_the_way o next) way ∙ accepts))
 
+-- the keeper's block of a number that is equal to one is kept under that number
+pub kept_again : (ks : List (ChainBlock SignedBeaconBlock)) (blocks : List KeptBlock) → kept_blocks ks ≡ blocks → (n : ℕ) (signed : SignedBeaconBlock) (block : BeaconBlock) → 0 < n → option_map (λ b. b.block) (slice_get ks n) ≡ Some signed → signed.message ≡ block
+    → IsKeptAgain blocks n block
+kept_again ks blocks is n signed block some read same = by (slice_get ks n) refl read
+  where
+    by : (held : Option (ChainBlock SignedBeaconBlock)) → slice_get ks n ≡ held → option_map (λ b. b.block) held ≡ Some signed → IsKeptAgain blocks n block
+    by None at none = absurd cc
+    by (Some held) at is_signed = record {
+      some = some;
+      kept = kept_block held;
+      there = sym (in_keeper ks blocks is n) ∙ ap (option_map kept_block) at;
+      same = ap (λ (s : SignedBeaconBlock). s.message) (same_Some held.block signed is_signed) ∙ same;
+    }
+
 module _ (store : Store) (keeper : Kept ConfigValues SignedBeaconBlock) (is : IsKeeperOf store keeper) (good : AllByRecursion IsKept store.blocks) (tree : IsTree store.blocks) where
   kept_here : (n : ℕ) (b : ChainBlock SignedBeaconBlock) → slice_get keeper.blocks n ≡ Some b → slice_get store.blocks n ≡ Some (kept_block b)
   kept_here n b there = sym (in_keeper keeper.blocks store.blocks is.blocks n) ∙ ap (λ (o : Option (ChainBlock SignedBeaconBlock)). option_map kept_block o) there
@@ -116,7 +130,7 @@ module _ (store : Store) (keeper : Kept ConfigValues SignedBeaconBlock) (is : Is
   -- so that of a kept block that comes again needn't be made once more
   pub made_again : ((n : ℕ) → 0 < n → n < length keeper.blocks → WasStep (λ s x. CanStep keeper.stepper s x) (λ s x. chain_step keeper.stepper s x) keeper.blocks n) → (n : ℕ) (block : SignedBeaconBlock) (state : PlainState)
       → IsKeptAgain store.blocks n block.message → ((root : List ℕ) → Some n ≡ node_number store.blocks root → IsStateBehind store.blocks root state) → IsStepOfKept store block.message (record { state = state; entered = entered_behind store block })
-  unfolding entered_behind
+  unfolding entered_behind entered_from entered_by_step
   made_again were n block state again at =
       let of = steps_of_parents were n again.some (slice_get_within store.blocks n again.kept again.there) in
       let held : again.kept ≡ of.kept = same_Some again.kept of.kept (sym again.there ∙ of.kept_there) in

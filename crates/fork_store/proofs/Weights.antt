@@ -32,7 +32,7 @@ module _ (epoch : ℕ) where
   pub sum_ends : sum_by (balance_in epoch) [] ≡ 0
   sum_ends = refl
 
-  active_at : Validator → Bool
+  abbrev active_at : Validator → Bool
   active_at v = is_active_validator v epoch
 
   -- those who aren't active add nothing, and the others what is read at their indices
@@ -48,7 +48,7 @@ module _ (epoch : ℕ) where
       by : (b : Bool) → read i ≡ v.effective_balance → sum_by read (indices_from active_at (suc i) left) ≡ sum_by (balance_in epoch) left
           → sum_by read (cond b (i ∷ indices_from active_at (suc i) left) (indices_from active_at (suc i) left)) ≡ cond b v.effective_balance 0 + sum_by (balance_in epoch) left
       by true here rest = sum_by-cons read i (indices_from active_at (suc i) left) ∙ ap₂ (λ (m n : ℕ). m + n) here rest
-      by false here rest = rest
+      by false here rest = let e : sum_by (balance_in epoch) left ≡ 0 + sum_by (balance_in epoch) left = omega arith in rest ∙ e
 
 pub sum_is : (state : PlainState) → sum_by (balance_in (get_current_epoch state)) state.validators ≡ sum_by (effective_balance state.validators) (active_in state)
 unfolding active_in get_active_validator_indices

@@ -12,13 +12,13 @@ use Rattle.fork_store.specs.declared.made_step.Way.{Way}
 use Rattle.fork_store.specs.declared.made_step.Way.TheVariants.{Shown, Again}
 
 -- those of a step, and none where it isn't done
-pub entered_by_step : Outcome Stepped → List PlainState
+unfoldable pub entered_by_step : Outcome Stepped → List PlainState
 entered_by_step (done step) = step.entered
 entered_by_step (refused why) = []
 entered_by_step (limited bound) = []
 
 -- those of the step by a block from the state behind a kept parent
-pub entered_from : ConfigValues → SignedBeaconBlock → Option KeptBlock → List PlainState
+unfoldable pub entered_from : ConfigValues → SignedBeaconBlock → Option KeptBlock → List PlainState
 entered_from config block (Some parent) = entered_by_step (state_transition parent.state block config)
 entered_from config block None = []
 
