@@ -6,7 +6,7 @@ use Rattle.spec_fork_choice.specs.OnBlock.{on_block}
 use Rattle.fork_store.specs.Events.{Accepts}
 use Rattle.fork_store.specs.Seen.{Seen}
 use Rattle.fork_store.proofs.StoreStays.{block_stays}
-use Rattle.fork_store.proofs.store.Store.on_stepped_block.Goals as goal
+use Rattle.fork_store.proofs.store.Store.on_made_block.Goals as goal
 
 pub on_stepped_block-requires-clause-few : goal.on_stepped_block-requires-clause-few
 on_stepped_block-requires-clause-few c = subst (λ (s : Seen). length s.plain.blocks < 2 ^ 32 - 1) (sym c.self.view_is) c.requires.few
