@@ -1,5 +1,5 @@
 -- The balances of one pass are those of the five parts.
-use Rattle.std.proofs.Common.{◌≡◌, ℕ, zero, suc, ◌+◌, ◌/◌, ◌<◌, Bool, true, false, not, cond, ◌==◌, List, ◌∷◌, Option, length, replicate, get_or, slice_index, refl, sym, ap, ◌∙◌, arith}
+use Rattle.std.proofs.Common.{◌≡◌, ℕ, zero, suc, ◌+◌, ◌/◌, ◌<◌, Bool, true, false, not, cond, ◌==◌, List, ◌∷◌, Option, length, replicate, get_or, slice_get, slice_index, refl, sym, ap, ◌∙◌, arith}
 use Rattle.std.specs.List.{AllByRecursion, range_with_len}
 use Rattle.bc_words.specs.Outcome.{Outcome, done, refused, limited, bind, ◌>>=◌, checked_add, checked_sub, checked_mul}
 use Rattle.spec_state.specs.declared.plain.PlainState.{PlainState}
@@ -88,7 +88,7 @@ module _ (state : PlainState) where
   unfolding leak_part leak_penalty
   leak_only leak targets index less = pick_only leak _ (done 0) (pick_only (is_among index (get_eligible_validator_indices state)) (inactivity_penalty state targets index) (done 0) (inactivity_only targets index less) tt) tt
 
-  settled_only : length state.balances ≡ length state.validators → (index rewards penalties : ℕ) → index < length state.validators → OnlyOverflows (settled state index rewards penalties)
+  settled_only : length state.balances ≡ length state.validators → (index rewards penalties : ℕ) → index < length state.validators → OnlyOverflows (settled (slice_get state.balances index) rewards penalties)
   unfolding settled
   settled_only same index rewards penalties less =
       bound_only (item_at state.balances index) _ (item_only state.balances index 0 (omega (arith, less, same)))
@@ -182,13 +182,13 @@ module _ (state : PlainState) (sources targets heads : List ℕ) (entries : List
   module _ (total : ℕ) (leak : Bool) where
     abbrev in_lists : ℕ → Outcome (List ℕ)
     in_lists a = apart count (component_reward state sources leak a total) (component_penalty state sources) (component_penalty state targets) (component_penalty state heads) (leak_part state leak targets)
-        (λ b. component_reward state targets leak b total) (λ c. component_reward state heads leak c total) (joined_reward state entries sources) (settled state)
+        (λ b. component_reward state targets leak b total) (λ c. component_reward state heads leak c total) (joined_reward state entries sources) (λ k. settled (slice_get state.balances k))
         (needed_balance state targets leak) (needed_balance state heads leak) gains_of
 
     last_open : (source target head inclusion inactivity : Deltas) → last source target head inclusion inactivity
         ≡ bind (checked_map (λ k. sum_of_four (get_or source.rewards k 0) (get_or target.rewards k 0) (get_or head.rewards k 0) (get_or inclusion.rewards k 0)) (range_with_len 0 count)) (λ gains.
         bind (checked_map (λ k. sum_of_four (get_or source.penalties k 0) (get_or target.penalties k 0) (get_or head.penalties k 0) (get_or inactivity.penalties k 0)) (range_with_len 0 count)) (λ losses.
-        checked_map (λ k. settled state k (get_or gains k 0) (get_or losses k 0)) (range_with_len 0 count)))
+        checked_map (λ k. settled (slice_get state.balances k) (get_or gains k 0) (get_or losses k 0)) (range_with_len 0 count)))
     unfolding added sum_at rewarded_balance sum_of_four settled validator_indices
     last_open source target head inclusion inactivity =
         bound_twice (checked_map (sum_at source.rewards target.rewards head.rewards inclusion.rewards) (range_with_len 0 count)) _ (λ all. checked_map (rewarded_balance state all) (validator_indices state))
@@ -213,7 +213,7 @@ module _ (state : PlainState) (sources targets heads : List ℕ) (entries : List
         ∙ bound_same (checked_map (leak_part state leak targets) (range_with_len 0 count)) _ _ (λ is. last_open (deltas ss ps) (deltas ts qs) (deltas hs os) (deltas js none) (deltas none is)))))))))))))
 
     regrouped : (a b c : ℕ) (gains : List ℕ) (k : ℕ) → paid_balance state sources targets heads (weights_by state leak a total) (weights_by state leak b total) (weights_by state leak c total) entries gains k
-        ≡ r0 count (component_reward state sources leak a total) (component_penalty state sources) (component_reward state targets leak b total) (component_penalty state targets) (component_reward state heads leak c total) (component_penalty state heads) (joined_reward state entries sources gains) (leak_part state leak targets) (settled state) k
+        ≡ r0 count (component_reward state sources leak a total) (component_penalty state sources) (component_reward state targets leak b total) (component_penalty state targets) (component_reward state heads leak c total) (component_penalty state heads) (joined_reward state entries sources gains) (leak_part state leak targets) (λ k. settled (slice_get state.balances k)) k
     unfolding paid_balance component_delta summed weights_by
     regrouped a b c gains k =
         delta_first (component_reward state sources leak a total k) (component_penalty state sources k) _
@@ -231,7 +231,7 @@ module _ (state : PlainState) (sources targets heads : List ℕ) (entries : List
       bound_same (needed_balance state targets leak) _ _ (λ b. bound_same (needed_balance state heads leak) _ _ (λ c. bound_same gains_of _ _ (λ gains.
       same_map (paid_balance state sources targets heads (weights_by state leak a total) (weights_by state leak b total) (weights_by state leak c total) entries gains) _ 0 count (λ k more less. regrouped total leak a b c gains k))))
       ∙ sym (at_once_is count (component_reward state sources leak a total) (component_penalty state sources) (component_penalty state targets) (component_penalty state heads) (leak_part state leak targets)
-      (λ b. component_reward state targets leak b total) (λ c. component_reward state heads leak c total) (joined_reward state entries sources) (settled state)
+      (λ b. component_reward state targets leak b total) (λ c. component_reward state heads leak c total) (joined_reward state entries sources) (λ k. settled (slice_get state.balances k))
       (λ k less. reward_only state sources leak a total k less) (λ k less. penalty_only state sources k less) (λ b k less. reward_only state targets leak b total k less) (λ k less. penalty_only state targets k less)
       (λ c k less. reward_only state heads leak c total k less) (λ k less. penalty_only state heads k less) (λ gains k less. joined_only state entries sources gains k less) (λ k less. leak_only state leak targets k less)
       (λ k gain loss less. settled_only state same k gain loss less)

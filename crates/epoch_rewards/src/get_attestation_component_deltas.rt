@@ -95,6 +95,7 @@ impl<'a> Amounts for Voters<'a> {
         stakes: &[Stake],
         base: Result<u64, Stop>,
         index: u64,
+        _balance: Option<u64>,
     ) -> Result<u64, Stop> {
         if is_eligible(state, stakes, index) && is_attester(state, stakes, self.flags, index) {
             return attester_reward(state, &self.weights, base, index);
@@ -122,6 +123,7 @@ impl<'a> Amounts for Absence<'a> {
         stakes: &[Stake],
         base: Result<u64, Stop>,
         index: u64,
+        _balance: Option<u64>,
     ) -> Result<u64, Stop> {
         if is_eligible(state, stakes, index) && !is_attester(state, stakes, self.flags, index) {
             return base;

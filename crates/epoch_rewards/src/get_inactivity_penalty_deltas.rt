@@ -92,6 +92,7 @@ impl<'a> Amounts for Leak<'a> {
         stakes: &[Stake],
         base: Result<u64, Stop>,
         index: u64,
+        _balance: Option<u64>,
     ) -> Result<u64, Stop> {
         if !is_eligible(state, stakes, index) {
             return Ok(0);

@@ -133,6 +133,7 @@ impl<'a> Amounts for Included<'a> {
         stakes: &[Stake],
         base: Result<u64, Stop>,
         index: u64,
+        _balance: Option<u64>,
     ) -> Result<u64, Stop> {
         let own = own_reward(state, stakes, base, self.flags, self.entries, index)?;
         checked_add(number_at(self.gains, index), own)

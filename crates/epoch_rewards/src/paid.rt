@@ -1,7 +1,7 @@
-//! The balances of validators after all five parts of their rewards and penalties, in one pass. Each balance is made of what
-//! was gathered of the registry, the flags of the attesters, their inclusions, and the gains of the proposers.
+//! The balances of validators after all five parts of their rewards and penalties, in one pass. Each balance is made of the one
+//! before, what was gathered of the registry, the flags of the attesters, their inclusions, and the gains of the proposers.
 
-ghost use Rattle.std.specs.Prelude.{◌≡◌};
+ghost use Rattle.std.specs.Prelude.{◌≡◌, slice_get};
 ghost use Rattle.bc_words.specs.Outcome.{GivesExactly};
 ghost use Rattle.spec_epochs.specs.GetBaseReward.{get_base_reward};
 ghost use Rattle.participation.specs.inside.Marks.{flagged};
@@ -14,8 +14,7 @@ use crate::get_attestation_component_deltas::{Absence, Voters};
 use crate::get_inactivity_penalty_deltas::Leak;
 use crate::get_inclusion_delay_deltas::Included;
 use crate::stakes::Stake;
-use balance_totals::balance_at;
-use bc_words::{Stop, checked_add};
+use bc_words::{Refusal, Stop, checked_add};
 use beacon_state::State;
 use participation::Inclusion;
 
@@ -46,17 +45,19 @@ fn component_delta(
     voters: &Voters<'_>,
     base: Result<u64, Stop>,
     index: u64,
+    balance: Option<u64>,
 ) -> Result<Delta, Stop>
     requires stakes { stakes.now ≡ stakes_of state.now }
     requires weights { AreWeights state.now voters.now.weights }
     requires base { GivesExactly base (get_base_reward state.now index) }
+    requires balance { slice_get state.now.balances index ≡ balance }
     ensures { GivesExactly result (component_delta state.now (flagged state.now voters.now.flags.now) voters.now.weights index) }
 {
     let absence = Absence {
         flags: voters.flags,
     };
-    let reward = voters.amount(state, stakes, base, index)?;
-    let penalty = absence.amount(state, stakes, base, index)?;
+    let reward = voters.amount(state, stakes, base, index, balance)?;
+    let penalty = absence.amount(state, stakes, base, index, balance)?;
     Ok(Delta { reward, penalty })
 }
 
@@ -68,26 +69,30 @@ fn leak_part(
     targets: &Voters<'_>,
     base: Result<u64, Stop>,
     index: u64,
+    balance: Option<u64>,
 ) -> Result<u64, Stop>
     requires stakes { stakes.now ≡ stakes_of state.now }
     requires base { GivesExactly base (get_base_reward state.now index) }
+    requires balance { slice_get state.now.balances index ≡ balance }
     ensures { GivesExactly result (leak_part state.now targets.now.weights.leak (flagged state.now targets.now.flags.now) index) }
 {
     if targets.weights.leak {
         let leak = Leak {
             flags: targets.flags,
         };
-        return leak.amount(state, stakes, base, index);
+        return leak.amount(state, stakes, base, index, balance);
     }
     Ok(0)
 }
 
 /// A validator's balance, in Gwei, after what it gains was added and what it loses taken.
 #[tactic(auto, unfolding(crate::specs::inside::Paid::settled))]
-fn settled(state: &State, index: u64, rewards: u64, penalties: u64) -> Result<u64, Stop>
-    ensures { GivesExactly result (settled state.now index rewards penalties) }
+fn settled(balance: Option<u64>, rewards: u64, penalties: u64) -> Result<u64, Stop>
+    ensures { GivesExactly result (settled balance rewards penalties) }
 {
-    let balance = balance_at(state, index)?;
+    let Some(balance) = balance else {
+        return Err(Stop::Refused(Refusal::IndexRange));
+    };
     let increased = checked_add(balance, rewards)?;
     Ok(increased.saturating_sub(penalties))
 }
@@ -95,19 +100,18 @@ fn settled(state: &State, index: u64, rewards: u64, penalties: u64) -> Result<u6
 /// A validator's balance, in Gwei, after its five parts.
 #[tactic(auto, unfolding(crate::specs::inside::Paid::summed))]
 fn summed(
-    state: &State,
     source: Delta,
     target: Delta,
     head: Delta,
     inclusion: u64,
     inactivity: u64,
-    index: u64,
+    balance: Option<u64>,
 ) -> Result<u64, Stop>
-    ensures { GivesExactly result (summed state.now source target head inclusion inactivity index) }
+    ensures { GivesExactly result (summed source target head inclusion inactivity balance) }
 {
     let rewards = sum_of_four(source.reward, target.reward, head.reward, inclusion)?;
     let penalties = sum_of_four(source.penalty, target.penalty, head.penalty, inactivity)?;
-    settled(state, index, rewards, penalties)
+    settled(balance, rewards, penalties)
 }
 
 /// What decides the balances of validators after their rewards and penalties. The amounts are these balances. The base reward of
@@ -138,17 +142,18 @@ impl<'a> Amounts for Paid<'a> {
         stakes: &[Stake],
         base: Result<u64, Stop>,
         index: u64,
+        balance: Option<u64>,
     ) -> Result<u64, Stop> {
-        let source = component_delta(state, stakes, &self.sources, base, index)?;
-        let target = component_delta(state, stakes, &self.targets, base, index)?;
-        let head = component_delta(state, stakes, &self.heads, base, index)?;
+        let source = component_delta(state, stakes, &self.sources, base, index, balance)?;
+        let target = component_delta(state, stakes, &self.targets, base, index, balance)?;
+        let head = component_delta(state, stakes, &self.heads, base, index, balance)?;
         let included = Included {
             flags: self.sources.flags,
             entries: self.entries,
             gains: self.gains,
         };
-        let inclusion = included.amount(state, stakes, base, index)?;
-        let inactivity = leak_part(state, stakes, &self.targets, base, index)?;
-        summed(state, source, target, head, inclusion, inactivity, index)
+        let inclusion = included.amount(state, stakes, base, index, balance)?;
+        let inactivity = leak_part(state, stakes, &self.targets, base, index, balance)?;
+        summed(source, target, head, inclusion, inactivity, balance)
     }
 }
