@@ -8,7 +8,6 @@ use Rattle.spec_state.specs.Soundness.{IsSoundWithinEpoch}
 use Rattle.spec_blocks.specs.Checks.{item_at}
 use Rattle.spec_epochs.specs.declared.deltas.Deltas.{Deltas}
 use Rattle.spec_epochs.specs.Each.{validator_indices, checked_map, is_among}
-use Rattle.spec_epochs.specs.Helpers.{get_matching_source_attestations, get_matching_target_attestations, get_matching_head_attestations}
 use Rattle.spec_epochs.specs.GetBaseReward.{get_base_reward}
 use Rattle.spec_epochs.specs.RewardHelpers.{get_proposer_reward, get_finality_delay, is_in_inactivity_leak, get_eligible_validator_indices}
 use Rattle.spec_epochs.specs.GetAttestationComponentDeltas.{attester_reward}
@@ -20,8 +19,12 @@ use Rattle.spec_epochs.specs.GetInactivityPenaltyDeltas.{absence_penalty, inacti
 use Rattle.spec_epochs.specs.GetAttestationDeltas.{sum_at, get_attestation_deltas}
 use Rattle.spec_epochs.specs.ProcessRewardsAndPenalties.{rewarded_balance, process_rewards_and_penalties}
 use Rattle.participation.specs.declared.inclusions.Inclusion.{Inclusion}
-use Rattle.participation.specs.inside.Marks.{flagged, flagged_from, attester_flags}
-use Rattle.participation.specs.inside.Inclusions.{inclusion_entries}
+use Rattle.participation.specs.declared.matching.Vote.{Vote}
+use Rattle.participation.specs.declared.matching.Vote.TheVariants.{Source, Target, Head}
+use Rattle.participation.specs.declared.table.Status.{Status}
+use Rattle.participation.specs.inside.Votes.{matching}
+use Rattle.participation.specs.inside.Marks.{flagged, flagged_from}
+use Rattle.participation.specs.inside.Statuses.{statuses_of, flags_of, entries_of}
 use Rattle.epoch_rewards.specs.declared.paid.Delta.{Delta}
 use Rattle.epoch_rewards.specs.inside.Components.{component_reward, component_penalty, needed_balance, component_deltas}
 use Rattle.epoch_rewards.specs.inside.Inclusions.{own_reward, joined_reward, all_included, all_joined, joined_deltas}
@@ -244,48 +247,39 @@ module _ (state : PlainState) (sources targets heads : List ℕ) (entries : List
 
 -- ---- the published parts
 
-module _ (state : PlainState) where
-  abbrev source_flags : List ℕ
-  source_flags = flagged state (attester_flags state (get_matching_source_attestations state (get_previous_epoch state)))
-
-  abbrev target_flags : List ℕ
-  target_flags = flagged state (attester_flags state (get_matching_target_attestations state (get_previous_epoch state)))
-
-  abbrev head_flags : List ℕ
-  head_flags = flagged state (attester_flags state (get_matching_head_attestations state (get_previous_epoch state)))
-
-  abbrev inclusions : List (Option Inclusion)
-  inclusions = inclusion_entries state (get_matching_source_attestations state (get_previous_epoch state))
+module _ (state : PlainState) (statuses : List Status) (are : statuses ≡ statuses_of state (get_previous_epoch state)) where
+  abbrev voters : Vote → List ℕ
+  voters vote = flagged state (flags_of vote statuses)
 
   abbrev balances_by : Deltas → Deltas → Deltas → Deltas → Deltas → Outcome (List ℕ)
-  balances_by = last state source_flags target_flags head_flags inclusions
+  balances_by = last state (voters Source) (voters Target) (voters Head) (entries_of statuses)
 
   published : all_rewarded state ≡ five (get_source_deltas state) (get_target_deltas state) (get_head_deltas state) (get_inclusion_delay_deltas state) (get_inactivity_penalty_deltas state) balances_by
   unfolding all_rewarded get_attestation_deltas added
   published = five_first (get_source_deltas state) (get_target_deltas state) (get_head_deltas state) (get_inclusion_delay_deltas state) (get_inactivity_penalty_deltas state) (added state) (λ all. checked_map (rewarded_balance state all) (validator_indices state))
 
-  sources_are : component_deltas state source_flags ≡ get_source_deltas state
-  unfolding get_source_deltas
-  sources_are = component_deltas_are state (get_matching_source_attestations state (get_previous_epoch state))
+  sources_are : component_deltas state (voters Source) ≡ get_source_deltas state
+  unfolding get_source_deltas matching
+  sources_are = component_deltas_are state (get_previous_epoch state) statuses Source are
 
-  targets_are : component_deltas state target_flags ≡ get_target_deltas state
-  unfolding get_target_deltas
-  targets_are = component_deltas_are state (get_matching_target_attestations state (get_previous_epoch state))
+  targets_are : component_deltas state (voters Target) ≡ get_target_deltas state
+  unfolding get_target_deltas matching
+  targets_are = component_deltas_are state (get_previous_epoch state) statuses Target are
 
-  heads_are : component_deltas state head_flags ≡ get_head_deltas state
-  unfolding get_head_deltas
-  heads_are = component_deltas_are state (get_matching_head_attestations state (get_previous_epoch state))
+  heads_are : component_deltas state (voters Head) ≡ get_head_deltas state
+  unfolding get_head_deltas matching
+  heads_are = component_deltas_are state (get_previous_epoch state) statuses Head are
 
-  pub one_pass : IsSoundWithinEpoch state → all_paid state source_flags target_flags head_flags inclusions ≡ all_rewarded state
-  one_pass sound =
-      by_flags state source_flags target_flags head_flags inclusions sound.balances (flagged_below state (attester_flags state (get_matching_source_attestations state (get_previous_epoch state))))
-      ∙ ap (λ a. five a (component_deltas state target_flags) (component_deltas state head_flags) (joined_deltas state inclusions source_flags) (leak_deltas state target_flags) balances_by) sources_are
-      ∙ ap (λ b. five (get_source_deltas state) b (component_deltas state head_flags) (joined_deltas state inclusions source_flags) (leak_deltas state target_flags) balances_by) targets_are
-      ∙ ap (λ c. five (get_source_deltas state) (get_target_deltas state) c (joined_deltas state inclusions source_flags) (leak_deltas state target_flags) balances_by) heads_are
-      ∙ ap (λ d. five (get_source_deltas state) (get_target_deltas state) (get_head_deltas state) d (leak_deltas state target_flags) balances_by) (joined_are state sound)
-      ∙ ap (λ e. five (get_source_deltas state) (get_target_deltas state) (get_head_deltas state) (get_inclusion_delay_deltas state) e balances_by) (leak_deltas_are state)
+  pub by_table : IsSoundWithinEpoch state → all_paid state (voters Source) (voters Target) (voters Head) (entries_of statuses) ≡ all_rewarded state
+  by_table sound =
+      by_flags state (voters Source) (voters Target) (voters Head) (entries_of statuses) sound.balances (flagged_below state (flags_of Source statuses))
+      ∙ ap (λ a. five a (component_deltas state (voters Target)) (component_deltas state (voters Head)) (joined_deltas state (entries_of statuses) (voters Source)) (leak_deltas state (voters Target)) balances_by) sources_are
+      ∙ ap (λ b. five (get_source_deltas state) b (component_deltas state (voters Head)) (joined_deltas state (entries_of statuses) (voters Source)) (leak_deltas state (voters Target)) balances_by) targets_are
+      ∙ ap (λ c. five (get_source_deltas state) (get_target_deltas state) c (joined_deltas state (entries_of statuses) (voters Source)) (leak_deltas state (voters Target)) balances_by) heads_are
+      ∙ ap (λ d. five (get_source_deltas state) (get_target_deltas state) (get_head_deltas state) d (leak_deltas state (voters Target)) balances_by) (joined_are state statuses sound are)
+      ∙ ap (λ e. five (get_source_deltas state) (get_target_deltas state) (get_head_deltas state) (get_inclusion_delay_deltas state) e balances_by) (leak_deltas_are state statuses are)
       ∙ sym published
 
-  pub processed : process_rewards_and_penalties state ≡ cond (get_current_epoch state == 0) (done state) (bind (all_rewarded state) (λ balances. done (record state { balances = balances })))
-  unfolding process_rewards_and_penalties all_rewarded
-  processed = ap (λ o. cond (get_current_epoch state == 0) (done state) o) (sym (bound_twice (get_attestation_deltas state) (λ deltas. checked_map (rewarded_balance state deltas) (validator_indices state)) (λ balances. done (let next : PlainState = record state { balances = balances } in next))))
+pub processed : (state : PlainState) → process_rewards_and_penalties state ≡ cond (get_current_epoch state == 0) (done state) (bind (all_rewarded state) (λ balances. done (record state { balances = balances })))
+unfolding process_rewards_and_penalties all_rewarded
+processed state = ap (λ o. cond (get_current_epoch state == 0) (done state) o) (sym (bound_twice (get_attestation_deltas state) (λ deltas. checked_map (rewarded_balance state deltas) (validator_indices state)) (λ balances. done (let next : PlainState = record state { balances = balances } in next))))

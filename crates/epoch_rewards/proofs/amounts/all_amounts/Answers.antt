@@ -9,11 +9,11 @@ use Rattle.epoch_rewards.proofs.amounts.all_amounts.Goals as goal
 
 pub amount-made-requires-clause-balance : goal.amount-made-requires-clause-balance
 amount-made-requires-clause-balance g c =
-    next_here c.args.state.now.balances c.loop-index.index c.loop-index.balances _ _ c.loop-index.invariant.beside c.next.ensures
+    next_here c.args.state.now.balances c.loop-index.index c.loop-index.balances c.next.new.self c.next.result c.loop-index.invariant.beside c.next.ensures.steps
 
 pub loop-index-preserved : goal.loop-index-preserved
 loop-index-preserved g c = record {
-  beside = next_left c.args.state.now.balances c.loop-index.index c.loop-index.balances _ _ c.loop-index.invariant.beside c.next.ensures;
+  beside = next_left c.args.state.now.balances c.loop-index.index c.loop-index.balances c.next.new.self c.next.result c.loop-index.invariant.beside c.next.ensures.steps;
   made =
       pushed_more _ _ c.loop-index.index c.loop-index.all.items c.push_made.new.numbers.items c.amount-made.result (omega arith) c.amount-made.ensures c.in-Ok.ensures.pushed
       ∙ c.loop-index.invariant.made;
