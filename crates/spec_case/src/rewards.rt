@@ -2,8 +2,8 @@
 
 ghost use Rattle.std.specs.Prelude.{◌≡◌};
 ghost use Rattle.spec_state.specs.Accessors.{get_previous_epoch};
-ghost use Rattle.spec_state.specs.inside.EpochCommittees.{epoch_committees};
 ghost use Rattle.spec_state.specs.Soundness.{IsSoundWithinEpoch};
+ghost use Rattle.participation.specs.inside.Statuses.{statuses_of};
 
 use crate::case::Case;
 use crate::difference::Difference;
@@ -12,10 +12,10 @@ use anyhow::Result;
 use balance_totals::{committees_of_epoch, previous_epoch};
 use bc_words::Stop;
 use beacon_state::State;
-use committees::EpochCommittees;
 use epoch_rewards::{
     Deltas, head_deltas, inactivity_deltas, inclusion_deltas, source_deltas, target_deltas,
 };
+use participation::{Status, previous_statuses};
 use ssz_codec::{Field, Items, cut, read_list};
 use std::alloc::Global;
 use std::rt::Files;
@@ -56,21 +56,16 @@ impl Part {
     }
 
     /// What it gives.
-    fn deltas(
-        self,
-        alloc: Global,
-        state: &State,
-        previous: &EpochCommittees,
-    ) -> Result<Deltas, Stop>
+    fn deltas(self, alloc: Global, state: &State, statuses: &[Status]) -> Result<Deltas, Stop>
         requires sound { IsSoundWithinEpoch state.now }
-        requires committees { previous.now ≡ epoch_committees state.now (get_previous_epoch state.now) }
+        requires statuses { statuses.now ≡ statuses_of state.now (get_previous_epoch state.now) }
     {
         match self {
-            Part::Source => source_deltas(alloc, state, previous),
-            Part::Target => target_deltas(alloc, state, previous),
-            Part::Head => head_deltas(alloc, state, previous),
-            Part::InclusionDelay => inclusion_deltas(alloc, state, previous),
-            Part::InactivityPenalty => inactivity_deltas(alloc, state, previous),
+            Part::Source => source_deltas(alloc, state, statuses),
+            Part::Target => target_deltas(alloc, state, statuses),
+            Part::Head => head_deltas(alloc, state, statuses),
+            Part::InclusionDelay => inclusion_deltas(alloc, state, statuses),
+            Part::InactivityPenalty => inactivity_deltas(alloc, state, statuses),
         }
     }
 }
@@ -117,11 +112,12 @@ pub fn run(rt: &(impl Files + AllocGlobal), case: &Case) -> Result<Verdict> {
     if !is_sound_within_epoch(alloc, &state)? {
         return Ok(Verdict::Outside(Outside::Unsound));
     }
-    let previous = committees_of_epoch(alloc, &state, previous_epoch(&state))?;
+    let committees = committees_of_epoch(alloc, &state, previous_epoch(&state))?;
+    let statuses = previous_statuses(alloc, &state, &committees)?;
     let mut difference = Difference::new(alloc);
     for part in PARTS {
         let bytes = case.bytes(rt, part.name())?;
-        match part.deltas(alloc, &state, &previous) {
+        match part.deltas(alloc, &state, &statuses) {
             Ok(deltas) => compare(alloc, part, &deltas, bytes.as_slice(), &mut difference)?,
             Err(stop) => return not_accepted(stop),
         }

@@ -2,14 +2,17 @@
 //!
 //! States come from the way through slots, at the last one of an epoch, and go back to it.
 
+ghost use Rattle.std.specs.Prelude.{◌≡◌, IfOk};
 ghost use Rattle.bc_words.specs.Outcome.{Moves};
+ghost use Rattle.spec_state.specs.Accessors.{get_current_epoch, get_previous_epoch};
 ghost use Rattle.spec_state.specs.Soundness.{IsSound};
 ghost use Rattle.spec_epochs.specs.ProcessEpoch.{process_epoch};
+ghost use Rattle.participation.specs.inside.Statuses.{statuses_of};
 ghost use Rattle.transition.specs.inside.Epochs.{resets, closing_parts};
 
 use balance_totals::{committees_of_epoch, current_epoch, previous_epoch};
 use bc_preset::Config;
-use bc_words::Stop;
+use bc_words::{NoMemory, Stop};
 use beacon_state::State;
 use epoch_close::process_effective_balance_updates::process_effective_balances;
 use epoch_close::process_eth1_data_reset::process_eth1_reset;
@@ -20,8 +23,29 @@ use epoch_close::process_slashings::process_slashings;
 use epoch_close::process_slashings_reset::process_slashings_reset;
 use epoch_rewards::process_rewards;
 use justification::process_justification;
+use participation::{Status, current_statuses, previous_statuses};
 use registry_queue::process_registry_updates::process_registry;
 use std::alloc::Global;
+
+/// How each validator attested in the previous epoch of a sound state.
+#[tactic(auto, using(spec_epochs::proofs::SoundJustification::sound_within))]
+fn previous_table(alloc: Global, state: &State) -> Result<Vec<Status>, NoMemory>
+    requires { IsSound state.now }
+    ensures { IfOk result (λ statuses. statuses.items ≡ statuses_of state.now (get_previous_epoch state.now)) }
+{
+    let committees = committees_of_epoch(alloc, state, previous_epoch(state))?;
+    previous_statuses(alloc, state, &committees)
+}
+
+/// How each validator attested in the current epoch of a sound state.
+#[tactic(auto, using(spec_epochs::proofs::SoundJustification::sound_within))]
+fn current_table(alloc: Global, state: &State) -> Result<Vec<Status>, NoMemory>
+    requires { IsSound state.now }
+    ensures { IfOk result (λ statuses. statuses.items ≡ statuses_of state.now (get_current_epoch state.now)) }
+{
+    let committees = committees_of_epoch(alloc, state, current_epoch(state))?;
+    current_statuses(alloc, state, &committees)
+}
 
 /// The resets of what the next epoch begins with, the root of the latest roots, and the rotation of the pending
 /// attestations.
@@ -46,18 +70,18 @@ fn close(alloc: Global, state: &mut State) -> Result<(), Stop>
     reset(state)
 }
 
-/// The parts of an epoch's end, one after another (beacon-chain.md, `process_epoch`), on a sound state. The committees of
-/// the previous and of the current epoch are made once. It leaves anything in the state after a stop.
+/// The parts of an epoch's end, one after another (beacon-chain.md, `process_epoch`), on a sound state. The table of how each
+/// validator attested is made once for the previous and once for the current epoch. It leaves anything in the state after a stop.
 ///
 /// Refused where a part is: as an overflow where a sum or product does not fit, and as a full list of historical roots.
-#[tactic(auto, using(crate::proofs::Epochs::justified_committees), unfolding(spec_epochs::specs::ProcessEpoch::process_epoch, crate::specs::inside::Epochs::closing_parts, crate::specs::inside::Epochs::resets))]
+#[tactic(auto, using(crate::proofs::Epochs::justified_statuses), unfolding(spec_epochs::specs::ProcessEpoch::process_epoch, crate::specs::inside::Epochs::closing_parts, crate::specs::inside::Epochs::resets))]
 pub fn process_epoch(alloc: Global, state: &mut State, config: &Config) -> Result<(), Stop>
     requires sound { IsSound state.old }
     ensures { Moves result state.new (process_epoch state.old config.now) }
 {
-    let previous = committees_of_epoch(alloc, state, previous_epoch(state))?;
-    let current = committees_of_epoch(alloc, state, current_epoch(state))?;
-    process_justification(alloc, state, &previous, &current)?;
+    let previous = previous_table(alloc, state)?;
+    let current = current_table(alloc, state)?;
+    process_justification(state, &previous, &current)?;
     process_rewards(alloc, state, &previous)?;
     process_registry(alloc, state, config)?;
     close(alloc, state)
