@@ -15,7 +15,7 @@ use crate::kept_state::kept_state;
 use crate::slots::start_slot;
 use crate::state_at::state_at;
 use crate::store_fields::StoreFields;
-use balance_totals::committees_of_epoch;
+use balance_totals::{keep_committees, shared_committees};
 use bc_words::{NoMemory, Refusal, Stop};
 use beacon_state::State;
 use beacon_types::Checkpoint;
@@ -84,8 +84,9 @@ pub(crate) fn checkpoint_state_anew(
     ensures same { keeper.new ≡ keeper.old }
 {
     store.config().preset().bounds();
-    let state = state_anew(alloc, store, keeper, target)?;
-    let committees = committees_of_epoch(alloc, &state, target.epoch)?;
+    let mut state = state_anew(alloc, store, keeper, target)?;
+    keep_committees(alloc, &mut state, target.epoch)?;
+    let committees = shared_committees(alloc, &state, target.epoch)?;
     Ok(CheckpointState::new(target, state, committees))
 }
 

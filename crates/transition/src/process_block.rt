@@ -7,15 +7,28 @@ ghost use Rattle.spec_blocks.specs.ProcessBlock.{process_block};
 
 use crate::get_beacon_proposer_index::get_beacon_proposer_index;
 use crate::process_operations::process_operations;
-use balance_totals::current_epoch;
+use balance_totals::{current_epoch, keep_active, keep_committees, previous_epoch};
 use bc_preset::Config;
-use bc_words::Stop;
+use bc_words::{NoMemory, Stop};
 use beacon_body::BeaconBlock;
 use beacon_state::State;
 use block_head::process_eth1_data::process_eth1_data;
 use block_head::process_header;
 use block_head::process_randao::process_randao;
 use std::alloc::Global;
+
+/// The state keeps the active validators of the previous and the current epoch, and the committees of the current one, where it
+/// doesn't yet: the first block of an epoch finds them, and the blocks on it have them of its state.
+fn keep_epoch(alloc: Global, state: &mut State) -> Result<(), NoMemory>
+    ensures { state.new ≡ state.old }
+{
+    let epoch = current_epoch(state);
+    if state.active_list(epoch).is_some() {
+        return Ok(());
+    }
+    keep_active(alloc, state, previous_epoch(state))?;
+    keep_committees(alloc, state, epoch)
+}
 
 /// The steps of a block, one after another.
 #[tactic(auto, unfolding(spec_blocks::specs::ProcessBlock::process_block))]
@@ -27,6 +40,7 @@ fn take_steps(
 ) -> Result<(), Stop>
     ensures { Moves result state.new (process_block state.old block.now config.now) }
 {
+    keep_epoch(alloc, state)?;
     let proposer = get_beacon_proposer_index(alloc, state)?;
     process_header(state, block, proposer)?;
     process_randao(state, &block.body)?;

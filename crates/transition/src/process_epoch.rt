@@ -2,15 +2,21 @@
 //!
 //! States come from the way through slots, at the last one of an epoch, and go back to it.
 
+ghost use Rattle.std.specs.Prelude.{◌≡◌, IfOk};
 ghost use Rattle.bc_words.specs.Outcome.{Moves};
+ghost use Rattle.spec_state.specs.Accessors.{get_current_epoch, get_previous_epoch};
 ghost use Rattle.spec_state.specs.Soundness.{IsSound};
+ghost use Rattle.spec_state.specs.inside.EpochCommittees.{epoch_committees};
 ghost use Rattle.spec_epochs.specs.ProcessEpoch.{process_epoch};
 ghost use Rattle.transition.specs.inside.Epochs.{resets, closing_parts};
 
-use balance_totals::{committees_of_epoch, current_epoch, previous_epoch};
+use balance_totals::{
+    current_epoch, keep_committees, note_total, previous_epoch, shared_committees,
+};
 use bc_preset::Config;
-use bc_words::Stop;
+use bc_words::{NoMemory, Stop};
 use beacon_state::State;
+use committees::EpochCommittees;
 use epoch_close::process_effective_balance_updates::process_effective_balances;
 use epoch_close::process_eth1_data_reset::process_eth1_reset;
 use epoch_close::process_historical_roots_update::process_historical_roots;
@@ -22,6 +28,26 @@ use epoch_rewards::process_rewards;
 use justification::process_justification;
 use registry_queue::process_registry_updates::process_registry;
 use std::alloc::Global;
+use std::rc::Rc;
+
+/// The committees of the previous and of the current epoch, which the state keeps, as it does the balance of the active validators.
+fn recent_committees(
+    alloc: Global,
+    state: &mut State,
+) -> Result<(Rc<EpochCommittees>, Rc<EpochCommittees>), NoMemory>
+    ensures same { state.new ≡ state.old }
+    ensures previous { IfOk result (λ recent. recent.0.value ≡ epoch_committees state.old (get_previous_epoch state.old)) }
+    ensures current { IfOk result (λ recent. recent.1.value ≡ epoch_committees state.old (get_current_epoch state.old)) }
+{
+    let before = previous_epoch(state);
+    let now = current_epoch(state);
+    keep_committees(alloc, state, before)?;
+    keep_committees(alloc, state, now)?;
+    note_total(state, now);
+    let previous = shared_committees(alloc, state, before)?;
+    let current = shared_committees(alloc, state, now)?;
+    Ok((previous, current))
+}
 
 /// The resets of what the next epoch begins with, the root of the latest roots, and the rotation of the pending
 /// attestations.
@@ -47,7 +73,7 @@ fn close(alloc: Global, state: &mut State) -> Result<(), Stop>
 }
 
 /// The parts of an epoch's end, one after another (beacon-chain.md, `process_epoch`), on a sound state. The committees of
-/// the previous and of the current epoch are made once. It leaves anything in the state after a stop.
+/// the previous and of the current epoch are those that the state keeps. It leaves anything in the state after a stop.
 ///
 /// Refused where a part is: as an overflow where a sum or product does not fit, and as a full list of historical roots.
 #[tactic(auto, using(crate::proofs::Epochs::justified_committees), unfolding(spec_epochs::specs::ProcessEpoch::process_epoch, crate::specs::inside::Epochs::closing_parts, crate::specs::inside::Epochs::resets))]
@@ -55,8 +81,7 @@ pub fn process_epoch(alloc: Global, state: &mut State, config: &Config) -> Resul
     requires sound { IsSound state.old }
     ensures { Moves result state.new (process_epoch state.old config.now) }
 {
-    let previous = committees_of_epoch(alloc, state, previous_epoch(state))?;
-    let current = committees_of_epoch(alloc, state, current_epoch(state))?;
+    let (previous, current) = recent_committees(alloc, state)?;
     process_justification(alloc, state, &previous, &current)?;
     process_rewards(alloc, state, &previous)?;
     process_registry(alloc, state, config)?;
