@@ -1,9 +1,13 @@
 -- What is weighed from a validator on: what a loop over the registry has still to add.
-use Rattle.std.proofs.Common.{◌≡◌, ℕ, suc, ◌+◌, ◌<◌, ◌≤◌, ◌^◌, true, false, cond, List, [], ◌∷◌, ◌++◌, length, drop, map, take, Some, None, slice_get, refl, sym, ap, ◌∙◌, arith}
+use Rattle.std.proofs.Common.{◌≡◌, ℕ, suc, ◌+◌, ◌<◌, ◌≤◌, ◌^◌, true, false, cond, List, [], ◌∷◌, ◌++◌, length, drop, map, take, Some, None, slice_get, inl, inr, refl, sym, ap, ◌∙◌, arith}
 use Rattle.std.specs.List.{sum_by}
 use Rattle.std.proofs.lemmas.List.{drop_all, take_more, take_all, map_push, length-map}
 use Rattle.std.proofs.lemmas.Option.{get_or_from_slice_get, slice_get_within}
 use Rattle.std.proofs.lemmas.List.Sums.{sum_by-cons}
+use Rattle.std.proofs.lemmas.Bool.{cases_lt}
+use Rattle.bc_words.proofs.Sums.{checked_sum_fits, checked_sum_overflows}
+use Rattle.active_sets.specs.inside.Active.{balance_in as noted_in}
+use Rattle.balance_totals.proofs.ActiveLeft.{noted}
 use Rattle.spec_blocks.proofs.Each.{from_item}
 use Rattle.beacon_types.specs.declared.validator.Validator.{Validator}
 use Rattle.spec_state.specs.declared.plain.PlainState.{PlainState}
@@ -12,7 +16,8 @@ use Rattle.spec_state.specs.Predicates.{is_active_validator}
 use Rattle.spec_state.specs.Accessors.{get_current_epoch, get_active_validator_indices, indices_from}
 use Rattle.balance_totals.proofs.LookedUp.{effective_some}
 use Rattle.spec_fork_choice.specs.GetLatestAttestingBalance.{active_in}
-use Rattle.bc_words.specs.Outcome.{Outcome, done, refused, limited}
+use Rattle.bc_words.specs.Outcome.{Outcome, done, refused, limited, checked_sum_by}
+use Rattle.bc_words.specs.declared.refusal.Refusal.TheVariants.{Overflow}
 use Rattle.bc_words.specs.declared.refusal.Refusal.{Refusal}
 use Rattle.bc_words.specs.declared.stop.Limit.{Limit}
 use Rattle.fork_store.specs.Arrays.{balance_in, balances_in, no_balances, balances_of}
@@ -73,6 +78,20 @@ module _ (state : PlainState) (index : ℕ) where
 pub ruleset adding = (balance_added, balance_left)
 
 pub ruleset balances = (balance_begins, balance_over)
+
+-- ---- what a state noted of them
+
+sum_is : (count : ℕ → ℕ) (xs : List ℕ) (sum : ℕ) → checked_sum_by count xs ≡ done sum → sum ≡ sum_by count xs
+sum_is count xs sum is = elim (cases_lt (sum_by count xs) (2 ^ 64)) as (λ _. sum ≡ sum_by count xs) [
+  | inl less ↦ (let e : done sum ≡ done (sum_by count xs) = sym is ∙ checked_sum_fits count xs less in cc)
+  | inr more ↦ (let e : done sum ≡ refused Overflow = sym is ∙ checked_sum_overflows count xs more in cc)
+]
+
+pub noted_total : (state : PlainState) (epoch sum : ℕ) → epoch ≡ get_current_epoch state → noted_in state.validators epoch ≡ done sum → sum ≡ sum_by (effective_balance state.validators) (active_in state)
+unfolding active_in
+noted_total state epoch sum now is =
+    let at : noted_in state.validators (get_current_epoch state) ≡ done sum = ap (noted_in state.validators) (sym now) ∙ is in
+    sum_is (effective_balance state.validators) (get_active_validator_indices state (get_current_epoch state)) sum (sym (noted (get_current_epoch state) state) ∙ at)
 
 -- ---- the list of balances
 

@@ -136,9 +136,22 @@ fn balance_of(state: &State, epoch: u64, index: u64) -> u64
     }
 }
 
-/// The effective balance of the active validators, in Gwei.
-#[tactic(auto, using(crate::proofs::Weights::balances))]
+/// The effective balance of the active validators, in Gwei: what the state noted of them, and else from a walk over the registry.
+#[tactic(auto, using(crate::proofs::Weights::noted_total))]
 fn active_total(state: &State) -> u128
+    ensures exact { result ≡ sum_by (effective_balance state.now.validators) (active_in state.now) }
+    ensures low { result ≤ 2 ^ 104 }
+{
+    let epoch = current_epoch(state);
+    match state.active_balance(epoch) {
+        Some(balance) => u128::from(balance),
+        None => summed_total(state),
+    }
+}
+
+/// The effective balance of the active validators, in Gwei, from a walk over the registry.
+#[tactic(auto, using(crate::proofs::Weights::balances))]
+fn summed_total(state: &State) -> u128
     ensures exact { result ≡ sum_by (effective_balance state.now.validators) (active_in state.now) }
     ensures low { result ≤ 2 ^ 104 }
 {

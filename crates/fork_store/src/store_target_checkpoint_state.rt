@@ -15,7 +15,7 @@ use crate::kept_state::kept_state;
 use crate::slots::start_slot;
 use crate::state_at::state_at;
 use crate::store_fields::StoreFields;
-use balance_totals::{keep_committees, shared_committees};
+use balance_totals::{keep_committees, note_total, shared_committees};
 use bc_words::{NoMemory, Refusal, Stop};
 use beacon_state::State;
 use beacon_types::Checkpoint;
@@ -86,6 +86,7 @@ pub(crate) fn checkpoint_state_anew(
     store.config().preset().bounds();
     let mut state = state_anew(alloc, store, keeper, target)?;
     keep_committees(alloc, &mut state, target.epoch)?;
+    note_total(&mut state, target.epoch);
     let committees = shared_committees(alloc, &state, target.epoch)?;
     Ok(CheckpointState::new(target, state, committees))
 }
