@@ -73,3 +73,18 @@ pub fn keep_committees(alloc: Global, state: &mut State, epoch: u64) -> Result<(
     let committees = committees_of_epoch(alloc, state, epoch)?;
     state.keep_committees(alloc, epoch, &seed, committees)
 }
+
+/// The committees of an epoch, which is at most 2^61, as the state keeps them from then on. Where memory is refused it may keep the
+/// list alone.
+pub fn kept_committees(
+    alloc: Global,
+    state: &mut State,
+    epoch: u64,
+) -> Result<Rc<EpochCommittees>, NoMemory>
+    requires { epoch ≤ 2 ^ 61 }
+    ensures same { state.new ≡ state.old }
+    ensures committees { IfOk result (λ committees. committees.value ≡ epoch_committees state.old epoch) }
+{
+    keep_committees(alloc, state, epoch)?;
+    shared_committees(alloc, state, epoch)
+}

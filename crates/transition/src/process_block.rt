@@ -30,8 +30,24 @@ fn keep_epoch(alloc: Global, state: &mut State) -> Result<(), NoMemory>
     keep_committees(alloc, state, epoch)
 }
 
-/// The steps of a block, one after another.
+/// The parts of a block, one after another.
 #[tactic(auto, unfolding(spec_blocks::specs::ProcessBlock::process_block))]
+fn take_parts(
+    alloc: Global,
+    state: &mut State,
+    block: &BeaconBlock,
+    config: &Config,
+) -> Result<(), Stop>
+    ensures { Moves result state.new (process_block state.old block.now config.now) }
+{
+    let proposer = get_beacon_proposer_index(alloc, state)?;
+    process_header(state, block, proposer)?;
+    process_randao(state, &block.body)?;
+    process_eth1_data(state, &block.body)?;
+    process_operations(alloc, state, &block.body, proposer, config)
+}
+
+/// The steps of a block, once the state keeps who is active.
 fn take_steps(
     alloc: Global,
     state: &mut State,
@@ -41,11 +57,7 @@ fn take_steps(
     ensures { Moves result state.new (process_block state.old block.now config.now) }
 {
     keep_epoch(alloc, state)?;
-    let proposer = get_beacon_proposer_index(alloc, state)?;
-    process_header(state, block, proposer)?;
-    process_randao(state, &block.body)?;
-    process_eth1_data(state, &block.body)?;
-    process_operations(alloc, state, &block.body, proposer, config)
+    take_parts(alloc, state, block, config)
 }
 
 /// The block's header, randomness, vote for the deposit contract, and operations (beacon-chain.md, `process_block`), on a

@@ -10,9 +10,7 @@ ghost use Rattle.spec_state.specs.inside.EpochCommittees.{epoch_committees};
 ghost use Rattle.spec_epochs.specs.ProcessEpoch.{process_epoch};
 ghost use Rattle.transition.specs.inside.Epochs.{resets, closing_parts};
 
-use balance_totals::{
-    current_epoch, keep_committees, note_total, previous_epoch, shared_committees,
-};
+use balance_totals::{current_epoch, kept_committees, note_total, previous_epoch};
 use bc_preset::Config;
 use bc_words::{NoMemory, Stop};
 use beacon_state::State;
@@ -39,13 +37,9 @@ fn recent_committees(
     ensures previous { IfOk result (λ recent. recent.0.value ≡ epoch_committees state.old (get_previous_epoch state.old)) }
     ensures current { IfOk result (λ recent. recent.1.value ≡ epoch_committees state.old (get_current_epoch state.old)) }
 {
-    let before = previous_epoch(state);
-    let now = current_epoch(state);
-    keep_committees(alloc, state, before)?;
-    keep_committees(alloc, state, now)?;
-    note_total(state, now);
-    let previous = shared_committees(alloc, state, before)?;
-    let current = shared_committees(alloc, state, now)?;
+    let previous = kept_committees(alloc, state, previous_epoch(state))?;
+    let current = kept_committees(alloc, state, current_epoch(state))?;
+    note_total(state, current_epoch(state));
     Ok((previous, current))
 }
 
@@ -72,18 +66,34 @@ fn close(alloc: Global, state: &mut State) -> Result<(), Stop>
     reset(state)
 }
 
-/// The parts of an epoch's end, one after another (beacon-chain.md, `process_epoch`), on a sound state. The committees of
-/// the previous and of the current epoch are those that the state keeps. It leaves anything in the state after a stop.
+/// The parts of an epoch's end, one after another, on a sound state whose committees these are.
+#[tactic(auto, using(crate::proofs::Epochs::justified_committees), unfolding(spec_epochs::specs::ProcessEpoch::process_epoch, crate::specs::inside::Epochs::closing_parts, crate::specs::inside::Epochs::resets))]
+fn take_parts(
+    alloc: Global,
+    state: &mut State,
+    config: &Config,
+    previous: &EpochCommittees,
+    current: &EpochCommittees,
+) -> Result<(), Stop>
+    requires sound { IsSound state.old }
+    requires previous { previous.now ≡ epoch_committees state.old (get_previous_epoch state.old) }
+    requires current { current.now ≡ epoch_committees state.old (get_current_epoch state.old) }
+    ensures { Moves result state.new (process_epoch state.old config.now) }
+{
+    process_justification(alloc, state, previous, current)?;
+    process_rewards(alloc, state, previous)?;
+    process_registry(alloc, state, config)?;
+    close(alloc, state)
+}
+
+/// The parts of an epoch's end (beacon-chain.md, `process_epoch`), on a sound state. The committees of the previous and of the
+/// current epoch are those that the state keeps. It leaves anything in the state after a stop.
 ///
 /// Refused where a part is: as an overflow where a sum or product does not fit, and as a full list of historical roots.
-#[tactic(auto, using(crate::proofs::Epochs::justified_committees), unfolding(spec_epochs::specs::ProcessEpoch::process_epoch, crate::specs::inside::Epochs::closing_parts, crate::specs::inside::Epochs::resets))]
 pub fn process_epoch(alloc: Global, state: &mut State, config: &Config) -> Result<(), Stop>
     requires sound { IsSound state.old }
     ensures { Moves result state.new (process_epoch state.old config.now) }
 {
     let (previous, current) = recent_committees(alloc, state)?;
-    process_justification(alloc, state, &previous, &current)?;
-    process_rewards(alloc, state, &previous)?;
-    process_registry(alloc, state, config)?;
-    close(alloc, state)
+    take_parts(alloc, state, config, &previous, &current)
 }
