@@ -22,12 +22,13 @@ use std::alloc::Global;
 fn keep_epoch(alloc: Global, state: &mut State) -> Result<(), NoMemory>
     ensures { state.new ≡ state.old }
 {
-    let epoch = current_epoch(state);
-    if state.active_list(epoch).is_some() {
+    let before = previous_epoch(state);
+    let now = current_epoch(state);
+    if state.active_list(now).is_some() {
         return Ok(());
     }
-    keep_active(alloc, state, previous_epoch(state))?;
-    keep_committees(alloc, state, epoch)
+    keep_active(alloc, state, before)?;
+    keep_committees(alloc, state, now)
 }
 
 /// The parts of a block, one after another.

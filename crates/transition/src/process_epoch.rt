@@ -37,9 +37,11 @@ fn recent_committees(
     ensures previous { IfOk result (λ recent. recent.0.value ≡ epoch_committees state.old (get_previous_epoch state.old)) }
     ensures current { IfOk result (λ recent. recent.1.value ≡ epoch_committees state.old (get_current_epoch state.old)) }
 {
-    let previous = kept_committees(alloc, state, previous_epoch(state))?;
-    let current = kept_committees(alloc, state, current_epoch(state))?;
-    note_total(state, current_epoch(state));
+    let before = previous_epoch(state);
+    let now = current_epoch(state);
+    let previous = kept_committees(alloc, state, before)?;
+    let current = kept_committees(alloc, state, now)?;
+    note_total(state, now);
     Ok((previous, current))
 }
 
