@@ -1,7 +1,7 @@
 //! Changing the fields of a state: each call says in one clause which field or place changes, and that all else stays.
 //!
 //! What may take memory answers whether it was refused, and then leaves the state as it was. A root that was kept goes with the
-//! first change.
+//! first change, and a kept list of active validators with the first validator who isn't active at its epoch as before.
 
 ghost use Rattle.std.specs.Prelude.{◌≡◌, ◌<◌, [], length, slice_set};
 ghost use Rattle.bc_words.specs.Outcome.{Pushes, Becomes};
@@ -167,6 +167,8 @@ impl State {
         ensures { Becomes result self.old self.new (record self.old { validators = slice_set self.old.validators i validator }) }
     {
         self.kept_root = None;
+        self.active_lists
+            .follow_set(self.validators.list(), i, &validator);
         self.validators.set(i, validator)
     }
 
@@ -176,6 +178,8 @@ impl State {
         ensures { Pushes result self.old self.new (one_more_validator self.old validator) }
     {
         self.kept_root = None;
+        self.active_lists
+            .follow_push(self.validators.list(), &validator);
         self.validators.push(validator)
     }
 
