@@ -159,10 +159,7 @@ fn time_sound(rt: &(impl AllocGlobal + CpuClock), state: &mut State) -> Result<J
 }
 
 /// The times of both tables and of justification.
-fn time_justification(
-    rt: &(impl AllocGlobal + CpuClock),
-    state: &mut State,
-) -> Result<Justified> {
+fn time_justification(rt: &(impl AllocGlobal + CpuClock), state: &mut State) -> Result<Justified> {
     if !is_sound(rt.alloc(), state)? {
         bail!("the state isn't sound");
     }

@@ -40,12 +40,7 @@ fn absence_penalty(state: &State, stakes: &[Stake], index: u64) -> Result<u64, S
 }
 
 /// What a validator loses for its absence, in Gwei: nothing, where it attested to the target.
-fn absence(
-    state: &State,
-    stakes: &[Stake],
-    statuses: &[Status],
-    index: u64,
-) -> Result<u64, Stop>
+fn absence(state: &State, stakes: &[Stake], statuses: &[Status], index: u64) -> Result<u64, Stop>
     requires { stakes.now ≡ stakes_of state.now }
     ensures { GivesExactly result (if is_among index (flagged state.now (flags_of votes.Target statuses.now)) then done 0 else absence_penalty state.now index) }
 {

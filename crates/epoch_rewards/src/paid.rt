@@ -169,7 +169,15 @@ impl<'a> Amounts for Paid<'a> {
         let target = component_delta(state, stakes, &targets, base, index, balance)?;
         let head = component_delta(state, stakes, &heads, base, index, balance)?;
         let inclusion = included.amount(state, stakes, base, index, balance)?;
-        let inactivity = leak_part(state, stakes, statuses, self.target.leak, base, index, balance)?;
+        let inactivity = leak_part(
+            state,
+            stakes,
+            statuses,
+            self.target.leak,
+            base,
+            index,
+            balance,
+        )?;
         summed(source, target, head, inclusion, inactivity, balance)
     }
 }

@@ -89,11 +89,7 @@ fn all_paid(
 
 /// The balances of all validators after their rewards and penalties, in Gwei. The statuses are those of the previous epoch.
 #[tactic(auto, using(crate::proofs::Parts::by_table))]
-fn rewarded_balances(
-    alloc: Global,
-    state: &State,
-    statuses: &[Status],
-) -> Result<Vec<u64>, Stop>
+fn rewarded_balances(alloc: Global, state: &State, statuses: &[Status]) -> Result<Vec<u64>, Stop>
     requires sound { IsSoundWithinEpoch state.now }
     requires statuses { statuses.now ≡ statuses_of state.now (get_previous_epoch state.now) }
     ensures exact { GivesBy (λ balances. balances.items) result (all_rewarded state.now) }
