@@ -1,5 +1,5 @@
 -- The balance of those who have the target right in an epoch's table is that of the attesters of its first block.
-use Rattle.std.proofs.Common.{◌≡◌, ℕ, List, sym, ap}
+use Rattle.std.proofs.Common.{◌≡◌, ℕ, List, ap}
 use Rattle.spec_state.specs.declared.plain.PlainState.{PlainState}
 use Rattle.spec_state.specs.Accessors.{get_total_balance}
 use Rattle.spec_epochs.specs.Helpers.{get_matching_target_attestations, get_attesting_balance}

@@ -17,5 +17,5 @@ returns-clause-exact c =
     c.in_ok-total.total c.in_ok-leak.leak c.in_ok-source.source c.in_ok-target.target c.in_ok-head.head
     (subst (λ (epoch : ℕ). get_total_balance c.args.state.now (get_active_validator_indices c.args.state.now epoch) ≡ done c.in_ok-total.total) c.current_epoch.ensures.exact c.in_ok-total.ensures)
     c.in_ok-leak.ensures c.in_ok-source.ensures c.in_ok-target.ensures c.in_ok-head.ensures
-    c.weights_of.result c.weights_of-2.result c.weights_of-3.result c.weights_of.ensures.by c.weights_of-2.ensures.by c.weights_of-3.ensures.by)
+    c.weights_of-by_source.result c.weights_of-by_target.result c.weights_of-by_head.result c.weights_of-by_source.ensures.by c.weights_of-by_target.ensures.by c.weights_of-by_head.ensures.by)
     c.paid_by_weights.ensures.exact
