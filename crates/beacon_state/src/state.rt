@@ -10,6 +10,7 @@ ghost use Rattle.beacon_state.specs.inside.Plain.{HasRoots, HasRegistry, HasPend
 mod getters;
 mod kept;
 mod lists;
+mod registry;
 mod setters;
 mod whole;
 

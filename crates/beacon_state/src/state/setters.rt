@@ -9,7 +9,7 @@ ghost use Rattle.beacon_state.specs.inside.Changes.{one_more_historical_root, on
 ghost use Rattle.beacon_state.specs.inside.Changes.{one_more_previous_attestation, one_more_current_attestation};
 ghost use Rattle.beacon_state.specs.inside.Changes.{with_previous_attestation_at, with_current_attestation_at, with_rotated_attestations};
 
-use super::State;
+use super::{State, registry};
 use bc_words::{NoMemory, PushStop};
 use beacon_types::{BeaconBlockHeader, Checkpoint, Eth1Data, Fork, PendingAttestation, Validator};
 use hash_tree::Root;
@@ -167,9 +167,7 @@ impl State {
         ensures { Becomes result self.old self.new (record self.old { validators = slice_set self.old.validators i validator }) }
     {
         self.kept_root = None;
-        self.active_lists
-            .follow_set(self.validators.list(), i, &validator);
-        self.validators.set(i, validator)
+        registry::set(&mut self.validators, &mut self.active_lists, i, validator)
     }
 
     /// Appends one more validator. Full exactly where there are as many as the limit. On an error the
@@ -178,9 +176,7 @@ impl State {
         ensures { Pushes result self.old self.new (one_more_validator self.old validator) }
     {
         self.kept_root = None;
-        self.active_lists
-            .follow_push(self.validators.list(), &validator);
-        self.validators.push(validator)
+        registry::push(&mut self.validators, &mut self.active_lists, validator)
     }
 
     /// Writes another balance at a place. Where memory is refused, the state is as before.
