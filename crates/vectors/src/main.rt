@@ -8,6 +8,7 @@
 
 mod books;
 mod calls;
+mod case_files;
 mod offences;
 mod runs;
 mod shared_weights;
