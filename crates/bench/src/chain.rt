@@ -412,11 +412,24 @@ fn advance_all(
 
 /// What a chain of so many slots behind genesis tells.
 pub fn chain(alloc: Global, genesis: &Genesis, slots: u64, shape: Shape) -> Result<Told> {
-    let mut state = genesis.state.share()?;
     let mut told = Told {
         events: Vec::new(alloc),
         pairs: Pairs::none(),
     };
-    advance_all(alloc, &mut state, &genesis.config, slots, shape, &mut told)?;
+    advance_share(alloc, genesis, slots, shape, &mut told)?;
     Ok(told)
+}
+
+/// Takes a share of the genesis state through so many slots, and tells the events of each.
+fn advance_share(
+    alloc: Global,
+    genesis: &Genesis,
+    slots: u64,
+    shape: Shape,
+    told: &mut Told,
+) -> Result<()> {
+    match genesis.state.share() {
+        Ok(mut state) => advance_all(alloc, &mut state, &genesis.config, slots, shape, told),
+        Err(refused) => Err(refused.into()),
+    }
 }

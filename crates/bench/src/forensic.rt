@@ -40,16 +40,24 @@ fn split_of(alloc: Global, genesis: &Genesis, slots: u64, graffiti: u8) -> Resul
     }
 }
 
-/// Makes the files.
-fn bytes_of(alloc: Global, network: &Network, slots: u64) -> Result<Bytes> {
-    let genesis = network.genesis_bytes(alloc)?;
-    let state = read_genesis(alloc, network)?;
+/// Makes the files, the records behind this genesis.
+fn bytes_from(alloc: Global, network: &Network, genesis: &Genesis, slots: u64) -> Result<Bytes> {
+    let first = split_of(alloc, genesis, slots, 0xaa)?;
+    let second = split_of(alloc, genesis, slots, 0xbb)?;
     Ok(Bytes {
         config: network.config(),
-        genesis,
-        first: split_of(alloc, &state, slots, 0xaa)?,
-        second: split_of(alloc, &state, slots, 0xbb)?,
+        genesis: network.genesis_bytes(alloc)?,
+        first,
+        second,
     })
+}
+
+/// Makes the files.
+fn bytes_of(alloc: Global, network: &Network, slots: u64) -> Result<Bytes> {
+    match read_genesis(alloc, network) {
+        Ok(genesis) => bytes_from(alloc, network, &genesis, slots),
+        Err(error) => Err(error),
+    }
 }
 
 /// A copy of the files.

@@ -64,19 +64,23 @@ fn process(
 }
 
 /// Runs a case of `epoch_processing`.
-pub fn run(rt: &(impl Files + AllocGlobal), case: &Case, handler: &str) -> Result<Verdict> {
+pub fn run(
+    rt: &(impl Files + AllocGlobal),
+    case: &Case,
+    handler: &str,
+    state: &mut State,
+) -> Result<Verdict> {
     let alloc = rt.alloc();
-    let mut state = case.state(rt, "pre")?;
     let (outcome, otherwise) = match handler {
-        "justification_and_finalization" => (justify(alloc, &mut state)?, Outside::Unsound),
-        "rewards_and_penalties" => (pay(alloc, &mut state)?, Outside::Unsound),
+        "justification_and_finalization" => (justify(alloc, state)?, Outside::Unsound),
+        "rewards_and_penalties" => (pay(alloc, state)?, Outside::Unsound),
         _ => (
-            process(alloc, &mut state, handler, case.config()),
+            process(alloc, state, handler, case.config()),
             Outside::Handler,
         ),
     };
     match outcome {
-        Some(outcome) => judged(rt, case, &state, outcome),
+        Some(outcome) => judged(rt, case, state, outcome),
         None => Ok(Verdict::Outside(otherwise)),
     }
 }

@@ -1,6 +1,5 @@
-//! The texts of the statuses.
+//! What the statuses say.
 
-use crate::explanation::{Cause, Explanation};
 use bc_preset::{ConfigFault, Key};
 use bc_words::{ClashKind, Limit, Refusal};
 use beacon_node::Status;
@@ -10,13 +9,21 @@ use record_file::RecordFault;
 use spec_fork_choice::AnchorFault;
 use spec_genesis::DepositsFault;
 use spec_state::GenesisFault;
+use status_words::{Cause, Explanation};
 use std::alloc::{AllocError, Global};
 use std::io::{Error, ErrorKind};
 use std::test::Fail;
 
-/// The texts of statuses of `replay c g r`, where the genesis file has 7056 bytes. A status may have a cause, which may have the name
-/// of a file, and the event at which the record was.
-const TEXTS: &[(Status, Option<Option<&str>>, Option<u64>, &str)] = &[
+/// A status, its cause, which may have the name of a file, the event at which the record was, and what it says.
+type Row = (
+    Status,
+    Option<Option<&'static str>>,
+    Option<u64>,
+    &'static str,
+);
+
+/// The rows of `replay c g r`.
+const REPLAY: &[Row] = &[
     (
         Status::Config(ConfigFault::TooLong),
         None,
@@ -152,8 +159,8 @@ const TEXTS: &[(Status, Option<Option<&str>>, Option<u64>, &str)] = &[
     ),
 ];
 
-/// The texts of statuses of `drill 0 c`.
-const DRILL_TEXTS: &[(Status, Option<Option<&str>>, Option<u64>, &str)] = &[
+/// The rows of `drill 0 c`.
+const DRILL: &[Row] = &[
     (
         Status::Config(ConfigFault::OutOfRange(Key::EjectionBalance)),
         None,
@@ -183,51 +190,79 @@ const DRILL_TEXTS: &[(Status, Option<Option<&str>>, Option<u64>, &str)] = &[
     ),
 ];
 
-/// The texts of faults of the deposits of `genesis c d`, where the file has so many bytes.
-const DEPOSITS_TEXTS: &[(Status, usize, &str)] = &[
+/// How many bytes a file of deposits has, and the rows of `genesis c d`.
+const DEPOSITS: &[(usize, &[Row])] = &[
     (
-        Status::Deposits(DepositsFault::TooLong),
         1_073_741_825,
-        "Deposits: \"d\": the file has more than 1073741824 bytes",
+        &[(
+            Status::Deposits(DepositsFault::TooLong),
+            None,
+            None,
+            "Deposits: \"d\": the file has more than 1073741824 bytes",
+        )],
     ),
     (
-        Status::Deposits(DepositsFault::BadMagic),
         2,
-        "Deposits: \"d\": the file does not begin with BCD1",
+        &[(
+            Status::Deposits(DepositsFault::BadMagic),
+            None,
+            None,
+            "Deposits: \"d\": the file does not begin with BCD1",
+        )],
     ),
     (
-        Status::Deposits(DepositsFault::Torn),
         16,
-        "Deposits: \"d\": the file ends within its head or within a deposit: it has 16 bytes, and its head has 48",
+        &[(
+            Status::Deposits(DepositsFault::Torn),
+            None,
+            None,
+            "Deposits: \"d\": the file ends within its head or within a deposit: it has 16 bytes, and its head has 48",
+        )],
     ),
     (
-        Status::Deposits(DepositsFault::Torn),
         415,
-        "Deposits: \"d\": the file ends within its head or within a deposit: it has 415 bytes, the last 183 of which are of deposit 1, and a deposit has 184",
+        &[(
+            Status::Deposits(DepositsFault::Torn),
+            None,
+            None,
+            "Deposits: \"d\": the file ends within its head or within a deposit: it has 415 bytes, the last 183 of which are of deposit 1, and a deposit has 184",
+        )],
     ),
     (
-        Status::Deposits(DepositsFault::Overflow(1)),
         416,
-        "Deposits: \"d\": the amount of deposit 1 does not fit into the balance of its key: the deposit stands behind the file's first 232 bytes",
+        &[(
+            Status::Deposits(DepositsFault::Overflow(1)),
+            None,
+            None,
+            "Deposits: \"d\": the amount of deposit 1 does not fit into the balance of its key: the deposit stands behind the file's first 232 bytes",
+        )],
     ),
 ];
 
-/// The texts of statuses of `duties c s 7`, where the state's file has 7056 bytes.
-const DUTIES_TEXTS: &[(Status, &str)] = &[
+/// The rows of `duties c s 7`.
+const DUTIES: &[Row] = &[
     (
         Status::Duties(DutiesFault::NotAWriting),
+        None,
+        None,
         "Duties: \"s\": the bytes are no state: the file has 7056 bytes, and a state has at least 7057 under the preset minimal and 2687377 under mainnet",
     ),
     (
         Status::Duties(DutiesFault::Unsound),
+        None,
+        None,
         "Duties: \"s\": the state is not sound",
     ),
     (
         Status::Duties(DutiesFault::Epoch),
+        None,
+        None,
         "Duties: \"s\": epoch 7: the epoch is neither the state's current one nor the next",
     ),
     (
         Status::Duties(DutiesFault::Refused(Refusal::NoActive)),
+        None,
+        None,
         "Duties: \"s\": epoch 7: refused 8 NoActive: nobody is active, so that no one can propose",
     ),
     (
@@ -236,42 +271,60 @@ const DUTIES_TEXTS: &[(Status, &str)] = &[
             event: 0,
             limit: Limit::Proposer,
         },
+        None,
+        None,
         "Limit: \"s\": epoch 7: none of the first 65536 candidates for the slot's proposer passes",
     ),
 ];
 
-/// The texts of statuses of `anchor c s b r`, where the state's file has 7056 bytes.
-const ANCHOR_TEXTS: &[(Status, &str)] = &[
+/// The rows of `anchor c s b r`.
+const ANCHOR: &[Row] = &[
     (
         Status::Anchor(AnchorFault::StateNotAWriting),
+        None,
+        None,
         "Anchor: \"s\": the bytes are no state of the preset: the file has 7056 bytes, and a state has at least 7057 under the preset minimal and 2687377 under mainnet",
     ),
     (
         Status::Anchor(AnchorFault::BlockNotAWriting),
+        None,
+        None,
         "Anchor: \"b\": the bytes are no block without its signature",
     ),
     (
         Status::Anchor(AnchorFault::EpochStart(15)),
+        None,
+        None,
         "Anchor: \"s\": the state's slot 15 is not the first of its epoch",
     ),
     (
         Status::Anchor(AnchorFault::BlockSlot(16, 17)),
+        None,
+        None,
         "Anchor: \"s\" and \"b\": the state is of slot 16, and the block of slot 17",
     ),
     (
         Status::Anchor(AnchorFault::Unsound),
+        None,
+        None,
         "Anchor: \"s\": the state is not sound",
     ),
     (
         Status::Anchor(AnchorFault::StateRoot([171; 32], [7; 32])),
+        None,
+        None,
         "Anchor: \"s\" and \"b\": the block's state root is not the state's root: by the state 0xabababababababababababababababababababababababababababababababab, by the block 0x0707070707070707070707070707070707070707070707070707070707070707",
     ),
     (
         Status::Anchor(AnchorFault::Header([1; 32], [0; 32])),
+        None,
+        None,
         "Anchor: \"s\" and \"b\": the state's latest block is another one: by the state 0x0101010101010101010101010101010101010101010101010101010101010101, by the block 0x0000000000000000000000000000000000000000000000000000000000000000",
     ),
     (
         Status::Anchor(AnchorFault::Time(18_446_744_073_709_551_615, 8)),
+        None,
+        None,
         "Anchor: \"s\": the genesis time 18446744073709551615 and the seconds up to slot 8 do not fit in 64 bits",
     ),
     (
@@ -281,6 +334,8 @@ const ANCHOR_TEXTS: &[(Status, &str)] = &[
             kind: ClashKind::ZeroState,
             kept_which: 0,
         },
+        None,
+        None,
         "Clash: \"s\": the anchor's block: the block's state root is zero",
     ),
     (
@@ -289,12 +344,14 @@ const ANCHOR_TEXTS: &[(Status, &str)] = &[
             event: 2,
             fault: RecordFault::Torn,
         },
+        None,
+        None,
         "Record: \"r\": event 2: the record ends inside the event",
     ),
 ];
 
-/// The texts of statuses of `forensic c g a b`.
-const FORENSIC_TEXTS: &[(Status, Option<Option<&str>>, Option<u64>, &str)] = &[
+/// The rows of `forensic c g a b`.
+const FORENSIC: &[Row] = &[
     (
         Status::Record {
             which: 0,
@@ -358,7 +415,7 @@ fn words_of(alloc: Global, line: &str) -> Result<Vec<String>, AllocError> {
     Ok(words)
 }
 
-/// Whether a text is that of a status with its words, cause and event.
+/// Whether an explanation says this.
 fn says(alloc: Global, explanation: &Explanation<'_, '_>, text: &str) -> bool {
     match format!(in alloc; "{explanation}") {
         Ok(said) => said.as_str() == text,
@@ -374,131 +431,62 @@ fn cause_of<'a>(cause: Option<Option<&'a str>>, error: &'a Error) -> Option<Caus
     }
 }
 
-/// Whether these texts are those of the statuses of this command, where what failed was not found.
-fn texts_hold<'a, 'b>(
+/// Whether these rows say what they have to, for this command, whose second file has so many bytes, where what failed was not found.
+fn rows_hold<'a, 'b>(
     alloc: Global,
-    texts: &'a [(Status, Option<Option<&'b str>>, Option<u64>, &'a str)],
+    rows: &'a [(Status, Option<Option<&'b str>>, Option<u64>, &'a str)],
     command: Command<'a>,
+    len: usize,
     error: &'b Error,
 ) -> bool {
     let mut all = true;
-    for (status, cause, event, text) in texts.iter() {
+    for (status, cause, event, text) in rows.iter() {
         let explanation = Explanation {
             status,
             command: Some(command),
             wrong: None,
             cause: cause_of(*cause, error),
             event: *event,
-            genesis_len: Some(7056),
+            genesis_len: Some(len),
         };
         all &= says(alloc, &explanation, text);
     }
     all
 }
 
-#[test]
-fn texts(rt: HostRuntime) -> Result<(), Fail> {
-    let words = words_of(rt.alloc(), "replay c g r")?;
+/// The same of the command that these words are.
+fn words_hold<'a>(alloc: Global, words: &'a [String], len: usize, rows: &'a [Row]) -> bool {
     let error = Error::from(ErrorKind::NotFound);
-    let command = read_command(rt.alloc(), &words)
-        .ok()
-        .expect(&rt, "a command");
-    let holds = texts_hold(rt.alloc(), TEXTS, command, &error);
-    assert!(rt; holds);
-    Ok(())
-}
-
-#[test]
-fn drill_texts(rt: HostRuntime) -> Result<(), Fail> {
-    let words = words_of(rt.alloc(), "drill 0 c")?;
-    let error = Error::from(ErrorKind::NotFound);
-    let command = read_command(rt.alloc(), &words)
-        .ok()
-        .expect(&rt, "a command");
-    let holds = texts_hold(rt.alloc(), DRILL_TEXTS, command, &error);
-    assert!(rt; holds);
-    Ok(())
-}
-
-#[test]
-fn forensic_texts(rt: HostRuntime) -> Result<(), Fail> {
-    let words = words_of(rt.alloc(), "forensic c g a b")?;
-    let error = Error::from(ErrorKind::NotFound);
-    let command = read_command(rt.alloc(), &words)
-        .ok()
-        .expect(&rt, "a command");
-    let holds = texts_hold(rt.alloc(), FORENSIC_TEXTS, command, &error);
-    assert!(rt; holds);
-    Ok(())
-}
-
-/// Whether the texts are those of the faults of the deposits of this command.
-fn deposits_texts_hold(alloc: Global, command: Command<'_>) -> bool {
-    let mut all = true;
-    for (status, len, text) in DEPOSITS_TEXTS.iter() {
-        let explanation = Explanation {
-            status,
-            command: Some(command),
-            wrong: None,
-            cause: None,
-            event: None,
-            genesis_len: Some(*len),
-        };
-        all &= says(alloc, &explanation, text);
+    match read_command(alloc, words) {
+        Ok(command) => rows_hold(alloc, rows, command, len, &error),
+        Err(_stop) => false,
     }
-    all
 }
 
-#[test]
-fn texts_of_deposits(rt: HostRuntime) -> Result<(), Fail> {
-    let words = words_of(rt.alloc(), "genesis c d")?;
-    let command = read_command(rt.alloc(), &words)
-        .ok()
-        .expect(&rt, "a command");
-    let holds = deposits_texts_hold(rt.alloc(), command);
-    assert!(rt; holds);
-    Ok(())
-}
-
-/// Whether these texts are those of the statuses of this command, where the second file has 7056 bytes.
-fn state_texts_hold<'a>(
+/// The same of a line of words.
+fn line_holds(
     alloc: Global,
-    texts: &'a [(Status, &'a str)],
-    command: Command<'a>,
-) -> bool {
-    let mut all = true;
-    for (status, text) in texts.iter() {
-        let explanation = Explanation {
-            status,
-            command: Some(command),
-            wrong: None,
-            cause: None,
-            event: None,
-            genesis_len: Some(7056),
-        };
-        all &= says(alloc, &explanation, text);
+    line: &str,
+    len: usize,
+    rows: &'static [Row],
+) -> Result<bool, AllocError> {
+    let words = words_of(alloc, line)?;
+    Ok(words_hold(alloc, &words, len, rows))
+}
+
+#[test]
+fn statuses_say_what_they_mean(rt: HostRuntime) -> Result<(), Fail> {
+    for (line, rows) in [
+        ("replay c g r", REPLAY),
+        ("drill 0 c", DRILL),
+        ("duties c s 7", DUTIES),
+        ("anchor c s b r", ANCHOR),
+        ("forensic c g a b", FORENSIC),
+    ] {
+        assert!(rt; line_holds(rt.alloc(), line, 7056, rows)?);
     }
-    all
-}
-
-#[test]
-fn texts_of_duties(rt: HostRuntime) -> Result<(), Fail> {
-    let words = words_of(rt.alloc(), "duties c s 7")?;
-    let command = read_command(rt.alloc(), &words)
-        .ok()
-        .expect(&rt, "a command");
-    let holds = state_texts_hold(rt.alloc(), DUTIES_TEXTS, command);
-    assert!(rt; holds);
-    Ok(())
-}
-
-#[test]
-fn texts_of_an_anchor(rt: HostRuntime) -> Result<(), Fail> {
-    let words = words_of(rt.alloc(), "anchor c s b r")?;
-    let command = read_command(rt.alloc(), &words)
-        .ok()
-        .expect(&rt, "a command");
-    let holds = state_texts_hold(rt.alloc(), ANCHOR_TEXTS, command);
-    assert!(rt; holds);
+    for (len, rows) in DEPOSITS.iter() {
+        assert!(rt; line_holds(rt.alloc(), "genesis c d", *len, *rows)?);
+    }
     Ok(())
 }
