@@ -13,7 +13,7 @@ use crate::weigh_justification_and_finalization::weigh;
 use balance_totals::{block_root, current_epoch, previous_epoch, total_active};
 use bc_words::Stop;
 use beacon_state::State;
-use participation::{Status, Vote, vote_balance};
+use participation::{Status, target_balances};
 use spec_epochs::Justification;
 
 /// The bits and checkpoints of a state.
@@ -84,9 +84,10 @@ pub fn process_justification(
         return Ok(());
     }
     let total = total_active(state, epoch)?;
-    let before = vote_balance(state, previous, Vote::Target)?;
-    let now = vote_balance(state, current, Vote::Target)?;
-    let weighed = weigh_of(state, total, before, now)?;
+    let balances = target_balances(state, previous, current);
+    let before = balances.previous?;
+    let latest = balances.current?;
+    let weighed = weigh_of(state, total, before, latest)?;
     set_justification(state, weighed);
     Ok(())
 }

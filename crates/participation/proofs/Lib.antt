@@ -4,6 +4,7 @@ pub mod Rights
 pub mod Flags
 pub mod Weighed
 pub mod WeighedLeft
+pub mod Sums
 pub mod Sound
 pub mod Entries
 pub mod Statuses

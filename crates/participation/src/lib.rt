@@ -11,7 +11,7 @@ mod matching;
 mod pending;
 mod table;
 
-pub use balance::vote_balance;
+pub use balance::{TargetBalances, target_balances};
 pub use get_matching_attestations::{matching_head, matching_target};
 pub use inclusions::Inclusion;
 pub use matching::Vote;
