@@ -1,7 +1,7 @@
 //! Those who begin to wait for their activation, and those who are ejected.
 //!
-//! The registry is gone through once. Where the exit queue ends, and how many leave there, is counted before and kept on the
-//! way, so that an ejection reads no other validator.
+//! The registry is walked once. Where the exit queue ends, and how many leave there, is counted before and kept on the way, so
+//! that an ejection reads no other validator, and only one who leaves is looked up.
 
 ghost use Rattle.std.specs.Prelude.{◌≡◌, ◌<◌, ◌^◌, ◌&&◌, OnOk, Some, leb, slice_get};
 ghost use Rattle.bc_words.specs.Outcome.{Becomes, GivesExactly, Moves, done};
@@ -154,35 +154,39 @@ fn is_ejected(validator: &Validator, epoch: u64, config: &Config) -> bool
 }
 
 /// The validator waits where it may, and leaves where it is ejected.
-#[tactic(auto, unfolding(spec_epochs::specs::ProcessRegistryUpdates::eligibility_and_ejection), using(crate::proofs::Exits::waited, spec_blocks::proofs::Done::item_is))]
+#[tactic(auto, unfolding(spec_epochs::specs::ProcessRegistryUpdates::eligibility_and_ejection), using(crate::proofs::Exits::waited))]
 fn eligibility_and_ejection(
     state: &mut State,
     queue: &mut ExitQueue,
     index: u64,
+    validator: &Validator,
     config: &Config,
 ) -> Result<(), Stop>
-    requires { IsExitQueue state.old config.now queue.old }
+    requires queue { IsExitQueue state.old config.now queue.old }
+    requires validator { slice_get state.old.validators index ≡ Some validator.now }
     ensures exact { Moves result state.new (eligibility_and_ejection config.now state.old index) }
     ensures queue { OnOk result (IsExitQueue state.new config.now queue.new) }
 {
-    let validator = validator_at(state, index)?;
-    let ejected = is_ejected(&validator, current_epoch(state), config);
-    wait(state, index, validator)?;
+    let ejected = is_ejected(validator, current_epoch(state), config);
+    wait(state, index, *validator)?;
     if ejected {
         initiate_exit(state, queue, index, config)?;
     }
     Ok(())
 }
 
-/// Each validator waits where it may, and leaves where it is active with too low an effective balance, in order of index.
-/// It leaves anything in the state after a stop.
-#[tactic(auto, using(crate::proofs::Passes::steps_begin, crate::proofs::Passes::step_done, crate::proofs::Passes::step_stops, crate::proofs::Passes::steps_end))]
+/// Each validator waits where it may, and leaves where it is active with too low an effective balance, in order of index. The
+/// registry is walked as it was before, which none who waits or leaves changes for those behind. It leaves anything in the state
+/// after a stop.
+#[tactic(auto, using(crate::proofs::Passes::steps_begin, balance_totals::proofs::LeftOf::first_left))]
 pub(crate) fn eligibility_and_ejections(state: &mut State, config: &Config) -> Result<(), Stop>
     ensures { Moves result state.new (each_of (eligibility_and_ejection config.now) state.old (validator_indices state.old)) }
 {
     let mut queue = exit_queue_of(state, config);
-    for index in 0..state.validators_len() {
-        eligibility_and_ejection(state, &mut queue, index, config)?;
+    let registry = state.validator_list().share()?;
+    let validators = registry.iter();
+    for (index, validator) in validators.enumerate() {
+        eligibility_and_ejection(state, &mut queue, index as u64, validator, config)?;
     }
     Ok(())
 }
