@@ -19,8 +19,8 @@ use hash_tree::Leaf;
 use std::alloc::Global;
 use std::sync::ledger::Ledger;
 
-/// From how many changes on the pairs of a layer are hashed by one call: so many are hashed side by side.
-const LANES: usize = 8;
+/// From how many changes on the pairs of a layer are hashed by one call: so many go side by side in less time than one by one.
+const SIDE_BY_SIDE: usize = 4;
 
 /// The tree of a depth whose first leaf is an item, and which has no other. A step for each level.
 fn sprout<T: Leaf + Drop, L: Ledger>(
@@ -149,7 +149,7 @@ pub(crate) fn put_all<T: Leaf + Drop, L: Ledger>(
         return layered(items, depth, alloc, steps);
     }
     let plan = plan_all(node, depth, changes, alloc)?;
-    if count < LANES {
+    if count < SIDE_BY_SIDE {
         return settle_apart(plan, alloc, steps);
     }
     settle_one(plan, depth, alloc, steps)
