@@ -4,6 +4,7 @@ ghost use Rattle.std.specs.Prelude.{◌≡◌, refl, IsTrue, ◌↔◌};
 ghost use Rattle.beacon_body.specs.Containers.{attestation_codec};
 ghost use Rattle.beacon_body.specs.laws.Containers.{attestation_lawful};
 
+use crate::attestation_roots::write_attestation_roots;
 use bc_words::NoMemory;
 use beacon_types::{AggregationBits, AttestationData};
 use hash_tree::{Leaf, Root};
@@ -51,6 +52,10 @@ impl Leaf for Attestation {
 
     fn root(&self) -> Root {
         root_of_container!(self, aggregation_bits, content, signature)
+    }
+
+    fn write_roots(attestations: &[Attestation], out: &mut [Root]) {
+        write_attestation_roots(attestations, out);
     }
 }
 

@@ -5,6 +5,7 @@
 #![tactic(auto)]
 
 mod attestation;
+mod attestation_roots;
 mod attester_slashing;
 mod block;
 mod body;

@@ -1,6 +1,7 @@
--- Layers over blocks of equal length: a layer of blocks is that of each block.
-use Rattle.std.proofs.Common.{◌≡◌, ◌∙◌, ℕ, zero, suc, ◌+◌, ◌*◌, ◌<◌, List, [], ◌∷◌, ◌++◌, length, get_or, take, map, refl, sym, ap, ap₂, arith}
+-- Layers over blocks of equal length: a layer of blocks is that of each block. From them the roots of validators.
+use Rattle.std.proofs.Common.{◌≡◌, ◌∙◌, ℕ, zero, suc, ◌+◌, ◌*◌, ◌<◌, List, [], ◌∷◌, ◌++◌, length, get_or, take, drop, map, refl, sym, ap, ap₂, arith}
 use Rattle.std.proofs.lemmas.List.{flat_map_more, take_more, map-append}
+use Rattle.std.proofs.Math.Seq.{take-add}
 use Rattle.std.specs.List.{flat_map}
 use Rattle.pair_lanes.specs.Pairs.{parents}
 use Rattle.sha2.specs.Sha256.{sha256}
@@ -47,18 +48,40 @@ root_more {V = V} root same vs i d lt so_far e =
     ∙ ap₂ (λ (xs : List (List ℕ)) (y : List ℕ). xs ++ y ∷ []) so_far e
     ∙ sym (ap (map same) (take_more vs i d lt) ∙ map-append same (take i vs) (x ∷ []))
 
-two : (a b : List ℕ) → parents (a ∷ b ∷ []) ≡ merkle_root 1 (a ∷ b ∷ []) ∷ []
+pub two : (a b : List ℕ) → parents (a ∷ b ∷ []) ≡ merkle_root 1 (a ∷ b ∷ []) ∷ []
 unfolding parents merkle_root hash
 two a b = refl
 
-eight : (a b c d e f g h : List ℕ) → parents (parents (parents (a ∷ b ∷ c ∷ d ∷ e ∷ f ∷ g ∷ h ∷ []))) ≡ merkle_root 3 (a ∷ b ∷ c ∷ d ∷ e ∷ f ∷ g ∷ h ∷ []) ∷ []
+pub eight : (a b c d e f g h : List ℕ) → parents (parents (parents (a ∷ b ∷ c ∷ d ∷ e ∷ f ∷ g ∷ h ∷ []))) ≡ merkle_root 3 (a ∷ b ∷ c ∷ d ∷ e ∷ f ∷ g ∷ h ∷ []) ∷ []
 unfolding parents merkle_root hash
 eight a b c d e f g h = refl
+
+-- one layer over blocks of two, two over blocks of four, and three over blocks of eight give the blocks' roots
+module _ {V : Type 0} (block : V → List (List ℕ)) (root : V → List ℕ) where
+  pub roots_of_two : ((v : V) → length (block v) ≡ 2) → ((v : V) → parents (block v) ≡ root v ∷ []) → (vs : List V) → parents (flat_map block vs) ≡ map root vs
+  roots_of_two long one vs = parents_of_blocks 1 block long vs ∙ single_blocks (λ v. parents (block v)) root one vs
+
+  pub roots_of_four : ((v : V) → length (block v) ≡ 4) → ((v : V) → parents (parents (block v)) ≡ root v ∷ []) → (vs : List V) → parents (parents (flat_map block vs)) ≡ map root vs
+  roots_of_four long one vs =
+      ap parents (parents_of_blocks 2 block long vs)
+      ∙ (parents_of_blocks 1 (λ v. parents (block v)) (λ v. count_parents 2 (block v) (long v)) vs
+      ∙ single_blocks (λ v. parents (parents (block v))) root one vs)
+
+  pub roots_of_eight : ((v : V) → length (block v) ≡ 8) → ((v : V) → parents (parents (parents (block v))) ≡ root v ∷ []) → (vs : List V) → parents (parents (parents (flat_map block vs))) ≡ map root vs
+  roots_of_eight long one vs =
+      ap (λ (xs : List (List ℕ)). parents (parents xs)) (parents_of_blocks 4 block long vs)
+      ∙ (ap parents (parents_of_blocks 2 (λ v. parents (block v)) (λ v. count_parents 4 (block v) (long v)) vs)
+      ∙ (parents_of_blocks 1 (λ v. parents (parents (block v))) (λ v. count_parents 2 (parents (block v)) (count_parents 4 (block v) (long v))) vs
+      ∙ single_blocks (λ v. parents (parents (parents (block v)))) root one vs))
+
+-- the roots of eight more values
+pub eight_more : {V : Type 0} (root : V → List ℕ) (i n : ℕ) (vs : List V) → n ≡ 8 * i + 8 → map root (take n vs) ≡ map root (take (8 * i) vs) ++ map root (take 8 (drop (8 * i) vs))
+eight_more root i n vs e = rw e (ap (map root) (take-add (8 * i) 8 vs) ∙ map-append root (take (8 * i) vs) (take 8 (drop (8 * i) vs)))
 
 -- the parents of all keys' chunks are the roots over them
 pub keys_of : (vs : List Validator) → parents (flat_map key_chunks vs) ≡ map root_of_chunks vs
 unfolding key_chunks root_of_chunks chunks_of
-keys_of vs = parents_of_blocks 1 key_chunks (λ v. refl) vs ∙ single_blocks (λ v. parents (key_chunks v)) root_of_chunks (λ v. two _ _) vs
+keys_of vs = roots_of_two key_chunks root_of_chunks (λ v. refl) (λ v. two _ _) vs
 
 one_root : (v : Validator) → parents (parents (parents (chunks_below v))) ≡ validator_codec.hash_tree_root v ∷ []
 unfolding chunks_below key_root merkleize depth_of depth_from
@@ -67,11 +90,7 @@ one_root v = eight _ _ _ _ _ _ _ _
 -- three layers over all validators' chunks are the validators' roots
 pub roots_of : (vs : List Validator) → parents (parents (parents (flat_map chunks_below vs))) ≡ map validator_codec.hash_tree_root vs
 unfolding chunks_below
-roots_of vs =
-    ap (λ (xs : List (List ℕ)). parents (parents xs)) (parents_of_blocks 4 chunks_below (λ v. refl) vs)
-    ∙ (ap parents (parents_of_blocks 2 (λ v. parents (chunks_below v)) (λ v. count_parents 4 (chunks_below v) refl) vs)
-    ∙ (parents_of_blocks 1 (λ v. parents (parents (chunks_below v))) (λ v. count_parents 2 (parents (chunks_below v)) (count_parents 4 (chunks_below v) refl)) vs
-    ∙ single_blocks (λ v. parents (parents (parents (chunks_below v)))) validator_codec.hash_tree_root one_root vs))
+roots_of vs = roots_of_eight chunks_below validator_codec.hash_tree_root (λ v. refl) one_root vs
 
 -- the root over the chunks of a key of 48 bytes is its root
 pub root_of_key : (v : Validator) → length v.pubkey ≡ 48 → root_of_chunks v ≡ key_root v

@@ -1,2 +1,3 @@
+pub mod AttestationLanes
 pub mod Equality
 pub mod Lanes

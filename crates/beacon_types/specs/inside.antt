@@ -1,1 +1,2 @@
+pub mod AttestationChunks
 pub mod ValidatorChunks

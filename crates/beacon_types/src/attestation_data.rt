@@ -5,6 +5,7 @@ ghost use Rattle.beacon_types.specs.Containers.{attestation_data_codec};
 ghost use Rattle.beacon_types.specs.laws.Containers.{attestation_data_lawful, attestation_data_fixed};
 
 use crate::checkpoint::Checkpoint;
+use crate::data_roots::write_data_roots;
 use bc_words::NoMemory;
 use hash_tree::{Leaf, Root};
 use ssz_codec::{
@@ -32,6 +33,10 @@ impl Leaf for AttestationData {
 
     fn root(&self) -> Root {
         root_of_container!(self, slot, index, beacon_block_root, source, target)
+    }
+
+    fn write_roots(votes: &[AttestationData], out: &mut [Root]) {
+        write_data_roots(votes, out);
     }
 }
 

@@ -6,6 +6,7 @@
 mod attestation_data;
 mod block_header;
 mod checkpoint;
+mod data_roots;
 mod deposit;
 mod deposit_data;
 mod eth1_data;
@@ -13,6 +14,7 @@ mod fork;
 mod indexed_attestation;
 mod limits;
 mod pending_attestation;
+mod pending_roots;
 mod signed_exit;
 mod signed_header;
 mod slashable;

@@ -7,6 +7,7 @@ ghost use Rattle.beacon_types.specs.laws.Containers.{aggregation_bits_lawful, pe
 
 use crate::attestation_data::AttestationData;
 use crate::limits::MAX_VALIDATORS_PER_COMMITTEE;
+use crate::pending_roots::write_pending_roots;
 use bc_words::NoMemory;
 use hash_tree::{Leaf, Root};
 use ssz_codec::{
@@ -169,6 +170,10 @@ impl Leaf for PendingAttestation {
             inclusion_delay,
             proposer_index
         )
+    }
+
+    fn write_roots(attestations: &[PendingAttestation], out: &mut [Root]) {
+        write_pending_roots(attestations, out);
     }
 }
 

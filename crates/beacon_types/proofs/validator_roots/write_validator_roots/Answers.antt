@@ -1,15 +1,9 @@
 -- Eight roots more.
 use Rattle.std.proofs.Common.{rules, ◌≡◌, ◌∙◌, ◌+◌, ◌-◌, ◌*◌, List, ℕ, ◌++◌, length, take, drop, map, sym, ap, ap₂, arith}
-use Rattle.std.proofs.lemmas.List.{map-append}
 use Rattle.std.proofs.lemmas.Slice.{take-put_mid, overwrites}
-use Rattle.std.proofs.Math.Seq.{take-add}
-use Rattle.beacon_types.specs.declared.validator.Validator.{Validator}
 use Rattle.beacon_types.specs.Containers.{validator_codec}
+use Rattle.beacon_types.proofs.Lanes.{eight_more}
 use Rattle.beacon_types.proofs.validator_roots.write_validator_roots.Goals as goal
-
--- the roots of eight more
-eight_more : (i n : ℕ) (vs : List Validator) → n ≡ 8 * i + 8 → map validator_codec.hash_tree_root (take n vs) ≡ map validator_codec.hash_tree_root (take (8 * i) vs) ++ map validator_codec.hash_tree_root (take 8 (drop (8 * i) vs))
-eight_more i n vs e = rw e (ap (map validator_codec.hash_tree_root) (take-add (8 * i) 8 vs) ∙ map-append validator_codec.hash_tree_root (take (8 * i) vs) (take 8 (drop (8 * i) vs)))
 
 pub eights-preserved : goal.eights-preserved
 eights-preserved c =
@@ -22,5 +16,5 @@ eights-preserved c =
           take-put_mid (8 * i) (8 * i + 8 - 8 * i) c.eights.out c.write_eight.new.out (8 * (i + 1)) (omega arith) (omega (arith, c.eights.invariant.room))
           ∙ (ap₂ (λ (xs ys : List (List ℕ)). xs ++ ys) c.eights.invariant.so_far
           (c.write_eight.ensures ∙ ap (λ (k : ℕ). map validator_codec.hash_tree_root (take k (drop (8 * i) c.args.validators.now))) eight)
-          ∙ sym (eight_more i (8 * (i + 1)) c.args.validators.now (omega arith)));
+          ∙ sym (eight_more validator_codec.hash_tree_root i (8 * (i + 1)) c.args.validators.now (omega arith)));
     }
