@@ -9,6 +9,7 @@ use Rattle.spec_state.specs.declared.plain.PlainState.{PlainState}
 use Rattle.spec_state.specs.Predicates.{is_active_validator}
 use Rattle.spec_state.specs.Misc.{effective_balance}
 use Rattle.spec_state.specs.Accessors.{indices_from, get_active_validator_indices}
+use Rattle.active_sets.specs.inside.Active.{balance_in}
 
 -- ---- the indices of those who pass a test
 
@@ -133,6 +134,11 @@ module _ (epoch : ℕ) where
   pub sum_ends : (sum : ℕ) → sum_left epoch sum [] ≡ done sum
   unfolding sum_left
   sum_ends sum = sum_of_nothing (λ w. w.effective_balance) sum
+
+  -- the sum that a state notes of them is that sum
+  pub noted : (state : PlainState) → balance_in state.validators epoch ≡ checked_sum_by (effective_balance state.validators) (get_active_validator_indices state epoch)
+  unfolding balance_in sum_left checked_sum_by
+  noted state = sum_begins state
 
 -- what the loops over the registry need: of the list, of the count, and of the sum
 pub ruleset listing = (list_begins, list_grows, list_stays, list_ends)

@@ -1,4 +1,6 @@
 //! The list of active validators, and the total balance of a set.
+//!
+//! What a state keeps of the active validators is read there. Where it keeps nothing, they are found by a walk over the registry.
 
 ghost use Rattle.std.specs.Prelude.{◌≡◌, ◌<◌, ◌≤◌, ◌^◌, ℕ, length, max, slice_index, IfOk};
 ghost use Rattle.bc_words.specs.Outcome.{GivesExactly, checked_add, checked_sum_by};
@@ -6,16 +8,16 @@ ghost use Rattle.committees.specs.Committees.{IsWithoutRepeats};
 ghost use Rattle.spec_state.specs.Misc.{effective_balance};
 ghost use Rattle.spec_state.specs.Accessors.{get_active_validator_indices, get_total_balance};
 
-use crate::validators::{effective_at, is_active_validator};
+use crate::validators::effective_at;
+use active_sets::is_active_validator;
 use bc_words::{NoMemory, Stop, checked_add};
 use beacon_state::State;
 use committees::Lookup;
 use std::alloc::Global;
 
-/// The indices of the validators that are active at the epoch, in order (beacon-chain.md,
-/// `get_active_validator_indices`).
+/// The indices of the validators that are active at the epoch, in order, from a walk over the registry.
 #[tactic(auto, using(crate::proofs::ActiveLeft::listing))]
-pub fn active(alloc: Global, state: &State, epoch: u64) -> Result<Vec<u64>, NoMemory>
+fn listed(alloc: Global, state: &State, epoch: u64) -> Result<Vec<u64>, NoMemory>
     ensures { IfOk result (λ indices. indices.items ≡ get_active_validator_indices state.now epoch) }
 {
     let mut indices = Vec::new(alloc);
@@ -28,9 +30,32 @@ pub fn active(alloc: Global, state: &State, epoch: u64) -> Result<Vec<u64>, NoMe
     Ok(indices)
 }
 
-/// How many validators are active at the epoch: as many as the list of `get_active_validator_indices` has.
+/// The indices of the validators that are active at the epoch, in order (beacon-chain.md,
+/// `get_active_validator_indices`).
+pub fn active(alloc: Global, state: &State, epoch: u64) -> Result<Vec<u64>, NoMemory>
+    ensures { IfOk result (λ indices. indices.items ≡ get_active_validator_indices state.now epoch) }
+{
+    match state.active_list(epoch) {
+        Some(kept) => Ok(Vec::from_slice(alloc, kept)?),
+        None => listed(alloc, state, epoch),
+    }
+}
+
+/// The state keeps the indices of the validators that are active at the epoch, and goes on with those that it has. Where memory is
+/// refused nothing changes.
+pub fn keep_active(alloc: Global, state: &mut State, epoch: u64) -> Result<(), NoMemory>
+    ensures { state.new ≡ state.old }
+{
+    if state.active_list(epoch).is_some() {
+        return Ok(());
+    }
+    let indices = listed(alloc, state, epoch)?;
+    state.keep_active_list(alloc, epoch, indices)
+}
+
+/// How many validators are active at the epoch, counted in a walk over the registry.
 #[tactic(auto, using(crate::proofs::ActiveLeft::counting))]
-pub fn count_active(state: &State, epoch: u64) -> u64
+fn counted(state: &State, epoch: u64) -> u64
     ensures { result ≡ length (get_active_validator_indices state.now epoch) }
 {
     active_are_indices(state, epoch);
@@ -41,6 +66,16 @@ pub fn count_active(state: &State, epoch: u64) -> u64
         }
     }
     count
+}
+
+/// How many validators are active at the epoch: as many as the list of `get_active_validator_indices` has.
+pub fn count_active(state: &State, epoch: u64) -> u64
+    ensures { result ≡ length (get_active_validator_indices state.now epoch) }
+{
+    match state.active_list(epoch) {
+        Some(kept) => kept.len() as u64,
+        None => counted(state, epoch),
+    }
 }
 
 /// The law that the active validators of an epoch are at most 2^40 indices of the registry, none twice. It does nothing
@@ -90,9 +125,9 @@ pub fn total_of(state: &State, indices: &[u64]) -> Result<u64, Stop>
     Ok(total_by(state, sum))
 }
 
-/// The sum of the effective balances of the validators that are active at the epoch, in Gwei.
+/// The sum of the effective balances of the validators that are active at the epoch, in Gwei, from a walk over the registry.
 #[tactic(auto, using(crate::proofs::ActiveLeft::summing))]
-fn sum_active(state: &State, epoch: u64) -> Result<u64, Stop>
+fn summed(state: &State, epoch: u64) -> Result<u64, Stop>
     ensures { GivesExactly result (checked_sum_by (effective_balance state.now.validators) (get_active_validator_indices state.now epoch)) }
 {
     let mut sum = 0;
@@ -102,6 +137,28 @@ fn sum_active(state: &State, epoch: u64) -> Result<u64, Stop>
         }
     }
     Ok(sum)
+}
+
+/// The sum of the effective balances of the validators that are active at the epoch, in Gwei.
+#[tactic(auto, using(crate::proofs::ActiveLeft::noted))]
+fn sum_active(state: &State, epoch: u64) -> Result<u64, Stop>
+    ensures { GivesExactly result (checked_sum_by (effective_balance state.now.validators) (get_active_validator_indices state.now epoch)) }
+{
+    match state.active_balance(epoch) {
+        Some(sum) => Ok(sum),
+        None => summed(state, epoch),
+    }
+}
+
+/// The state keeps the sum of the effective balances of the validators that are active at the epoch, where it keeps their list and
+/// the sum fits.
+#[tactic(auto, using(crate::proofs::ActiveLeft::noted))]
+pub fn note_total(state: &mut State, epoch: u64)
+    ensures { state.new ≡ state.old }
+{
+    if let Ok(sum) = sum_active(state, epoch) {
+        state.note_active_balance(epoch, sum);
+    }
 }
 
 /// The total effective balance of the validators that are active at the epoch, in Gwei (beacon-chain.md,

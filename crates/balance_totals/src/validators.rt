@@ -3,20 +3,11 @@
 ghost use Rattle.std.specs.Prelude.{◌≡◌, ◌<◌, length, IfOk};
 ghost use Rattle.bc_words.specs.Outcome.{GivesExactly};
 ghost use Rattle.spec_blocks.specs.Checks.{item_at};
-ghost use Rattle.spec_state.specs.Predicates.{is_active_validator};
 ghost use Rattle.spec_state.specs.Misc.{effective_balance};
 
 use bc_words::{Refusal, Stop};
 use beacon_state::State;
 use beacon_types::Validator;
-
-/// Whether the validator is active at the epoch (beacon-chain.md, `is_active_validator`).
-#[tactic(auto, unfolding(spec_state::specs::Predicates::is_active_validator))]
-pub fn is_active_validator(validator: &Validator, epoch: u64) -> bool
-    ensures { result ≡ is_active_validator validator.now epoch }
-{
-    validator.activation_epoch <= epoch && epoch < validator.exit_epoch
-}
 
 /// The effective balance of the validator with an index, in Gwei, or 0 where there is none.
 pub(crate) fn effective_at(state: &State, index: u64) -> u64

@@ -1,3 +1,4 @@
-pub mod Unread
-pub mod FirstFault
 pub mod Balances
+pub mod FirstFault
+pub mod Followed
+pub mod Unread

@@ -5,13 +5,16 @@
 
 ghost use Rattle.std.specs.Prelude.{◌≡◌, IfOk};
 ghost use Rattle.spec_state.specs.Limits.{IsState, IsInRange};
-ghost use Rattle.beacon_state.specs.inside.Plain.{HasRoots, HasRegistry, HasPending};
+ghost use Rattle.beacon_state.specs.inside.Plain.{HasRoots, HasRegistry, HasPending, HasKept};
 
 mod getters;
+mod kept;
 mod lists;
+mod registry;
 mod setters;
 mod whole;
 
+use active_sets::{ActiveLists, KeptCommittees};
 use bc_preset::Preset;
 use bc_words::NoMemory;
 use beacon_types::{BeaconBlockHeader, Checkpoint, Eth1Data, Fork, PendingAttestation, Validator};
@@ -48,6 +51,9 @@ pub struct State {
     finalized_checkpoint: Rooted<Checkpoint>,
     // The root, where it was kept and nothing changed since.
     kept_root: Option<Root>,
+    // The active validators of epochs and their committees, where they were kept. Those who share the state share them.
+    active_lists: ActiveLists,
+    kept_committees: KeptCommittees,
 }
 
 // Written by hand, so that a call that lets a state go is one call, and not one for each of its lists.
@@ -77,6 +83,8 @@ impl Drop for State {
             current_justified_checkpoint,
             finalized_checkpoint,
             kept_root: _,
+            active_lists,
+            kept_committees,
         } = self;
         drop(fork);
         drop(block_roots);
@@ -93,6 +101,8 @@ impl Drop for State {
         drop(previous_justified_checkpoint);
         drop(current_justified_checkpoint);
         drop(finalized_checkpoint);
+        drop(active_lists);
+        drop(kept_committees);
     }
 }
 
@@ -155,6 +165,7 @@ impl State {
         let (historical_roots, eth1_data_votes) = lists;
         let (validators, balances, slashings) = registry;
         let (previous_epoch_attestations, current_epoch_attestations) = pending;
+        let kept_committees = KeptCommittees::none(&preset);
         Ok(State {
             preset,
             genesis_time,
@@ -179,18 +190,22 @@ impl State {
             current_justified_checkpoint: Rooted::new(current_justified_checkpoint),
             finalized_checkpoint: Rooted::new(finalized_checkpoint),
             kept_root: None,
+            active_lists: ActiveLists::none(),
+            kept_committees,
         })
     }
 
-    /// An equal state, whose lists stand in the same nodes. A root that is kept is kept there too.
+    /// An equal state, whose lists stand in the same nodes. What is kept is kept there too.
     pub fn share(&self) -> Result<State, NoMemory>
         ensures { IfOk result (λ state. state ≡ self.now) }
     {
         let lists = both(self.share_roots(), self.share_registry());
-        let ((roots, registry), pending) = both(lists, self.share_pending())?;
+        let others = both(self.share_pending(), self.share_kept());
+        let ((roots, registry), (pending, kept)) = both(lists, others)?;
         let (((block_roots, state_roots), historical_roots), randao_mixes) = roots;
         let ((validators, balances), slashings) = registry;
         let ((eth1_data_votes, previous_epoch_attestations), current_epoch_attestations) = pending;
+        let (active_lists, kept_committees) = kept;
         let genesis_validators_root = self.genesis_validators_root;
         let justification_bits = self.justification_bits;
         Ok(State {
@@ -217,6 +232,8 @@ impl State {
             current_justified_checkpoint: self.current_justified_checkpoint.again(),
             finalized_checkpoint: self.finalized_checkpoint.again(),
             kept_root: self.kept_root,
+            active_lists,
+            kept_committees,
         })
     }
 
@@ -256,6 +273,13 @@ impl State {
             self.previous_epoch_attestations.share(),
         );
         both(pending, self.current_epoch_attestations.share())
+    }
+
+    /// The lists of active validators and the committees that are kept, once more.
+    fn share_kept(&self) -> Result<(ActiveLists, KeptCommittees), NoMemory>
+        ensures { IfOk result (HasKept self.now) }
+    {
+        both(self.active_lists.share(), self.kept_committees.share())
     }
 
     /// The state is within the limits of its preset. It does nothing when it runs.

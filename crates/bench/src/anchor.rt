@@ -34,7 +34,10 @@ fn genesis_store(alloc: Global, config: &Config, state: State) -> Result<Store>
     if genesis_check(&state).is_err() {
         bail!("it isn't a genesis state");
     }
-    Ok(Store::new(alloc, config, state)?)
+    match Store::new(alloc, config, state) {
+        Ok(store) => Ok(store),
+        Err(fault) => Err(fault.into()),
+    }
 }
 
 /// The store at an anchor.
@@ -42,7 +45,10 @@ fn anchor_store(alloc: Global, config: &Config, state: State, block: BeaconBlock
     requires preset { state.preset ≡ config.now.preset }
 {
     match anchor_check(alloc, config, &state, &block) {
-        Ok(()) => Ok(Store::new_at(alloc, config, state, block)?),
+        Ok(()) => match Store::new_at(alloc, config, state, block) {
+            Ok(store) => Ok(store),
+            Err(fault) => Err(fault.into()),
+        },
         Err(_) => bail!("it isn't an anchor"),
     }
 }
@@ -116,14 +122,8 @@ fn block_of(alloc: Global, config: &Config, state: &[u8]) -> Result<Vec<u8>> {
     }
 }
 
-/// Opens both, and prints what they took.
-pub fn measure(rt: &(impl AllocGlobal + Print + CpuClock + Files)) -> Result<()> {
-    let alloc = rt.alloc();
-    let config = Config::read(CONFIG)?;
-    let state = state_bytes(alloc, Layout::mainnet(), &Shape::at_genesis(MOST))?;
-    let block = block_of(alloc, &config, &state)?;
-    let genesis = time_opening(rt, &config, &state, None)?;
-    let anchor = time_opening(rt, &config, &state, Some(&block))?;
+/// Prints what both took.
+fn tell(rt: &impl Print, genesis: Opened, anchor: Opened) -> Result<()> {
     let numbers = [
         (
             "bytes of memory with a store at a genesis of 262144 validators",
@@ -141,4 +141,25 @@ pub fn measure(rt: &(impl AllocGlobal + Print + CpuClock + Files)) -> Result<()>
         anchor.time,
         genesis.time,
     )
+}
+
+/// Opens both, and prints what they took.
+fn measure_bytes(
+    rt: &(impl AllocGlobal + Print + CpuClock + Files),
+    config: &Config,
+    state: &[u8],
+    block: &[u8],
+) -> Result<()> {
+    let genesis = time_opening(rt, config, state, None)?;
+    let anchor = time_opening(rt, config, state, Some(block))?;
+    tell(rt, genesis, anchor)
+}
+
+/// Makes the bytes of the state and of its block, and measures.
+pub fn measure(rt: &(impl AllocGlobal + Print + CpuClock + Files)) -> Result<()> {
+    let alloc = rt.alloc();
+    let config = Config::read(CONFIG)?;
+    let state = state_bytes(alloc, Layout::mainnet(), &Shape::at_genesis(MOST))?;
+    let block = block_of(alloc, &config, &state)?;
+    measure_bytes(rt, &config, &state, &block)
 }

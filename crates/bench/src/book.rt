@@ -1,6 +1,8 @@
 //! A book over 256 slots of mainnet, each of which has a block with the votes of all committees: what adding the blocks takes against
 //! their state transitions, what the offences take against a pass over all votes, and the memory of a vote.
 
+ghost use Rattle.std.specs.Prelude.{◌≡◌};
+
 use crate::chain::{Event, Shape, chain};
 use crate::genesis::{Genesis, Network, read_genesis};
 use crate::memory::resident;
@@ -111,17 +113,19 @@ impl Votes {
     }
 }
 
-/// Adds a block with its step, and times it.
-fn add(
+/// Adds a block with its step from the chain's end, and times it.
+fn add_on(
     rt: &(impl AllocGlobal + CpuClock),
     book: &mut ChainBook,
+    genesis: &State,
     event: u32,
     block: &SignedBeaconBlock,
     times: &mut Times,
-) -> Result<()> {
+) -> Result<()>
+    requires { genesis.now ≡ book.old.book.genesis }
+{
     let alloc = rt.alloc();
-    let genesis = book.genesis()?;
-    let mut watch = Watch::new(&genesis);
+    let mut watch = Watch::new(genesis);
     let begin = now(rt);
     match book.step(alloc, block, &mut watch) {
         Ok(state) => {
@@ -131,6 +135,20 @@ fn add(
             times.adds = times.adds.plus(time_since(rt, begin));
             Ok(())
         }
+        Err(stop) => Err(stop.into()),
+    }
+}
+
+/// The same with the book's genesis.
+fn add(
+    rt: &(impl AllocGlobal + CpuClock),
+    book: &mut ChainBook,
+    event: u32,
+    block: &SignedBeaconBlock,
+    times: &mut Times,
+) -> Result<()> {
+    match book.genesis() {
+        Ok(genesis) => add_on(rt, book, &genesis, event, block, times),
         Err(stop) => Err(stop.into()),
     }
 }
@@ -181,19 +199,34 @@ fn fill(
 }
 
 /// Gathers the votes of a block by the state behind it, and goes on from there.
+fn gather_on(
+    alloc: Global,
+    book: &mut ChainBook,
+    genesis: &State,
+    block: &SignedBeaconBlock,
+    votes: &mut Votes,
+) -> Result<()>
+    requires { genesis.now ≡ book.old.book.genesis }
+{
+    let mut watch = Watch::new(genesis);
+    match book.step(alloc, block, &mut watch) {
+        Ok(state) => {
+            votes.add(alloc, &state, block.message.body.attestations.as_slice())?;
+            Ok(book.add(alloc, 0, block, state, &watch)?)
+        }
+        Err(stop) => Err(stop.into()),
+    }
+}
+
+/// The same with the book's genesis.
 fn gather_block(
     alloc: Global,
     book: &mut ChainBook,
     block: &SignedBeaconBlock,
     votes: &mut Votes,
 ) -> Result<()> {
-    let genesis = book.genesis()?;
-    let mut watch = Watch::new(&genesis);
-    match book.step(alloc, block, &mut watch) {
-        Ok(state) => {
-            votes.add(alloc, &state, block.message.body.attestations.as_slice())?;
-            Ok(book.add(alloc, 0, block, state, &watch)?)
-        }
+    match book.genesis() {
+        Ok(genesis) => gather_on(alloc, book, &genesis, block, votes),
         Err(stop) => Err(stop.into()),
     }
 }
@@ -211,18 +244,41 @@ fn gather_written(
     }
 }
 
+/// Gathers the votes of the blocks among these events.
+fn gather_all(
+    alloc: Global,
+    book: &mut ChainBook,
+    events: &[Event],
+    votes: &mut Votes,
+) -> Result<()> {
+    for event in events {
+        if event.kind == 2 {
+            gather_written(alloc, book, &event.payload, votes)?;
+        }
+    }
+    Ok(())
+}
+
+/// The same with a book of its own.
+fn gather_from(
+    alloc: Global,
+    genesis: &Genesis,
+    events: &[Event],
+    votes: &mut Votes,
+) -> Result<()> {
+    match ChainBook::new(alloc, &genesis.state, &genesis.config) {
+        Ok(mut book) => gather_all(alloc, &mut book, events, votes),
+        Err(stop) => Err(stop.into()),
+    }
+}
+
 /// The votes of the blocks among these events.
 fn gather(alloc: Global, genesis: &Genesis, events: &[Event]) -> Result<Votes> {
-    let mut book = ChainBook::new(alloc, &genesis.state, &genesis.config)?;
     let mut votes = Votes {
         contents: Vec::new(alloc),
         attesters: Vec::new(alloc),
     };
-    for event in events {
-        if event.kind == 2 {
-            gather_written(alloc, &mut book, &event.payload, &mut votes)?;
-        }
-    }
+    gather_from(alloc, genesis, events, &mut votes)?;
     Ok(votes)
 }
 
@@ -290,6 +346,18 @@ fn measure_book(
     measure_offences(rt, book, &votes)
 }
 
+/// Measures a book over these events.
+fn measure_events(
+    rt: &(impl AllocGlobal + Print + CpuClock + Files),
+    genesis: &Genesis,
+    events: &[Event],
+) -> Result<()> {
+    match ChainBook::new(rt.alloc(), &genesis.state, &genesis.config) {
+        Ok(mut book) => measure_book(rt, &mut book, genesis, events),
+        Err(stop) => Err(stop.into()),
+    }
+}
+
 /// Makes the chain, and measures a book over it.
 fn measure_from(
     rt: &(impl AllocGlobal + Print + CpuClock + Files),
@@ -300,9 +368,10 @@ fn measure_from(
         votes: 1,
         graffiti: 0,
     };
-    let told = chain(rt.alloc(), genesis, SLOTS, shape)?;
-    let mut book = ChainBook::new(rt.alloc(), &genesis.state, &genesis.config)?;
-    measure_book(rt, &mut book, genesis, &told.events)
+    match chain(rt.alloc(), genesis, SLOTS, shape) {
+        Ok(told) => measure_events(rt, genesis, &told.events),
+        Err(error) => Err(error),
+    }
 }
 
 /// Measures a book over 256 slots of mainnet with 16,384 validators.

@@ -258,6 +258,20 @@ pub struct Told {
     pub pairs: Pairs,
 }
 
+impl Told {
+    /// The record of its events.
+    pub fn record(&self, alloc: Global) -> Result<Vec<u8>> {
+        let mut record = Vec::from_slice(alloc, b"BCR1")?;
+        for event in &self.events {
+            let length = u32::try_from(event.payload.len())?;
+            record.push(event.kind)?;
+            record.extend_from_slice(&length.to_le_bytes())?;
+            record.extend_from_slice(&event.payload)?;
+        }
+        Ok(record)
+    }
+}
+
 /// Tells the block with this writing of no state root yet, takes the state through it, and tells its votes again.
 fn tell_written(
     alloc: Global,
@@ -398,11 +412,24 @@ fn advance_all(
 
 /// What a chain of so many slots behind genesis tells.
 pub fn chain(alloc: Global, genesis: &Genesis, slots: u64, shape: Shape) -> Result<Told> {
-    let mut state = genesis.state.share()?;
     let mut told = Told {
         events: Vec::new(alloc),
         pairs: Pairs::none(),
     };
-    advance_all(alloc, &mut state, &genesis.config, slots, shape, &mut told)?;
+    advance_share(alloc, genesis, slots, shape, &mut told)?;
     Ok(told)
+}
+
+/// Takes a share of the genesis state through so many slots, and tells the events of each.
+fn advance_share(
+    alloc: Global,
+    genesis: &Genesis,
+    slots: u64,
+    shape: Shape,
+    told: &mut Told,
+) -> Result<()> {
+    match genesis.state.share() {
+        Ok(mut state) => advance_all(alloc, &mut state, &genesis.config, slots, shape, told),
+        Err(refused) => Err(refused.into()),
+    }
 }

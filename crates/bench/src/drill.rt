@@ -159,10 +159,28 @@ fn measure_chain(
     requires preset { genesis.now.state.preset ≡ genesis.now.config.preset }
 {
     let begin = now(rt);
-    let mut maker = maker_of(rt.alloc(), &genesis.config)?;
-    let events = make_slots(rt.alloc(), &mut maker, u64::MAX)?;
-    let made = time_since(rt, begin);
-    let times = run_store(rt, genesis, &events)?;
+    let events = made_events(rt.alloc(), &genesis.config)?;
+    measure_events(rt, genesis, &events, time_since(rt, begin))
+}
+
+/// All events of the chain.
+fn made_events(alloc: Global, config: &Config) -> Result<Vec<Event>> {
+    match maker_of(alloc, config) {
+        Ok(mut maker) => make_slots(alloc, &mut maker, u64::MAX),
+        Err(error) => Err(error),
+    }
+}
+
+/// The same of these events, which were made in this time.
+fn measure_events(
+    rt: &(impl AllocGlobal + Print + CpuClock + Files),
+    genesis: &Genesis,
+    events: &[Event],
+    made: Time,
+) -> Result<()>
+    requires preset { genesis.now.state.preset ≡ genesis.now.config.preset }
+{
+    let times = run_store(rt, genesis, events)?;
     times.tell(rt, events.len())?;
     tell_time(rt, "making the events", made)?;
     let begin = now(rt);
@@ -192,15 +210,15 @@ fn take_quarter(
 }
 
 /// Takes a chain by quarters, and prints what the last took against the first.
-fn measure_quarters(rt: &(impl AllocGlobal + Print + CpuClock), genesis: &Genesis) -> Result<()>
-    requires preset { genesis.now.state.preset ≡ genesis.now.config.preset }
-{
-    let mut maker = maker_of(rt.alloc(), &genesis.config)?;
-    let mut store = store_at(rt.alloc(), genesis)?;
-    let first = take_quarter(rt, &mut maker, &mut store)?;
-    let second = take_quarter(rt, &mut maker, &mut store)?;
-    let third = take_quarter(rt, &mut maker, &mut store)?;
-    let last = take_quarter(rt, &mut maker, &mut store)?;
+fn take_quarters(
+    rt: &(impl AllocGlobal + Print + CpuClock),
+    maker: &mut Maker,
+    store: &mut Store,
+) -> Result<()> {
+    let first = take_quarter(rt, maker, store)?;
+    let second = take_quarter(rt, maker, store)?;
+    let third = take_quarter(rt, maker, store)?;
+    let last = take_quarter(rt, maker, store)?;
     tell_time(
         rt,
         "1,024 made slots of mainnet",
@@ -212,6 +230,17 @@ fn measure_quarters(rt: &(impl AllocGlobal + Print + CpuClock), genesis: &Genesi
         last,
         first,
     )
+}
+
+/// Makes a chain, and takes it by quarters.
+fn measure_quarters(rt: &(impl AllocGlobal + Print + CpuClock), genesis: &Genesis) -> Result<()>
+    requires preset { genesis.now.state.preset ≡ genesis.now.config.preset }
+{
+    let mut maker = maker_of(rt.alloc(), &genesis.config)?;
+    match store_at(rt.alloc(), genesis) {
+        Ok(mut store) => take_quarters(rt, &mut maker, &mut store),
+        Err(error) => Err(error),
+    }
 }
 
 /// Measures a chain of the minimal preset.

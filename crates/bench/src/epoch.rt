@@ -1,5 +1,5 @@
-//! The parts of an epoch's end on a state whose validators all attested, without roots: on 16,384 validators against
-//! passes of reading registry and balances, and against 4,096 validators.
+//! The parts of an epoch's end on a state whose validators all attested, without roots: on 262,144 validators against
+//! passes of reading registry and balances, and against 16,384 validators.
 
 ghost use Rattle.std.specs.Prelude.{◌≡◌, ◌≤◌, ◌^◌};
 ghost use Rattle.spec_state.specs.Accessors.{get_current_epoch, get_previous_epoch};
@@ -22,12 +22,13 @@ use epoch_close::process_slashings::process_slashings;
 use epoch_close::process_slashings_reset::process_slashings_reset;
 use epoch_rewards::process_rewards;
 use justification::process_justification;
+use participation::{current_statuses, previous_statuses};
 use std::alloc::Global;
 use std::time::CpuClock;
-use transition::{is_sound, is_sound_within_epoch};
+use transition::{is_sound, is_sound_within_epoch, sound_within_epoch};
 
 /// How often the registry is read.
-const PASSES: u32 = 100;
+const PASSES: u32 = 20;
 
 /// What was timed on a state.
 #[derive(Clone, Copy)]
@@ -40,8 +41,8 @@ struct Times {
     committees: Time,
     /// How many committees a slot of either epoch has, joined.
     per_slot: u64,
-    /// The parts of the epoch's end.
-    justification: Time,
+    /// The parts of the epoch's end, and the tables that the first two read.
+    justified: Justified,
     rewards: Time,
     closing: Closing,
 }
@@ -59,7 +60,9 @@ impl Times {
     /// All parts of the epoch's end but the committees.
     fn passes(&self) -> Time {
         let closing = self.closing;
-        self.justification
+        self.justified
+            .tables
+            .plus(self.justified.justification)
             .plus(self.rewards)
             .plus(closing.slashings)
             .plus(closing.effective_balances)
@@ -72,20 +75,14 @@ impl Times {
     }
 }
 
-/// Reads a validator and its balance.
-fn read_one(state: &State, index: u64) -> u64 {
-    let effective = match state.validators_at(index) {
-        Some(validator) => validator.effective_balance,
-        None => 0,
-    };
-    effective ^ state.balances_at(index).unwrap_or(0)
-}
-
-/// Reads every validator and balance once, joined so that none is left out.
+/// Reads every validator and balance once, in order, joined so that none is left out.
 fn read_all(state: &State) -> u64 {
-    let mut joined = 0;
-    for index in 0..state.validators_len() {
-        joined ^= read_one(state, index).wrapping_add(index);
+    let mut joined = 0u64;
+    for validator in state.validator_list().iter() {
+        joined = joined.wrapping_add(validator.effective_balance ^ validator.exit_epoch);
+    }
+    for balance in state.balance_list().iter() {
+        joined = joined.wrapping_add(balance);
     }
     joined
 }
@@ -121,24 +118,39 @@ fn time_committees(
     Ok((time_since(rt, begin), previous ^ current))
 }
 
-/// The time of justification with these committees.
+/// The times of the tables of both epochs, with these committees, and of justification by them.
+#[derive(Clone, Copy)]
+struct Justified {
+    tables: Time,
+    justification: Time,
+}
+
+/// The times of both tables, with these committees, and of justification.
 fn time_justified(
     rt: &(impl AllocGlobal + CpuClock),
     state: &mut State,
     previous: &EpochCommittees,
     current: &EpochCommittees,
-) -> Result<Time, Stop>
+) -> Result<Justified, Stop>
     requires sound { IsSound state.old }
     requires previous { previous.now ≡ epoch_committees state.old (get_previous_epoch state.old) }
     requires current { current.now ≡ epoch_committees state.old (get_current_epoch state.old) }
 {
+    sound_within_epoch();
     let begin = now(rt);
-    process_justification(rt.alloc(), state, previous, current)?;
-    Ok(time_since(rt, begin))
+    let before = previous_statuses(rt.alloc(), state, previous)?;
+    let latest = current_statuses(rt.alloc(), state, current)?;
+    let tables = time_since(rt, begin);
+    let begin = now(rt);
+    process_justification(state, &before, &latest)?;
+    Ok(Justified {
+        tables,
+        justification: time_since(rt, begin),
+    })
 }
 
-/// The time of justification on a sound state.
-fn time_sound(rt: &(impl AllocGlobal + CpuClock), state: &mut State) -> Result<Time, Stop>
+/// The times of both tables and of justification on a sound state.
+fn time_sound(rt: &(impl AllocGlobal + CpuClock), state: &mut State) -> Result<Justified, Stop>
     requires { IsSound state.old }
 {
     let previous = committees_of_epoch(rt.alloc(), state, previous_epoch(state))?;
@@ -146,8 +158,8 @@ fn time_sound(rt: &(impl AllocGlobal + CpuClock), state: &mut State) -> Result<T
     time_justified(rt, state, &previous, &current)
 }
 
-/// The time of justification.
-fn time_justification(rt: &(impl AllocGlobal + CpuClock), state: &mut State) -> Result<Time> {
+/// The times of both tables and of justification.
+fn time_justification(rt: &(impl AllocGlobal + CpuClock), state: &mut State) -> Result<Justified> {
     if !is_sound(rt.alloc(), state)? {
         bail!("the state isn't sound");
     }
@@ -159,8 +171,9 @@ fn time_rewarded(rt: &(impl AllocGlobal + CpuClock), state: &mut State) -> Resul
     requires { IsSoundWithinEpoch state.old }
 {
     let previous = committees_of_epoch(rt.alloc(), state, previous_epoch(state))?;
+    let statuses = previous_statuses(rt.alloc(), state, &previous)?;
     let begin = now(rt);
-    process_rewards(rt.alloc(), state, &previous)?;
+    process_rewards(rt.alloc(), state, &statuses)?;
     Ok(time_since(rt, begin))
 }
 
@@ -207,7 +220,7 @@ fn time_parts(rt: &(impl AllocGlobal + CpuClock), state: &mut State) -> Result<T
         joined,
         committees,
         per_slot,
-        justification: time_justification(rt, state)?,
+        justified: time_justification(rt, state)?,
         rewards: time_rewards(rt, state)?,
         closing: time_closing(rt, state)?,
     })
@@ -239,7 +252,8 @@ fn tell_parts(rt: &impl Print, validators: u64, times: &Times) -> Result<()> {
     let parts = [
         ("  passes of reading", times.reading),
         ("  committees", times.committees),
-        ("  justification", times.justification),
+        ("  tables of both epochs", times.justified.tables),
+        ("  justification", times.justified.justification),
         ("  rewards", times.rewards),
         ("  slashings", closing.slashings),
         ("  effective balances", closing.effective_balances),
@@ -250,8 +264,8 @@ fn tell_parts(rt: &impl Print, validators: u64, times: &Times) -> Result<()> {
 
 /// Prints what an epoch's end takes on the larger state, by what it is measured by.
 fn tell(rt: &impl Print, small: &Times, large: &Times) -> Result<()> {
-    let growth = "16,384 validators against 4,096";
-    let passes = "100 times without committees, against as many passes of reading";
+    let growth = "262,144 validators against 16,384";
+    let passes = "20 times without committees, against as many passes of reading";
     tell_ratio(rt, growth, large.whole(), small.whole()).and(tell_ratio(
         rt,
         passes,
@@ -262,9 +276,9 @@ fn tell(rt: &impl Print, small: &Times, large: &Times) -> Result<()> {
 
 /// Measures an epoch's end on both states, and prints all times.
 pub fn measure(rt: &(impl AllocGlobal + Print + CpuClock)) -> Result<()> {
-    let small = time_on(rt, 1)?;
-    tell_parts(rt, 4096, &small)?;
-    let large = time_on(rt, 4)?;
-    tell_parts(rt, 16_384, &large)?;
+    let small = time_on(rt, 4)?;
+    tell_parts(rt, 16_384, &small)?;
+    let large = time_on(rt, 64)?;
+    tell_parts(rt, 262_144, &large)?;
     tell(rt, &small, &large)
 }

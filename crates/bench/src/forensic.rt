@@ -1,7 +1,7 @@
 //! The command `forensic` on two chains of one genesis that finalise apart, from its files to its lines, against `replay` of both;
 //! and the memory that it needs, against that of one replay.
 
-use crate::chain::{Event, Shape, chain};
+use crate::chain::{Shape, chain};
 use crate::command::{Answer, put_file, run, words_of};
 use crate::genesis::{Genesis, Network, read_genesis};
 use crate::memory::greatest_resident;
@@ -27,18 +27,6 @@ struct Bytes {
     second: Vec<u8>,
 }
 
-/// The record of these events.
-fn record_of(alloc: Global, events: &[Event]) -> Result<Vec<u8>> {
-    let mut record = Vec::from_slice(alloc, b"BCR1")?;
-    for event in events {
-        let length = u32::try_from(event.payload.len())?;
-        record.push(event.kind)?;
-        record.extend_from_slice(&length.to_le_bytes())?;
-        record.extend_from_slice(&event.payload)?;
-    }
-    Ok(record)
-}
-
 /// The record of the chain of a genesis that is told apart by its graffiti.
 fn split_of(alloc: Global, genesis: &Genesis, slots: u64, graffiti: u8) -> Result<Vec<u8>> {
     let shape = Shape {
@@ -47,21 +35,29 @@ fn split_of(alloc: Global, genesis: &Genesis, slots: u64, graffiti: u8) -> Resul
         graffiti,
     };
     match chain(alloc, genesis, slots, shape) {
-        Ok(told) => record_of(alloc, &told.events),
+        Ok(told) => told.record(alloc),
         Err(error) => Err(error),
     }
 }
 
-/// Makes the files.
-fn bytes_of(alloc: Global, network: &Network, slots: u64) -> Result<Bytes> {
-    let genesis = network.genesis_bytes(alloc)?;
-    let state = read_genesis(alloc, network)?;
+/// Makes the files, the records behind this genesis.
+fn bytes_from(alloc: Global, network: &Network, genesis: &Genesis, slots: u64) -> Result<Bytes> {
+    let first = split_of(alloc, genesis, slots, 0xaa)?;
+    let second = split_of(alloc, genesis, slots, 0xbb)?;
     Ok(Bytes {
         config: network.config(),
-        genesis,
-        first: split_of(alloc, &state, slots, 0xaa)?,
-        second: split_of(alloc, &state, slots, 0xbb)?,
+        genesis: network.genesis_bytes(alloc)?,
+        first,
+        second,
     })
+}
+
+/// Makes the files.
+fn bytes_of(alloc: Global, network: &Network, slots: u64) -> Result<Bytes> {
+    match read_genesis(alloc, network) {
+        Ok(genesis) => bytes_from(alloc, network, &genesis, slots),
+        Err(error) => Err(error),
+    }
 }
 
 /// A copy of the files.

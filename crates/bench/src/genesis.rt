@@ -47,6 +47,11 @@ impl Network {
 }
 
 impl Network {
+    /// The same preset and configuration with so many validators.
+    pub fn of_validators(self, validators: u32) -> Network {
+        Network { validators, ..self }
+    }
+
     /// The file of its configuration.
     pub fn config(&self) -> &'static [u8] {
         self.config

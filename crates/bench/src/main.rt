@@ -3,7 +3,8 @@
 //! The word behind the program's name says what to measure: `pairs`, `shuffle`, `state`, `registry`, `change`, `iter`, `many`,
 //! `slots`, `block`, `attestation`, `operations`, `epoch`, `head`, `record`, `events`, `bodies`,
 //! `mainnet`, `drill`, `drill_mainnet`, `deposits`, `anchor`, `duties`, `book`, `forensic`, `forensic_mainnet` or `nodes`. Without a word
-//! nothing is measured.
+//! nothing is measured. `files` with a preset, a number of validators and a number of slots writes the files of a chain, by which whole programs
+//! are measured.
 #![tactic(auto)]
 
 mod anchor;
@@ -17,6 +18,7 @@ mod drill;
 mod epoch;
 mod epoch_duties;
 mod events;
+mod files;
 mod forensic;
 mod genesis;
 mod hashes;
@@ -95,11 +97,20 @@ fn measure_parts(rt: &(impl AllocGlobal + Print + CpuClock), word: &str) -> Resu
     }
 }
 
-fn main(rt: HostRuntime) -> Result<()> {
-    let mut words = env::args(&rt)?;
-    let _program = words.next();
-    match words.next() {
-        Some(word) => measure(&rt, word.as_str()),
-        None => tell_text(&rt, USAGE),
+/// Writes the files of the chain that the words behind `files` ask for, or measures what the one word names.
+fn run(rt: &(impl AllocGlobal + Print + CpuClock + Files), words: &[String]) -> Result<()> {
+    match words {
+        [] => tell_text(rt, USAGE),
+        [word] => measure(rt, word.as_str()),
+        [word, asked @ ..] if word.as_str() == "files" => files::write(rt, asked),
+        _ => tell_text(rt, USAGE),
     }
+}
+
+fn main(rt: HostRuntime) -> Result<()> {
+    let mut words = Vec::new(rt.alloc());
+    for word in env::args(&rt)?.skip(1) {
+        words.push(word)?;
+    }
+    run(&rt, &words)
 }

@@ -55,14 +55,35 @@ fn read_chain(
     add_all(rt, book, &events, times)
 }
 
+/// Reads the votes of both chains into a book, and adds what that takes.
+fn read_chains(
+    rt: &(impl AllocGlobal + CpuClock),
+    config: &Config,
+    book: &mut ChainBook,
+    times: &mut Times,
+) -> Result<()> {
+    read_chain(rt, config, 0, book, times)?;
+    book.turn()?;
+    read_chain(rt, config, 1, book, times)
+}
+
+/// The same with a book of its own.
+fn read_once(
+    rt: &(impl AllocGlobal + CpuClock),
+    genesis: &Genesis,
+    times: &mut Times,
+) -> Result<()> {
+    match ChainBook::new(rt.alloc(), &genesis.state, &genesis.config) {
+        Ok(mut book) => read_chains(rt, &genesis.config, &mut book, times),
+        Err(stop) => Err(stop.into()),
+    }
+}
+
 /// What reading the votes of both chains into a book takes.
 fn time_reading(rt: &(impl AllocGlobal + CpuClock), genesis: &Genesis) -> Result<Time> {
     let mut times = Times::none();
     for _time in 0..TIMES {
-        let mut book = ChainBook::new(rt.alloc(), &genesis.state, &genesis.config)?;
-        read_chain(rt, &genesis.config, 0, &mut book, &mut times)?;
-        book.turn()?;
-        read_chain(rt, &genesis.config, 1, &mut book, &mut times)?;
+        read_once(rt, genesis, &mut times)?;
     }
     Ok(times.adds())
 }

@@ -18,9 +18,13 @@ use Rattle.spec_epochs.specs.Helpers.{get_matching_source_attestations, get_unsl
 use Rattle.spec_epochs.specs.RewardHelpers.{get_proposer_reward}
 use Rattle.spec_epochs.specs.GetInclusionDelayDeltas.{sooner, first_of_least_delay, inclusion, is_proposer_of, delayed_reward, inclusion_delay_reward, get_inclusion_delay_deltas}
 use Rattle.participation.specs.declared.inclusions.Inclusion.{Inclusion}
-use Rattle.participation.specs.inside.Marks.{flagged, attester_flags}
+use Rattle.participation.specs.declared.matching.Vote.TheVariants.{Source}
+use Rattle.participation.specs.declared.table.Status.{Status}
+use Rattle.participation.specs.inside.Votes.{matching}
+use Rattle.participation.specs.inside.Marks.{flagged}
 use Rattle.participation.specs.inside.Inclusions.{entry_of, inclusion_entries}
-use Rattle.participation.proofs.Flags.{flagged_are}
+use Rattle.participation.specs.inside.Statuses.{statuses_of, flags_of, entries_of}
+use Rattle.participation.proofs.Columns.{voters_are, entries_are}
 use Rattle.participation.proofs.Sound.{sound_previous}
 use Rattle.epoch_rewards.specs.inside.Inclusions.{entry_at, delayed_by, own_reward, joined_reward, all_included, all_joined, joined_deltas}
 use Rattle.epoch_rewards.proofs.Overflows.{OnlyOverflows, bound_only, add_only, proposer_only, own_only}
@@ -249,12 +253,14 @@ rewards_are state epoch attestations sound =
     by_cases state entries attesters below known (all_included state entries (replicate (length state.validators) 0) attesters) refl (all_only state entries attesters (replicate (length state.validators) 0) below)
     ∙ same_map (reward state entries attesters below known) (inclusion_delay_reward state attestations) 0 (length state.validators) (λ k more less. sym (reward_is state attestations k (omega arith)))
 
-pub joined_are : (state : PlainState) → IsSoundWithinEpoch state → joined_deltas state (inclusion_entries state (get_matching_source_attestations state (get_previous_epoch state))) (flagged state (attester_flags state (get_matching_source_attestations state (get_previous_epoch state)))) ≡ get_inclusion_delay_deltas state
-joined_are state sound =
+pub joined_are : (state : PlainState) (statuses : List Status) → IsSoundWithinEpoch state → statuses ≡ statuses_of state (get_previous_epoch state) → joined_deltas state (entries_of statuses) (flagged state (flags_of Source statuses)) ≡ get_inclusion_delay_deltas state
+unfolding matching
+joined_are state statuses sound are =
     let attestations = get_matching_source_attestations state (get_previous_epoch state) in
     let entries = inclusion_entries state attestations in
     let attesters = get_unslashed_attesting_indices state attestations in
-    ap (joined_deltas state entries) (flagged_are state attestations)
+    ap (λ es. joined_deltas state es (flagged state (flags_of Source statuses))) (entries_are state (get_previous_epoch state) statuses are)
+    ∙ ap (joined_deltas state entries) (voters_are state (get_previous_epoch state) statuses are Source)
     ∙ joined_opens state entries attesters
     ∙ ap (λ o. bind o (λ rewards. done (let d : Deltas = record { rewards = rewards; penalties = replicate (length state.validators) 0 } in d))) (rewards_are state (get_previous_epoch state) attestations (sound_previous (get_current_epoch state) state sound))
     ∙ ap (λ zeros. bind (checked_map (inclusion_delay_reward state attestations) (validator_indices state)) (λ rewards. done (let d : Deltas = record { rewards = rewards; penalties = zeros } in d))) (sym (nothing_is state))

@@ -8,8 +8,12 @@ use Rattle.spec_epochs.specs.Each.{validator_indices, checked_map}
 use Rattle.spec_epochs.specs.Helpers.{get_matching_target_attestations, get_unslashed_attesting_indices}
 use Rattle.spec_epochs.specs.RewardHelpers.{is_in_inactivity_leak}
 use Rattle.spec_epochs.specs.GetInactivityPenaltyDeltas.{get_inactivity_penalty_deltas}
-use Rattle.participation.specs.inside.Marks.{flagged, attester_flags}
-use Rattle.participation.proofs.Flags.{flagged_are}
+use Rattle.participation.specs.declared.matching.Vote.TheVariants.{Target}
+use Rattle.participation.specs.declared.table.Status.{Status}
+use Rattle.participation.specs.inside.Votes.{matching}
+use Rattle.participation.specs.inside.Marks.{flagged}
+use Rattle.participation.specs.inside.Statuses.{statuses_of, flags_of}
+use Rattle.participation.proofs.Columns.{voters_are}
 use Rattle.epoch_rewards.specs.inside.Leak.{leak_penalty, penalties_of, leak_deltas}
 use Rattle.epoch_rewards.proofs.Nothing.{nothing_is}
 
@@ -25,10 +29,11 @@ by_map : (state : PlainState) → get_inactivity_penalty_deltas state ≡ by_not
 unfolding get_inactivity_penalty_deltas leak_penalty by_nothing
 by_map state = refl
 
-pub leak_deltas_are : (state : PlainState) → leak_deltas state (flagged state (attester_flags state (get_matching_target_attestations state (get_previous_epoch state)))) ≡ get_inactivity_penalty_deltas state
-leak_deltas_are state =
+pub leak_deltas_are : (state : PlainState) (statuses : List Status) → statuses ≡ statuses_of state (get_previous_epoch state) → leak_deltas state (flagged state (flags_of Target statuses)) ≡ get_inactivity_penalty_deltas state
+unfolding matching
+leak_deltas_are state statuses are =
     let attestations = get_matching_target_attestations state (get_previous_epoch state) in
-    ap (leak_deltas state) (flagged_are state attestations)
+    ap (leak_deltas state) (voters_are state (get_previous_epoch state) statuses are Target)
     ∙ by_zeros state (get_unslashed_attesting_indices state attestations)
     ∙ ap (by_nothing state (get_unslashed_attesting_indices state attestations)) (sym (nothing_is state))
     ∙ sym (by_map state)

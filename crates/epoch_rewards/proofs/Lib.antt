@@ -12,3 +12,4 @@ pub mod Fused
 pub mod Parts
 pub mod AllPaid
 pub mod Pushed
+pub mod Beside

@@ -1,5 +1,5 @@
 -- The balances of one pass are those of the five parts.
-use Rattle.std.proofs.Common.{◌≡◌, ℕ, zero, suc, ◌+◌, ◌/◌, ◌<◌, Bool, true, false, not, cond, ◌==◌, List, ◌∷◌, Option, length, replicate, get_or, slice_index, refl, sym, ap, ◌∙◌, arith}
+use Rattle.std.proofs.Common.{◌≡◌, ℕ, zero, suc, ◌+◌, ◌/◌, ◌<◌, Bool, true, false, not, cond, ◌==◌, List, ◌∷◌, Option, length, replicate, get_or, slice_get, slice_index, refl, sym, ap, ◌∙◌, arith}
 use Rattle.std.specs.List.{AllByRecursion, range_with_len}
 use Rattle.bc_words.specs.Outcome.{Outcome, done, refused, limited, bind, ◌>>=◌, checked_add, checked_sub, checked_mul}
 use Rattle.spec_state.specs.declared.plain.PlainState.{PlainState}
@@ -8,7 +8,6 @@ use Rattle.spec_state.specs.Soundness.{IsSoundWithinEpoch}
 use Rattle.spec_blocks.specs.Checks.{item_at}
 use Rattle.spec_epochs.specs.declared.deltas.Deltas.{Deltas}
 use Rattle.spec_epochs.specs.Each.{validator_indices, checked_map, is_among}
-use Rattle.spec_epochs.specs.Helpers.{get_matching_source_attestations, get_matching_target_attestations, get_matching_head_attestations}
 use Rattle.spec_epochs.specs.GetBaseReward.{get_base_reward}
 use Rattle.spec_epochs.specs.RewardHelpers.{get_proposer_reward, get_finality_delay, is_in_inactivity_leak, get_eligible_validator_indices}
 use Rattle.spec_epochs.specs.GetAttestationComponentDeltas.{attester_reward}
@@ -20,8 +19,12 @@ use Rattle.spec_epochs.specs.GetInactivityPenaltyDeltas.{absence_penalty, inacti
 use Rattle.spec_epochs.specs.GetAttestationDeltas.{sum_at, get_attestation_deltas}
 use Rattle.spec_epochs.specs.ProcessRewardsAndPenalties.{rewarded_balance, process_rewards_and_penalties}
 use Rattle.participation.specs.declared.inclusions.Inclusion.{Inclusion}
-use Rattle.participation.specs.inside.Marks.{flagged, flagged_from, attester_flags}
-use Rattle.participation.specs.inside.Inclusions.{inclusion_entries}
+use Rattle.participation.specs.declared.matching.Vote.{Vote}
+use Rattle.participation.specs.declared.matching.Vote.TheVariants.{Source, Target, Head}
+use Rattle.participation.specs.declared.table.Status.{Status}
+use Rattle.participation.specs.inside.Votes.{matching}
+use Rattle.participation.specs.inside.Marks.{flagged, flagged_from}
+use Rattle.participation.specs.inside.Statuses.{statuses_of, flags_of, entries_of}
 use Rattle.epoch_rewards.specs.declared.paid.Delta.{Delta}
 use Rattle.epoch_rewards.specs.inside.Components.{component_reward, component_penalty, needed_balance, component_deltas}
 use Rattle.epoch_rewards.specs.inside.Inclusions.{own_reward, joined_reward, all_included, all_joined, joined_deltas}
@@ -88,7 +91,7 @@ module _ (state : PlainState) where
   unfolding leak_part leak_penalty
   leak_only leak targets index less = pick_only leak _ (done 0) (pick_only (is_among index (get_eligible_validator_indices state)) (inactivity_penalty state targets index) (done 0) (inactivity_only targets index less) tt) tt
 
-  settled_only : length state.balances ≡ length state.validators → (index rewards penalties : ℕ) → index < length state.validators → OnlyOverflows (settled state index rewards penalties)
+  settled_only : length state.balances ≡ length state.validators → (index rewards penalties : ℕ) → index < length state.validators → OnlyOverflows (settled (slice_get state.balances index) rewards penalties)
   unfolding settled
   settled_only same index rewards penalties less =
       bound_only (item_at state.balances index) _ (item_only state.balances index 0 (omega (arith, less, same)))
@@ -182,13 +185,13 @@ module _ (state : PlainState) (sources targets heads : List ℕ) (entries : List
   module _ (total : ℕ) (leak : Bool) where
     abbrev in_lists : ℕ → Outcome (List ℕ)
     in_lists a = apart count (component_reward state sources leak a total) (component_penalty state sources) (component_penalty state targets) (component_penalty state heads) (leak_part state leak targets)
-        (λ b. component_reward state targets leak b total) (λ c. component_reward state heads leak c total) (joined_reward state entries sources) (settled state)
+        (λ b. component_reward state targets leak b total) (λ c. component_reward state heads leak c total) (joined_reward state entries sources) (λ k. settled (slice_get state.balances k))
         (needed_balance state targets leak) (needed_balance state heads leak) gains_of
 
     last_open : (source target head inclusion inactivity : Deltas) → last source target head inclusion inactivity
         ≡ bind (checked_map (λ k. sum_of_four (get_or source.rewards k 0) (get_or target.rewards k 0) (get_or head.rewards k 0) (get_or inclusion.rewards k 0)) (range_with_len 0 count)) (λ gains.
         bind (checked_map (λ k. sum_of_four (get_or source.penalties k 0) (get_or target.penalties k 0) (get_or head.penalties k 0) (get_or inactivity.penalties k 0)) (range_with_len 0 count)) (λ losses.
-        checked_map (λ k. settled state k (get_or gains k 0) (get_or losses k 0)) (range_with_len 0 count)))
+        checked_map (λ k. settled (slice_get state.balances k) (get_or gains k 0) (get_or losses k 0)) (range_with_len 0 count)))
     unfolding added sum_at rewarded_balance sum_of_four settled validator_indices
     last_open source target head inclusion inactivity =
         bound_twice (checked_map (sum_at source.rewards target.rewards head.rewards inclusion.rewards) (range_with_len 0 count)) _ (λ all. checked_map (rewarded_balance state all) (validator_indices state))
@@ -213,7 +216,7 @@ module _ (state : PlainState) (sources targets heads : List ℕ) (entries : List
         ∙ bound_same (checked_map (leak_part state leak targets) (range_with_len 0 count)) _ _ (λ is. last_open (deltas ss ps) (deltas ts qs) (deltas hs os) (deltas js none) (deltas none is)))))))))))))
 
     regrouped : (a b c : ℕ) (gains : List ℕ) (k : ℕ) → paid_balance state sources targets heads (weights_by state leak a total) (weights_by state leak b total) (weights_by state leak c total) entries gains k
-        ≡ r0 count (component_reward state sources leak a total) (component_penalty state sources) (component_reward state targets leak b total) (component_penalty state targets) (component_reward state heads leak c total) (component_penalty state heads) (joined_reward state entries sources gains) (leak_part state leak targets) (settled state) k
+        ≡ r0 count (component_reward state sources leak a total) (component_penalty state sources) (component_reward state targets leak b total) (component_penalty state targets) (component_reward state heads leak c total) (component_penalty state heads) (joined_reward state entries sources gains) (leak_part state leak targets) (λ k. settled (slice_get state.balances k)) k
     unfolding paid_balance component_delta summed weights_by
     regrouped a b c gains k =
         delta_first (component_reward state sources leak a total k) (component_penalty state sources k) _
@@ -231,7 +234,7 @@ module _ (state : PlainState) (sources targets heads : List ℕ) (entries : List
       bound_same (needed_balance state targets leak) _ _ (λ b. bound_same (needed_balance state heads leak) _ _ (λ c. bound_same gains_of _ _ (λ gains.
       same_map (paid_balance state sources targets heads (weights_by state leak a total) (weights_by state leak b total) (weights_by state leak c total) entries gains) _ 0 count (λ k more less. regrouped total leak a b c gains k))))
       ∙ sym (at_once_is count (component_reward state sources leak a total) (component_penalty state sources) (component_penalty state targets) (component_penalty state heads) (leak_part state leak targets)
-      (λ b. component_reward state targets leak b total) (λ c. component_reward state heads leak c total) (joined_reward state entries sources) (settled state)
+      (λ b. component_reward state targets leak b total) (λ c. component_reward state heads leak c total) (joined_reward state entries sources) (λ k. settled (slice_get state.balances k))
       (λ k less. reward_only state sources leak a total k less) (λ k less. penalty_only state sources k less) (λ b k less. reward_only state targets leak b total k less) (λ k less. penalty_only state targets k less)
       (λ c k less. reward_only state heads leak c total k less) (λ k less. penalty_only state heads k less) (λ gains k less. joined_only state entries sources gains k less) (λ k less. leak_only state leak targets k less)
       (λ k gain loss less. settled_only state same k gain loss less)
@@ -244,48 +247,39 @@ module _ (state : PlainState) (sources targets heads : List ℕ) (entries : List
 
 -- ---- the published parts
 
-module _ (state : PlainState) where
-  abbrev source_flags : List ℕ
-  source_flags = flagged state (attester_flags state (get_matching_source_attestations state (get_previous_epoch state)))
-
-  abbrev target_flags : List ℕ
-  target_flags = flagged state (attester_flags state (get_matching_target_attestations state (get_previous_epoch state)))
-
-  abbrev head_flags : List ℕ
-  head_flags = flagged state (attester_flags state (get_matching_head_attestations state (get_previous_epoch state)))
-
-  abbrev inclusions : List (Option Inclusion)
-  inclusions = inclusion_entries state (get_matching_source_attestations state (get_previous_epoch state))
+module _ (state : PlainState) (statuses : List Status) (are : statuses ≡ statuses_of state (get_previous_epoch state)) where
+  abbrev voters : Vote → List ℕ
+  voters vote = flagged state (flags_of vote statuses)
 
   abbrev balances_by : Deltas → Deltas → Deltas → Deltas → Deltas → Outcome (List ℕ)
-  balances_by = last state source_flags target_flags head_flags inclusions
+  balances_by = last state (voters Source) (voters Target) (voters Head) (entries_of statuses)
 
   published : all_rewarded state ≡ five (get_source_deltas state) (get_target_deltas state) (get_head_deltas state) (get_inclusion_delay_deltas state) (get_inactivity_penalty_deltas state) balances_by
   unfolding all_rewarded get_attestation_deltas added
   published = five_first (get_source_deltas state) (get_target_deltas state) (get_head_deltas state) (get_inclusion_delay_deltas state) (get_inactivity_penalty_deltas state) (added state) (λ all. checked_map (rewarded_balance state all) (validator_indices state))
 
-  sources_are : component_deltas state source_flags ≡ get_source_deltas state
-  unfolding get_source_deltas
-  sources_are = component_deltas_are state (get_matching_source_attestations state (get_previous_epoch state))
+  sources_are : component_deltas state (voters Source) ≡ get_source_deltas state
+  unfolding get_source_deltas matching
+  sources_are = component_deltas_are state (get_previous_epoch state) statuses Source are
 
-  targets_are : component_deltas state target_flags ≡ get_target_deltas state
-  unfolding get_target_deltas
-  targets_are = component_deltas_are state (get_matching_target_attestations state (get_previous_epoch state))
+  targets_are : component_deltas state (voters Target) ≡ get_target_deltas state
+  unfolding get_target_deltas matching
+  targets_are = component_deltas_are state (get_previous_epoch state) statuses Target are
 
-  heads_are : component_deltas state head_flags ≡ get_head_deltas state
-  unfolding get_head_deltas
-  heads_are = component_deltas_are state (get_matching_head_attestations state (get_previous_epoch state))
+  heads_are : component_deltas state (voters Head) ≡ get_head_deltas state
+  unfolding get_head_deltas matching
+  heads_are = component_deltas_are state (get_previous_epoch state) statuses Head are
 
-  pub one_pass : IsSoundWithinEpoch state → all_paid state source_flags target_flags head_flags inclusions ≡ all_rewarded state
-  one_pass sound =
-      by_flags state source_flags target_flags head_flags inclusions sound.balances (flagged_below state (attester_flags state (get_matching_source_attestations state (get_previous_epoch state))))
-      ∙ ap (λ a. five a (component_deltas state target_flags) (component_deltas state head_flags) (joined_deltas state inclusions source_flags) (leak_deltas state target_flags) balances_by) sources_are
-      ∙ ap (λ b. five (get_source_deltas state) b (component_deltas state head_flags) (joined_deltas state inclusions source_flags) (leak_deltas state target_flags) balances_by) targets_are
-      ∙ ap (λ c. five (get_source_deltas state) (get_target_deltas state) c (joined_deltas state inclusions source_flags) (leak_deltas state target_flags) balances_by) heads_are
-      ∙ ap (λ d. five (get_source_deltas state) (get_target_deltas state) (get_head_deltas state) d (leak_deltas state target_flags) balances_by) (joined_are state sound)
-      ∙ ap (λ e. five (get_source_deltas state) (get_target_deltas state) (get_head_deltas state) (get_inclusion_delay_deltas state) e balances_by) (leak_deltas_are state)
+  pub by_table : IsSoundWithinEpoch state → all_paid state (voters Source) (voters Target) (voters Head) (entries_of statuses) ≡ all_rewarded state
+  by_table sound =
+      by_flags state (voters Source) (voters Target) (voters Head) (entries_of statuses) sound.balances (flagged_below state (flags_of Source statuses))
+      ∙ ap (λ a. five a (component_deltas state (voters Target)) (component_deltas state (voters Head)) (joined_deltas state (entries_of statuses) (voters Source)) (leak_deltas state (voters Target)) balances_by) sources_are
+      ∙ ap (λ b. five (get_source_deltas state) b (component_deltas state (voters Head)) (joined_deltas state (entries_of statuses) (voters Source)) (leak_deltas state (voters Target)) balances_by) targets_are
+      ∙ ap (λ c. five (get_source_deltas state) (get_target_deltas state) c (joined_deltas state (entries_of statuses) (voters Source)) (leak_deltas state (voters Target)) balances_by) heads_are
+      ∙ ap (λ d. five (get_source_deltas state) (get_target_deltas state) (get_head_deltas state) d (leak_deltas state (voters Target)) balances_by) (joined_are state statuses sound are)
+      ∙ ap (λ e. five (get_source_deltas state) (get_target_deltas state) (get_head_deltas state) (get_inclusion_delay_deltas state) e balances_by) (leak_deltas_are state statuses are)
       ∙ sym published
 
-  pub processed : process_rewards_and_penalties state ≡ cond (get_current_epoch state == 0) (done state) (bind (all_rewarded state) (λ balances. done (record state { balances = balances })))
-  unfolding process_rewards_and_penalties all_rewarded
-  processed = ap (λ o. cond (get_current_epoch state == 0) (done state) o) (sym (bound_twice (get_attestation_deltas state) (λ deltas. checked_map (rewarded_balance state deltas) (validator_indices state)) (λ balances. done (let next : PlainState = record state { balances = balances } in next))))
+pub processed : (state : PlainState) → process_rewards_and_penalties state ≡ cond (get_current_epoch state == 0) (done state) (bind (all_rewarded state) (λ balances. done (record state { balances = balances })))
+unfolding process_rewards_and_penalties all_rewarded
+processed state = ap (λ o. cond (get_current_epoch state == 0) (done state) o) (sym (bound_twice (get_attestation_deltas state) (λ deltas. checked_map (rewarded_balance state deltas) (validator_indices state)) (λ balances. done (let next : PlainState = record state { balances = balances } in next))))

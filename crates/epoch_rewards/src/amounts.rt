@@ -1,7 +1,7 @@
 //! An amount for each validator: what it gains, loses or has. Each kind of amount says how that of one validator is reckoned; one
-//! loop makes the list of any kind.
+//! loop makes the list of any kind, and walks the balances beside what was gathered.
 
-ghost use Rattle.std.specs.Prelude.{◌≡◌, ℕ, ◌≤◌, length, IfOk};
+ghost use Rattle.std.specs.Prelude.{◌≡◌, ℕ, ◌≤◌, length, slice_get, IfOk};
 ghost use Rattle.bc_words.specs.Outcome.{Outcome, GivesExactly, GivesBy};
 ghost use Rattle.spec_state.specs.declared.plain.PlainState.{PlainState};
 ghost use Rattle.spec_epochs.specs.GetBaseReward.{get_base_reward};
@@ -24,17 +24,20 @@ pub trait Amounts {
     /// The amount of the validator with an index, or why there is none.
     ghost amount_of: { Self → PlainState → ℕ → Outcome ℕ };
 
-    /// The amount of a validator, where its base reward is known, or why it has none. The stakes are the state's.
+    /// The amount of a validator, where its base reward is known, or why it has none. The stakes are the state's, and `balance`
+    /// stands at the index where there is one.
     fn amount(
         &self,
         state: &State,
         stakes: &[Stake],
         base: Result<u64, Stop>,
         index: u64,
+        balance: Option<u64>,
     ) -> Result<u64, Stop>
         requires kept { are_of self.now state.now }
         requires stakes { stakes.now ≡ stakes_of state.now }
         requires base { GivesExactly base (get_base_reward state.now index) }
+        requires balance { slice_get state.now.balances index ≡ balance }
         ensures { GivesExactly result (amount_of self.now state.now index) };
 }
 
@@ -54,9 +57,10 @@ pub(crate) fn all_amounts<A: Amounts>(
     ensures few { IfOk result (λ all. length all.items ≤ state.now.preset.validator_registry_limit) }
 {
     let mut all = Vec::with_capacity(alloc, state.validators_len() as usize)?;
+    let mut balances = state.balance_list().iter();
     for index in 0..state.validators_len() {
         let base = get_base_reward(state, stakes, divisor, index);
-        let made = kept.amount(state, stakes, base, index);
+        let made = kept.amount(state, stakes, base, index, balances.next());
         match push_made(&mut all, made) {
             Ok(()) => {}
             Err(stop) => return Err(stop),

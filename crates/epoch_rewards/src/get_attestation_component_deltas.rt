@@ -6,6 +6,7 @@ ghost use Rattle.bc_words.specs.Outcome.{GivesExactly, Gives};
 ghost use Rattle.spec_epochs.specs.GetAttestationComponentDeltas.{attester_reward};
 ghost use Rattle.spec_epochs.specs.GetBaseReward.{get_base_reward};
 ghost use Rattle.participation.specs.inside.Marks.{flagged};
+ghost use Rattle.participation.specs.inside.Statuses.{flags_of};
 ghost use Rattle.epoch_rewards.specs.inside.Components.{AreWeights, component_reward, component_penalty, needed_balance, component_deltas};
 ghost use Rattle.epoch_rewards.specs.inside.Paid.{weights_by};
 ghost use Rattle.epoch_rewards.specs.inside.Stakes.{stakes_of};
@@ -18,6 +19,7 @@ use crate::stakes::Stake;
 use balance_totals::{current_epoch, total_active};
 use bc_words::{Stop, checked_mul, isqrt};
 use beacon_state::State;
+use participation::{Status, Vote};
 use spec_epochs::Deltas;
 use ssz_codec::Items;
 use std::alloc::Global;
@@ -77,8 +79,10 @@ fn attester_reward(
 /// Who had a vote right, and what is reckoned by. The amounts are what each gains by the vote.
 #[derive(Clone, Copy)]
 pub struct Voters<'a> {
-    /// A flag a validator.
-    pub flags: &'a [bool],
+    /// How each validator attested.
+    pub statuses: &'a [Status],
+    /// The vote.
+    pub vote: Vote,
     /// What rewards and penalties are reckoned by.
     pub weights: Weights,
 }
@@ -86,7 +90,7 @@ pub struct Voters<'a> {
 impl<'a> Amounts for Voters<'a> {
     ghost are_of = { λ v state. AreWeights state v.weights };
 
-    ghost amount_of = { λ v state. component_reward state (flagged state v.flags.now) v.weights.leak v.weights.attesting v.weights.total };
+    ghost amount_of = { λ v state. component_reward state (flagged state (flags_of v.vote v.statuses.now)) v.weights.leak v.weights.attesting v.weights.total };
 
     #[tactic(auto, unfolding(crate::specs::inside::Components::component_reward))]
     fn amount(
@@ -95,8 +99,11 @@ impl<'a> Amounts for Voters<'a> {
         stakes: &[Stake],
         base: Result<u64, Stop>,
         index: u64,
+        _balance: Option<u64>,
     ) -> Result<u64, Stop> {
-        if is_eligible(state, stakes, index) && is_attester(state, stakes, self.flags, index) {
+        if is_eligible(state, stakes, index)
+            && is_attester(state, stakes, self.statuses, self.vote, index)
+        {
             return attester_reward(state, &self.weights, base, index);
         }
         Ok(0)
@@ -106,14 +113,16 @@ impl<'a> Amounts for Voters<'a> {
 /// Who had a vote right. The amounts are what each of the others loses.
 #[derive(Clone, Copy)]
 pub struct Absence<'a> {
-    /// A flag a validator.
-    pub flags: &'a [bool],
+    /// How each validator attested.
+    pub statuses: &'a [Status],
+    /// The vote.
+    pub vote: Vote,
 }
 
 impl<'a> Amounts for Absence<'a> {
     ghost are_of = { λ _ _. Unit {0} };
 
-    ghost amount_of = { λ v state. component_penalty state (flagged state v.flags.now) };
+    ghost amount_of = { λ v state. component_penalty state (flagged state (flags_of v.vote v.statuses.now)) };
 
     #[tactic(auto, unfolding(crate::specs::inside::Components::component_penalty))]
     fn amount(
@@ -122,8 +131,11 @@ impl<'a> Amounts for Absence<'a> {
         stakes: &[Stake],
         base: Result<u64, Stop>,
         index: u64,
+        _balance: Option<u64>,
     ) -> Result<u64, Stop> {
-        if is_eligible(state, stakes, index) && !is_attester(state, stakes, self.flags, index) {
+        if is_eligible(state, stakes, index)
+            && !is_attester(state, stakes, self.statuses, self.vote, index)
+        {
             return base;
         }
         Ok(0)
@@ -135,37 +147,44 @@ impl<'a> Amounts for Absence<'a> {
 pub(crate) fn needed_balance(
     state: &State,
     stakes: &[Stake],
-    flags: &[bool],
+    statuses: &[Status],
+    vote: Vote,
     leak: bool,
 ) -> Result<u64, Stop>
     requires { stakes.now ≡ stakes_of state.now }
-    ensures { GivesExactly result (needed_balance state.now (flagged state.now flags.now) leak) }
+    ensures { GivesExactly result (needed_balance state.now (flagged state.now (flags_of vote statuses.now)) leak) }
 {
     if leak {
         return Ok(0);
     }
-    attesting_balance(state, stakes, flags)
+    attesting_balance(state, stakes, statuses, vote)
 }
 
-/// Rewards and penalties for a vote that those with a flag had right, the slashed aside (beacon-chain.md,
+/// Rewards and penalties for a vote, by those who have it right, the slashed aside (beacon-chain.md,
 /// `get_attestation_component_deltas`). The stakes are the state's.
 #[tactic(auto, unfolding(crate::specs::inside::Components::component_deltas, crate::specs::inside::Paid::weights_by, crate::specs::inside::Divisor::divisor_of), using(spec_epochs::proofs::Totals::least_total))]
 pub(crate) fn get_attestation_component_deltas(
     alloc: Global,
     state: &State,
     stakes: &[Stake],
-    flags: &[bool],
+    statuses: &[Status],
+    vote: Vote,
 ) -> Result<Deltas, Stop>
     requires { stakes.now ≡ stakes_of state.now }
-    ensures { Gives result (component_deltas state.now (flagged state.now flags.now)) }
+    ensures { Gives result (component_deltas state.now (flagged state.now (flags_of vote statuses.now))) }
 {
     let total = total_active(state, current_epoch(state))?;
     let leak = is_in_inactivity_leak(state)?;
-    let attesting = needed_balance(state, stakes, flags, leak)?;
+    let attesting = needed_balance(state, stakes, statuses, vote, leak)?;
     let weights = weights_of(state, leak, attesting, total);
     let divisor = Ok(isqrt(total));
-    let rewards = all_amounts(alloc, state, stakes, divisor, &Voters { flags, weights })?;
-    let penalties = all_amounts(alloc, state, stakes, divisor, &Absence { flags })?;
+    let voters = Voters {
+        statuses,
+        vote,
+        weights,
+    };
+    let rewards = all_amounts(alloc, state, stakes, divisor, &voters)?;
+    let penalties = all_amounts(alloc, state, stakes, divisor, &Absence { statuses, vote })?;
     Ok(Deltas {
         rewards: Items::from_vec(rewards),
         penalties: Items::from_vec(penalties),

@@ -1,15 +1,16 @@
 //! Whom rewards and penalties reach (beacon-chain.md, "get_eligible_validator_indices"), and who attested, by what was gathered of
-//! the registry.
+//! the registry and by the table of statuses.
 
 ghost use Rattle.std.specs.Prelude.{◌≡◌, MatchOption};
 ghost use Rattle.spec_epochs.specs.Each.{is_among};
 ghost use Rattle.spec_epochs.specs.RewardHelpers.{get_eligible_validator_indices};
 ghost use Rattle.participation.specs.inside.Marks.{flagged, IsPassedOver, IsTaken};
+ghost use Rattle.participation.specs.inside.Statuses.{flags_of};
 ghost use Rattle.epoch_rewards.specs.inside.Stakes.{stakes_of};
 
 use crate::stakes::{Stake, find_stake};
 use beacon_state::State;
-use participation::flag_at;
+use participation::{Status, Vote, flag_at};
 
 /// Whether a validator is one of those whom rewards and penalties reach. The stakes are the state's.
 #[tactic(auto, using(crate::proofs::Gathered::eligibility))]
@@ -23,35 +24,47 @@ pub(crate) fn is_eligible(state: &State, stakes: &[Stake], index: u64) -> bool
     }
 }
 
-/// Whether a validator is one of those whose flag is set and who aren't slashed. The stakes are the state's.
+/// Whether a validator is one of those who have a vote right and aren't slashed. The stakes are the state's.
 #[tactic(auto, using(crate::proofs::Gathered::attestation))]
-pub(crate) fn is_attester(state: &State, stakes: &[Stake], flags: &[bool], index: u64) -> bool
+pub(crate) fn is_attester(
+    state: &State,
+    stakes: &[Stake],
+    statuses: &[Status],
+    vote: Vote,
+    index: u64,
+) -> bool
     requires { stakes.now ≡ stakes_of state.now }
-    ensures { result ≡ is_among index (flagged state.now flags.now) }
+    ensures { result ≡ is_among index (flagged state.now (flags_of vote statuses.now)) }
 {
     match find_stake(stakes, index) {
         Some(stake) => {
             if stake.slashed {
                 return false;
             }
-            flag_at(flags, index)
+            flag_at(statuses, vote, index)
         }
         None => false,
     }
 }
 
-/// The effective balance of a validator, where its flag is set and it isn't slashed. The stakes are the state's.
+/// The effective balance of a validator, where it has a vote right and isn't slashed. The stakes are the state's.
 #[tactic(auto, using(crate::proofs::Gathered::counting))]
-pub(crate) fn counted(state: &State, stakes: &[Stake], flags: &[bool], index: u64) -> Option<u64>
+pub(crate) fn counted(
+    state: &State,
+    stakes: &[Stake],
+    statuses: &[Status],
+    vote: Vote,
+    index: u64,
+) -> Option<u64>
     requires { stakes.now ≡ stakes_of state.now }
-    ensures { MatchOption result (IsPassedOver state.now flags.now index) (IsTaken state.now flags.now index) }
+    ensures { let flags = flags_of vote statuses.now in MatchOption result (IsPassedOver state.now flags index) (IsTaken state.now flags index) }
 {
     match find_stake(stakes, index) {
         Some(stake) => {
             if stake.slashed {
                 return None;
             }
-            if !flag_at(flags, index) {
+            if !flag_at(statuses, vote, index) {
                 return None;
             }
             Some(stake.effective_balance)

@@ -4,16 +4,15 @@ ghost use Rattle.std.specs.Prelude.{◌≡◌, if◌then◌else◌};
 ghost use Rattle.bc_words.specs.Outcome.{GivesExactly, done, Gives, GivesBy};
 ghost use Rattle.spec_epochs.specs.Each.{is_among};
 ghost use Rattle.spec_epochs.specs.GetInactivityPenaltyDeltas.{absence_penalty, inactivity_penalty, get_inactivity_penalty_deltas};
+ghost use Rattle.participation.specs.declared.matching.Vote.TheVariants as votes;
 ghost use Rattle.participation.specs.inside.Marks.{flagged};
+ghost use Rattle.participation.specs.inside.Statuses.{flags_of, statuses_of};
 ghost use Rattle.spec_epochs.specs.GetBaseReward.{get_base_reward};
 ghost use Rattle.epoch_rewards.specs.inside.Stakes.{stakes_of};
 ghost use Rattle.epoch_rewards.specs.inside.Leak.{leak_penalty, penalties_of, leak_deltas};
 ghost use Rattle.spec_state.specs.Accessors.{get_previous_epoch};
-ghost use Rattle.spec_state.specs.inside.EpochCommittees.{epoch_committees};
-ghost use Rattle.spec_state.specs.Soundness.{IsSoundWithinEpoch};
 
 use crate::amounts::{Amounts, all_amounts};
-use crate::attested::previous_attesters;
 use crate::get_base_reward::divisor;
 use crate::get_eligible_validator_indices::{is_attester, is_eligible};
 use crate::get_finality_delay::get_finality_delay;
@@ -23,8 +22,7 @@ use crate::numbers::zeros;
 use crate::stakes::{Stake, stake_at, stakes};
 use bc_words::{Stop, checked_add, checked_mul, checked_sub};
 use beacon_state::State;
-use committees::EpochCommittees;
-use participation::Vote;
+use participation::{Status, Vote};
 use spec_epochs::Deltas;
 use ssz_codec::Items;
 use std::alloc::Global;
@@ -42,11 +40,11 @@ fn absence_penalty(state: &State, stakes: &[Stake], index: u64) -> Result<u64, S
 }
 
 /// What a validator loses for its absence, in Gwei: nothing, where it attested to the target.
-fn absence(state: &State, stakes: &[Stake], flags: &[bool], index: u64) -> Result<u64, Stop>
+fn absence(state: &State, stakes: &[Stake], statuses: &[Status], index: u64) -> Result<u64, Stop>
     requires { stakes.now ≡ stakes_of state.now }
-    ensures { GivesExactly result (if is_among index (flagged state.now flags.now) then done 0 else absence_penalty state.now index) }
+    ensures { GivesExactly result (if is_among index (flagged state.now (flags_of votes.Target statuses.now)) then done 0 else absence_penalty state.now index) }
 {
-    if is_attester(state, stakes, flags, index) {
+    if is_attester(state, stakes, statuses, Vote::Target, index) {
         return Ok(0);
     }
     absence_penalty(state, stakes, index)
@@ -58,32 +56,32 @@ fn inactivity_penalty(
     state: &State,
     stakes: &[Stake],
     base: Result<u64, Stop>,
-    flags: &[bool],
+    statuses: &[Status],
     index: u64,
 ) -> Result<u64, Stop>
     requires stakes { stakes.now ≡ stakes_of state.now }
     requires base { GivesExactly base (get_base_reward state.now index) }
-    ensures { GivesExactly result (inactivity_penalty state.now (flagged state.now flags.now) index) }
+    ensures { GivesExactly result (inactivity_penalty state.now (flagged state.now (flags_of votes.Target statuses.now)) index) }
 {
     let whole = base?;
     let proposer = get_proposer_reward(state, base, index)?;
     let all = checked_mul(4, whole)?;
     let penalty = checked_sub(all, proposer)?;
-    let more = absence(state, stakes, flags, index)?;
+    let more = absence(state, stakes, statuses, index)?;
     checked_add(penalty, more)
 }
 
 /// Who attested to the target. The amounts are what each loses in the leak.
 #[derive(Clone, Copy)]
 pub struct Leak<'a> {
-    /// A flag a validator.
-    pub flags: &'a [bool],
+    /// How each validator attested.
+    pub statuses: &'a [Status],
 }
 
 impl<'a> Amounts for Leak<'a> {
     ghost are_of = { λ _ _. Unit {0} };
 
-    ghost amount_of = { λ v state. leak_penalty state (flagged state v.flags.now) };
+    ghost amount_of = { λ v state. leak_penalty state (flagged state (flags_of votes.Target v.statuses.now)) };
 
     #[tactic(auto, unfolding(crate::specs::inside::Leak::leak_penalty))]
     fn amount(
@@ -92,11 +90,12 @@ impl<'a> Amounts for Leak<'a> {
         stakes: &[Stake],
         base: Result<u64, Stop>,
         index: u64,
+        _balance: Option<u64>,
     ) -> Result<u64, Stop> {
         if !is_eligible(state, stakes, index) {
             return Ok(0);
         }
-        inactivity_penalty(state, stakes, base, self.flags, index)
+        inactivity_penalty(state, stakes, base, self.statuses, index)
     }
 }
 
@@ -107,31 +106,31 @@ fn penalties_of(
     state: &State,
     stakes: &[Stake],
     leak: bool,
-    flags: &[bool],
+    statuses: &[Status],
 ) -> Result<Vec<u64>, Stop>
     requires { stakes.now ≡ stakes_of state.now }
-    ensures { GivesBy (λ penalties. penalties.items) result (penalties_of state.now leak (flagged state.now flags.now)) }
+    ensures { GivesBy (λ penalties. penalties.items) result (penalties_of state.now leak (flagged state.now (flags_of votes.Target statuses.now))) }
 {
     if leak {
-        return all_amounts(alloc, state, stakes, divisor(state), &Leak { flags });
+        return all_amounts(alloc, state, stakes, divisor(state), &Leak { statuses });
     }
     let penalties = zeros(alloc, state)?;
     Ok(penalties)
 }
 
-/// Rewards and penalties where those with a flag, the slashed aside, attested to the target.
+/// Rewards and penalties by those who attested to the target, the slashed aside.
 #[tactic(auto, unfolding(crate::specs::inside::Leak::leak_deltas))]
 fn leak_deltas(
     alloc: Global,
     state: &State,
     stakes: &[Stake],
-    flags: &[bool],
+    statuses: &[Status],
 ) -> Result<Deltas, Stop>
     requires { stakes.now ≡ stakes_of state.now }
-    ensures { Gives result (leak_deltas state.now (flagged state.now flags.now)) }
+    ensures { Gives result (leak_deltas state.now (flagged state.now (flags_of votes.Target statuses.now))) }
 {
     let leak = is_in_inactivity_leak(state)?;
-    let penalties = penalties_of(alloc, state, stakes, leak, flags)?;
+    let penalties = penalties_of(alloc, state, stakes, leak, statuses)?;
     let rewards = zeros(alloc, state)?;
     Ok(Deltas {
         rewards: Items::from_vec(rewards),
@@ -140,18 +139,12 @@ fn leak_deltas(
 }
 
 /// What each validator loses while finality is late (beacon-chain.md, `get_inactivity_penalty_deltas`). Nobody gains by it.
-/// The committees are those of the previous epoch. Refused as an overflow exactly where a sum or product does not fit.
-#[tactic(auto, unfolding(participation::specs::inside::Votes::matching), using(crate::proofs::LeakDeltas::leak_deltas_are))]
-pub fn inactivity_deltas(
-    alloc: Global,
-    state: &State,
-    previous: &EpochCommittees,
-) -> Result<Deltas, Stop>
-    requires sound { IsSoundWithinEpoch state.now }
-    requires committees { previous.now ≡ epoch_committees state.now (get_previous_epoch state.now) }
+/// The statuses are those of the previous epoch. Refused as an overflow exactly where a sum or product does not fit.
+#[tactic(auto, using(crate::proofs::LeakDeltas::leak_deltas_are))]
+pub fn inactivity_deltas(alloc: Global, state: &State, statuses: &[Status]) -> Result<Deltas, Stop>
+    requires { statuses.now ≡ statuses_of state.now (get_previous_epoch state.now) }
     ensures { Gives result (get_inactivity_penalty_deltas state.now) }
 {
-    let flags = previous_attesters(alloc, state, previous, Vote::Target)?;
     let stakes = stakes(alloc, state)?;
-    leak_deltas(alloc, state, &stakes, &flags)
+    leak_deltas(alloc, state, &stakes, statuses)
 }

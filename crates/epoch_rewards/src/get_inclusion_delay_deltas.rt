@@ -3,18 +3,18 @@
 
 ghost use Rattle.std.specs.Prelude.{◌≡◌, ◌/◌, slice_index, slice_set};
 ghost use Rattle.bc_words.specs.Outcome.{GivesExactly, Moves, bind, done, checked_add, Gives, GivesBy};
+ghost use Rattle.participation.specs.declared.matching.Vote.TheVariants as votes;
 ghost use Rattle.participation.specs.inside.Marks.{flagged};
+ghost use Rattle.participation.specs.inside.Statuses.{flags_of, entries_of, statuses_of};
 ghost use Rattle.spec_epochs.specs.GetBaseReward.{get_base_reward};
 ghost use Rattle.epoch_rewards.specs.inside.Stakes.{stakes_of};
 ghost use Rattle.epoch_rewards.specs.inside.Inclusions.{entry_at, included, delayed_by, own_reward, joined_reward, all_gains, all_joined, joined_deltas};
 ghost use Rattle.spec_state.specs.Accessors.{get_previous_epoch};
-ghost use Rattle.spec_state.specs.inside.EpochCommittees.{epoch_committees};
 ghost use Rattle.spec_state.specs.Soundness.{IsSoundWithinEpoch};
 ghost use Rattle.spec_epochs.specs.GetInclusionDelayDeltas.{get_inclusion_delay_deltas};
 ghost use Rattle.epoch_rewards.specs.inside.Divisor.{divisor_of};
 
 use crate::amounts::{Amounts, all_amounts};
-use crate::attested::{previous_attesters, previous_inclusions};
 use crate::get_base_reward::{divisor, get_base_reward};
 use crate::get_eligible_validator_indices::{counted, is_attester};
 use crate::get_proposer_reward::get_proposer_reward;
@@ -22,8 +22,7 @@ use crate::numbers::{number_at, zeros};
 use crate::stakes::{Stake, stakes};
 use bc_words::{Stop, checked_add, checked_sub};
 use beacon_state::State;
-use committees::EpochCommittees;
-use participation::{Inclusion, Vote, inclusion_at};
+use participation::{Inclusion, Status, Vote, inclusion_at};
 use spec_epochs::Deltas;
 use ssz_codec::Items;
 use std::alloc::Global;
@@ -45,13 +44,13 @@ pub(crate) fn include(
     gains: &mut Vec<u64>,
     state: &State,
     base: Result<u64, Stop>,
-    entries: &[Option<Inclusion>],
+    statuses: &[Status],
     attester: u64,
 ) -> Result<(), Stop>
     requires { GivesExactly base (get_base_reward state.now attester) }
-    ensures { Moves result gains.new.items (included state.now attester (entry_at entries.now attester) gains.old.items) }
+    ensures { Moves result gains.new.items (included state.now attester (entry_at (entries_of statuses.now) attester) gains.old.items) }
 {
-    match inclusion_at(entries, attester) {
+    match inclusion_at(statuses, attester) {
         Some(inclusion) => {
             let reward = get_proposer_reward(state, base, attester)?;
             add_gain(gains, inclusion.proposer, reward)
@@ -95,28 +94,25 @@ fn own_reward(
     state: &State,
     stakes: &[Stake],
     base: Result<u64, Stop>,
-    flags: &[bool],
-    entries: &[Option<Inclusion>],
+    statuses: &[Status],
     index: u64,
 ) -> Result<u64, Stop>
     requires stakes { stakes.now ≡ stakes_of state.now }
     requires base { GivesExactly base (get_base_reward state.now index) }
-    ensures { GivesExactly result (own_reward state.now entries.now (flagged state.now flags.now) index) }
+    ensures { GivesExactly result (own_reward state.now (entries_of statuses.now) (flagged state.now (flags_of votes.Source statuses.now)) index) }
 {
-    if !is_attester(state, stakes, flags, index) {
+    if !is_attester(state, stakes, statuses, Vote::Source, index) {
         return Ok(0);
     }
-    delayed_reward(state, base, index, inclusion_at(entries, index))
+    delayed_reward(state, base, index, inclusion_at(statuses, index))
 }
 
 /// Who attested, each one's inclusion, and the gains of proposers. The amounts are what each gets as a proposer and as an
 /// attester.
 #[derive(Clone, Copy)]
 pub struct Included<'a> {
-    /// A flag a validator.
-    pub flags: &'a [bool],
-    /// An inclusion a validator, where it attested.
-    pub entries: &'a [Option<Inclusion>],
+    /// How each validator attested.
+    pub statuses: &'a [Status],
     /// What each validator gains as a proposer, in Gwei.
     pub gains: &'a [u64],
 }
@@ -124,7 +120,7 @@ pub struct Included<'a> {
 impl<'a> Amounts for Included<'a> {
     ghost are_of = { λ _ _. Unit {0} };
 
-    ghost amount_of = { λ i state. joined_reward state i.entries.now (flagged state i.flags.now) i.gains.now };
+    ghost amount_of = { λ i state. joined_reward state (entries_of i.statuses.now) (flagged state (flags_of votes.Source i.statuses.now)) i.gains.now };
 
     #[tactic(auto, unfolding(crate::specs::inside::Inclusions::joined_reward))]
     fn amount(
@@ -133,8 +129,9 @@ impl<'a> Amounts for Included<'a> {
         stakes: &[Stake],
         base: Result<u64, Stop>,
         index: u64,
+        _balance: Option<u64>,
     ) -> Result<u64, Stop> {
-        let own = own_reward(state, stakes, base, self.flags, self.entries, index)?;
+        let own = own_reward(state, stakes, base, self.statuses, index)?;
         checked_add(number_at(self.gains, index), own)
     }
 }
@@ -146,19 +143,18 @@ pub(crate) fn proposer_gains(
     state: &State,
     stakes: &[Stake],
     divisor: Result<u64, Stop>,
-    flags: &[bool],
-    entries: &[Option<Inclusion>],
+    statuses: &[Status],
 ) -> Result<Vec<u64>, Stop>
     requires stakes { stakes.now ≡ stakes_of state.now }
     requires divisor { GivesExactly divisor (divisor_of state.now) }
-    ensures { GivesBy (λ gains. gains.items) result (all_gains state.now entries.now (flagged state.now flags.now)) }
+    ensures { GivesBy (λ gains. gains.items) result (all_gains state.now (entries_of statuses.now) (flagged state.now (flags_of votes.Source statuses.now))) }
 {
     let mut gains = zeros(alloc, state)?;
     for index in 0..state.validators_len() {
-        match counted(state, stakes, flags, index) {
+        match counted(state, stakes, statuses, Vote::Source, index) {
             Some(_) => {
                 let base = get_base_reward(state, stakes, divisor, index);
-                match include(&mut gains, state, base, entries, index) {
+                match include(&mut gains, state, base, statuses, index) {
                     Ok(()) => {}
                     Err(stop) => return Err(stop),
                 }
@@ -175,35 +171,32 @@ fn inclusion_rewards(
     alloc: Global,
     state: &State,
     stakes: &[Stake],
-    flags: &[bool],
-    entries: &[Option<Inclusion>],
+    statuses: &[Status],
 ) -> Result<Vec<u64>, Stop>
     requires stakes { stakes.now ≡ stakes_of state.now }
-    ensures { GivesBy (λ rewards. rewards.items) result (all_joined state.now entries.now (flagged state.now flags.now)) }
+    ensures { GivesBy (λ rewards. rewards.items) result (all_joined state.now (entries_of statuses.now) (flagged state.now (flags_of votes.Source statuses.now))) }
 {
     let divisor = divisor(state);
-    let gains = proposer_gains(alloc, state, stakes, divisor, flags, entries)?;
+    let gains = proposer_gains(alloc, state, stakes, divisor, statuses)?;
     let included = Included {
-        flags,
-        entries,
+        statuses,
         gains: &gains,
     };
     all_amounts(alloc, state, stakes, divisor, &included)
 }
 
-/// Rewards and penalties where those with a flag, the slashed aside, attested with these inclusions.
+/// Rewards and penalties by those who attested, the slashed aside, and by their inclusions.
 #[tactic(auto, unfolding(crate::specs::inside::Inclusions::joined_deltas))]
 fn joined_deltas(
     alloc: Global,
     state: &State,
     stakes: &[Stake],
-    flags: &[bool],
-    entries: &[Option<Inclusion>],
+    statuses: &[Status],
 ) -> Result<Deltas, Stop>
     requires stakes { stakes.now ≡ stakes_of state.now }
-    ensures { Gives result (joined_deltas state.now entries.now (flagged state.now flags.now)) }
+    ensures { Gives result (joined_deltas state.now (entries_of statuses.now) (flagged state.now (flags_of votes.Source statuses.now))) }
 {
-    let rewards = inclusion_rewards(alloc, state, stakes, flags, entries)?;
+    let rewards = inclusion_rewards(alloc, state, stakes, statuses)?;
     let penalties = zeros(alloc, state)?;
     Ok(Deltas {
         rewards: Items::from_vec(rewards),
@@ -212,20 +205,14 @@ fn joined_deltas(
 }
 
 /// What each validator gains by the inclusion of the previous epoch's attestations, as a proposer and as an attester
-/// (beacon-chain.md, `get_inclusion_delay_deltas`). Nobody loses by it. The committees are those of the previous epoch.
+/// (beacon-chain.md, `get_inclusion_delay_deltas`). Nobody loses by it. The statuses are those of the previous epoch.
 /// Refused as an overflow exactly where a sum or product does not fit.
-#[tactic(auto, unfolding(participation::specs::inside::Votes::matching), using(crate::proofs::Joined::joined_are))]
-pub fn inclusion_deltas(
-    alloc: Global,
-    state: &State,
-    previous: &EpochCommittees,
-) -> Result<Deltas, Stop>
+#[tactic(auto, using(crate::proofs::Joined::joined_are))]
+pub fn inclusion_deltas(alloc: Global, state: &State, statuses: &[Status]) -> Result<Deltas, Stop>
     requires sound { IsSoundWithinEpoch state.now }
-    requires committees { previous.now ≡ epoch_committees state.now (get_previous_epoch state.now) }
+    requires statuses { statuses.now ≡ statuses_of state.now (get_previous_epoch state.now) }
     ensures { Gives result (get_inclusion_delay_deltas state.now) }
 {
-    let flags = previous_attesters(alloc, state, previous, Vote::Source)?;
-    let entries = previous_inclusions(alloc, state, previous)?;
     let stakes = stakes(alloc, state)?;
-    joined_deltas(alloc, state, &stakes, &flags, &entries)
+    joined_deltas(alloc, state, &stakes, statuses)
 }

@@ -3,30 +3,23 @@
 ghost use Rattle.std.specs.Prelude.{◌≡◌};
 ghost use Rattle.bc_words.specs.Outcome.{Gives};
 ghost use Rattle.spec_state.specs.Accessors.{get_previous_epoch};
-ghost use Rattle.spec_state.specs.inside.EpochCommittees.{epoch_committees};
-ghost use Rattle.spec_state.specs.Soundness.{IsSoundWithinEpoch};
 ghost use Rattle.spec_epochs.specs.GetTargetDeltas.{get_target_deltas};
+ghost use Rattle.participation.specs.inside.Statuses.{statuses_of};
 
 use crate::vote_deltas::vote_deltas;
 use bc_words::Stop;
 use beacon_state::State;
-use committees::EpochCommittees;
-use participation::Vote;
+use participation::{Status, Vote};
 use spec_epochs::Deltas;
 use std::alloc::Global;
 
 /// What each validator gains and loses by the target of the previous epoch's attestations (beacon-chain.md,
-/// `get_target_deltas`). The committees are those of the previous epoch. Refused as an overflow exactly where a sum or
+/// `get_target_deltas`). The statuses are those of the previous epoch. Refused as an overflow exactly where a sum or
 /// product does not fit.
 #[tactic(auto, unfolding(spec_epochs::specs::GetTargetDeltas::get_target_deltas, participation::specs::inside::Votes::matching))]
-pub fn target_deltas(
-    alloc: Global,
-    state: &State,
-    previous: &EpochCommittees,
-) -> Result<Deltas, Stop>
-    requires sound { IsSoundWithinEpoch state.now }
-    requires committees { previous.now ≡ epoch_committees state.now (get_previous_epoch state.now) }
+pub fn target_deltas(alloc: Global, state: &State, statuses: &[Status]) -> Result<Deltas, Stop>
+    requires { statuses.now ≡ statuses_of state.now (get_previous_epoch state.now) }
     ensures { Gives result (get_target_deltas state.now) }
 {
-    vote_deltas(alloc, state, previous, Vote::Target)
+    vote_deltas(alloc, state, statuses, Vote::Target)
 }

@@ -4,34 +4,28 @@
 ghost use Rattle.std.specs.Prelude.{◌≡◌};
 ghost use Rattle.bc_words.specs.Outcome.{Gives};
 ghost use Rattle.spec_state.specs.Accessors.{get_previous_epoch};
-ghost use Rattle.spec_state.specs.inside.EpochCommittees.{epoch_committees};
-ghost use Rattle.spec_state.specs.Soundness.{IsSoundWithinEpoch};
+ghost use Rattle.participation.specs.inside.Statuses.{statuses_of};
 ghost use Rattle.epoch_rewards.specs.inside.Components.{vote_deltas};
 
-use crate::attested::previous_attesters;
 use crate::get_attestation_component_deltas::get_attestation_component_deltas;
 use crate::stakes::stakes;
 use bc_words::Stop;
 use beacon_state::State;
-use committees::EpochCommittees;
-use participation::Vote;
+use participation::{Status, Vote};
 use spec_epochs::Deltas;
 use std::alloc::Global;
 
-/// What each validator gains and loses by a vote of the previous epoch's attestations. The committees are those of that
-/// epoch.
+/// What each validator gains and loses by a vote of the previous epoch's attestations. The statuses are those of that epoch.
 #[tactic(auto, using(crate::proofs::Components::component_deltas_are))]
 pub(crate) fn vote_deltas(
     alloc: Global,
     state: &State,
-    previous: &EpochCommittees,
+    statuses: &[Status],
     vote: Vote,
 ) -> Result<Deltas, Stop>
-    requires sound { IsSoundWithinEpoch state.now }
-    requires committees { previous.now ≡ epoch_committees state.now (get_previous_epoch state.now) }
+    requires { statuses.now ≡ statuses_of state.now (get_previous_epoch state.now) }
     ensures { Gives result (vote_deltas state.now vote) }
 {
-    let flags = previous_attesters(alloc, state, previous, vote)?;
     let stakes = stakes(alloc, state)?;
-    get_attestation_component_deltas(alloc, state, &stakes, &flags)
+    get_attestation_component_deltas(alloc, state, &stakes, statuses, vote)
 }

@@ -7,7 +7,7 @@ ghost use Rattle.spec_state.specs.inside.EpochCommittees.{epoch_committees};
 ghost use Rattle.spec_state.specs.Constants.{domain_beacon_attester};
 
 use crate::active_lists::are_active;
-use balance_totals::{active, committees_of_epoch, current_epoch, previous_epoch};
+use balance_totals::{active, current_epoch, previous_epoch, shared_committees};
 use bc_preset::Preset;
 use bc_words::NoMemory;
 use beacon_state::State;
@@ -88,7 +88,7 @@ impl Made {
     {
         let preset = *state.preset();
         let active = active(alloc, state, epoch)?;
-        let committees = Rc::new(alloc, committees_of_epoch(alloc, state, epoch)?)?;
+        let committees = shared_committees(alloc, state, epoch)?;
         Ok(Made {
             preset,
             seed: attester_seed(state, epoch),

@@ -1,6 +1,7 @@
 -- A kept block stands behind its parent by the step of the parent's state. Where it comes again, that step is done once more.
 use Rattle.std.proofs.Common.{◌≡◌, ◌∙◌, ◌<◌, ℕ, List, [], Option, Some, None, option_map, slice_get, length, refl, sym, ap, subst, arith}
 use Rattle.std.specs.List.{AllByRecursion}
+use Rattle.std.proofs.lemmas.Option.{same_Some, slice_get_within}
 use Rattle.bc_words.specs.Outcome.{Outcome, done, refused, limited, bind}
 use Rattle.bc_words.specs.Events.{EventOutcome, accepted, event_refused, event_limited, event_clashes, on_the_way}
 use Rattle.bc_words.specs.declared.store_stop.ClashKind.{ClashKind}
@@ -9,15 +10,20 @@ use Rattle.beacon_body.specs.Containers.{block_codec}
 use Rattle.beacon_body.specs.declared.block.BeaconBlock.{BeaconBlock}
 use Rattle.beacon_body.specs.declared.signed_block.SignedBeaconBlock.{SignedBeaconBlock}
 use Rattle.spec_state.specs.declared.plain.PlainState.{PlainState}
+use Rattle.spec_state.specs.Soundness.{IsSound}
 use Rattle.spec_transition.specs.ProcessSlots.{Stepped}
 use Rattle.spec_transition.specs.StateTransition.{IsLatest, state_transition}
 use Rattle.spec_fork_choice.specs.Clash.{clash_of}
 use Rattle.spec_fork_choice.specs.OnBlock.{BlockIn, accept_block, block_step, on_block}
 use Rattle.spec_fork_choice.specs.Store.{KeptBlock, Store, block_of}
 use Rattle.state_keeper.specs.Chain.{ChainBlock, Kept, WasStep}
+use Rattle.fork_store.specs.Arrays.{node_number}
 use Rattle.fork_store.specs.ChainStep.{CanStep, chain_step}
+use Rattle.fork_store.specs.KeptStates.{IsStepOfKept}
 use Rattle.fork_store.specs.KeptSteps.{IsStepOfParent}
 use Rattle.fork_store.specs.inside.Accepted.{check_block}
+use Rattle.fork_store.specs.inside.Entered.{IsKeptAgain, entered_behind, entered_by_step, entered_from}
+use Rattle.fork_store.specs.inside.Keepers.{IsStateBehind}
 use Rattle.fork_store.specs.Keepers.{kept_block, kept_blocks, IsKeeperOf}
 use Rattle.fork_store.specs.Stores.{IsKept}
 use Rattle.fork_store.specs.Trees.{IsTree}
@@ -66,6 +72,20 @@ entered_again store new block parent step left found_is is accepts =
     entered_by store new block.message root step (clash_of store.blocks root block.message.state_root block.message) left
     (accepted_by (check_block store block.message) step next (new, left) (ap (λ (o : Outcome Stepped). on_the_way o next) way ∙ accepts))
 
+-- the keeper's block of a number that is equal to one is kept under that number
+pub kept_again : (ks : List (ChainBlock SignedBeaconBlock)) (blocks : List KeptBlock) → kept_blocks ks ≡ blocks → (n : ℕ) (signed : SignedBeaconBlock) (block : BeaconBlock) → 0 < n → option_map (λ b. b.block) (slice_get ks n) ≡ Some signed → signed.message ≡ block
+    → IsKeptAgain blocks n block
+kept_again ks blocks is n signed block some read same = by (slice_get ks n) refl read
+  where
+    by : (held : Option (ChainBlock SignedBeaconBlock)) → slice_get ks n ≡ held → option_map (λ b. b.block) held ≡ Some signed → IsKeptAgain blocks n block
+    by None at none = absurd cc
+    by (Some held) at is_signed = record {
+      some = some;
+      kept = kept_block held;
+      there = sym (in_keeper ks blocks is n) ∙ ap (option_map kept_block) at;
+      same = ap (λ (s : SignedBeaconBlock). s.message) (same_Some held.block signed is_signed) ∙ same;
+    }
+
 module _ (store : Store) (keeper : Kept ConfigValues SignedBeaconBlock) (is : IsKeeperOf store keeper) (good : AllByRecursion IsKept store.blocks) (tree : IsTree store.blocks) where
   kept_here : (n : ℕ) (b : ChainBlock SignedBeaconBlock) → slice_get keeper.blocks n ≡ Some b → slice_get store.blocks n ≡ Some (kept_block b)
   kept_here n b there = sym (in_keeper keeper.blocks store.blocks is.blocks n) ∙ ap (λ (o : Option (ChainBlock SignedBeaconBlock)). option_map kept_block o) there
@@ -106,3 +126,29 @@ module _ (store : Store) (keeper : Kept ConfigValues SignedBeaconBlock) (is : Is
   -- of each block but that of genesis
   pub steps_of_parents : ((n : ℕ) → 0 < n → n < length keeper.blocks → WasStep (λ s x. CanStep keeper.stepper s x) (λ s x. chain_step keeper.stepper s x) keeper.blocks n) → (n : ℕ) → 0 < n → n < length store.blocks → IsStepOfParent store keeper n
   steps_of_parents were n some inside = step_of_parent n (were n some (let long = length_held keeper.blocks store.blocks is.blocks in omega (arith, inside, long)))
+
+  -- so that of a kept block that comes again needn't be made once more
+  pub made_again : ((n : ℕ) → 0 < n → n < length keeper.blocks → WasStep (λ s x. CanStep keeper.stepper s x) (λ s x. chain_step keeper.stepper s x) keeper.blocks n) → (n : ℕ) (block : SignedBeaconBlock) (state : PlainState)
+      → IsKeptAgain store.blocks n block.message → ((root : List ℕ) → Some n ≡ node_number store.blocks root → IsStateBehind store.blocks root state) → IsStepOfKept store block.message (record { state = state; entered = entered_behind store block })
+  unfolding entered_behind entered_from entered_by_step
+  made_again were n block state again at =
+      let of = steps_of_parents were n again.some (slice_get_within store.blocks n again.kept again.there) in
+      let held : again.kept ≡ of.kept = same_Some again.kept of.kept (sym again.there ∙ of.kept_there) in
+      let message : block.message ≡ of.kept.block = sym again.same ∙ ap (λ (k : KeptBlock). k.block) held in
+      let parent : block_of store.blocks block.message.parent_root ≡ Some of.parent = ap (λ (b : BeaconBlock). block_of store.blocks b.parent_root) message ∙ of.parent_found in
+      let behind = at again.kept.root (sym (number_here store.blocks tree n again.kept again.there)) in
+      let found_is : Some behind.kept ≡ Some again.kept =
+      sym behind.found ∙ sym (block_found store.blocks again.kept.root n (sym (number_here store.blocks tree n again.kept again.there))) ∙ again.there in
+      let kept : behind.kept ≡ again.kept = same_Some behind.kept again.kept found_is in
+      let entered : entered_behind store block ≡ of.step.entered =
+      ap (entered_from store.config block) parent ∙ ap entered_by_step (of.stepped block message) in
+      let state_is : state ≡ of.step.state = sym behind.same ∙ ap (λ (k : KeptBlock). k.state) (kept ∙ held) ∙ of.state_is in
+      let made : Stepped = record { state = state; entered = entered_behind store block } in
+      let step : made ≡ of.step = λ i. record { state = state_is i; entered = entered i } in
+      record {
+        parent = of.parent.state;
+        kept = record { kept = of.parent; found = parent; same = refl };
+        steps = λ signed same. of.stepped signed (same ∙ message) ∙ ap done (sym step);
+        sound = subst IsSound behind.same behind.good.sound;
+        slot = ap (λ (s : PlainState). s.slot) (sym behind.same) ∙ behind.good.slot ∙ ap (λ (k : KeptBlock). k.block.slot) kept ∙ ap (λ (b : BeaconBlock). b.slot) again.same;
+      }

@@ -1,100 +1,60 @@
--- What is weighed from a validator on: what a loop over the registry has still to add.
-use Rattle.std.proofs.Common.{◌≡◌, ℕ, suc, ◌+◌, ◌<◌, ◌≤◌, ◌^◌, true, false, cond, List, [], ◌∷◌, ◌++◌, length, drop, map, take, Some, None, slice_get, refl, sym, ap, ◌∙◌, arith}
+-- The balances of a state's validators, one at a time: what a loop over those that are left has still to do.
+use Rattle.std.proofs.Common.{◌≡◌, ℕ, suc, ◌+◌, ◌<◌, Bool, true, false, cond, List, [], ◌∷◌, ◌++◌, length, map, refl, sym, ap, ap₂, ◌∙◌, arith, append_assoc}
 use Rattle.std.specs.List.{sum_by}
-use Rattle.std.proofs.lemmas.List.{drop_all, take_more, take_all, map_push, length-map}
-use Rattle.std.proofs.lemmas.Option.{get_or_from_slice_get, slice_get_within}
+use Rattle.std.proofs.lemmas.List.{append-nil}
 use Rattle.std.proofs.lemmas.List.Sums.{sum_by-cons}
-use Rattle.spec_blocks.proofs.Each.{from_item}
 use Rattle.beacon_types.specs.declared.validator.Validator.{Validator}
 use Rattle.spec_state.specs.declared.plain.PlainState.{PlainState}
 use Rattle.spec_state.specs.Misc.{effective_balance}
 use Rattle.spec_state.specs.Predicates.{is_active_validator}
 use Rattle.spec_state.specs.Accessors.{get_current_epoch, get_active_validator_indices, indices_from}
-use Rattle.balance_totals.proofs.LookedUp.{effective_some}
 use Rattle.spec_fork_choice.specs.GetLatestAttestingBalance.{active_in}
 use Rattle.bc_words.specs.Outcome.{Outcome, done, refused, limited}
 use Rattle.bc_words.specs.declared.refusal.Refusal.{Refusal}
 use Rattle.bc_words.specs.declared.stop.Limit.{Limit}
 use Rattle.fork_store.specs.Arrays.{balance_in, balances_in, no_balances, balances_of}
-use Rattle.fork_store.specs.inside.Weights.{active_from, balance_from}
-use Rattle.fork_store.proofs.Items.{no_place, past}
 
--- ---- one validator among the active ones
+-- ---- the balances of validators, of which some are left
 
-module _ (state : PlainState) (index : ℕ) where
-  active_opens : (v : Validator) → Some v ≡ slice_get state.validators index → active_from state index ≡ cond (is_active_validator v (get_current_epoch state)) (index ∷ active_from state (index + 1)) (active_from state (index + 1))
-  unfolding active_from indices_from
-  active_opens v at =
-      ap (indices_from (λ w. is_active_validator w (get_current_epoch state)) index) (from_item state.validators index v (sym at))
-      ∙ ap (λ n. cond (is_active_validator v (get_current_epoch state)) (index ∷ indices_from (λ w. is_active_validator w (get_current_epoch state)) n (drop (index + 1) state.validators)) (indices_from (λ w. is_active_validator w (get_current_epoch state)) n (drop (index + 1) state.validators)))
-      (let e : suc index ≡ index + 1 = omega arith in e)
+module _ (epoch : ℕ) where
+  pub list_begins : (validators : List Validator) → [] ++ map (balance_in epoch) validators ≡ map (balance_in epoch) validators
+  list_begins validators = refl
 
-  pub one_active : (v : Validator) (epoch : ℕ) → Some v ≡ slice_get state.validators index → epoch ≡ get_current_epoch state → is_active_validator v epoch ≡ true → active_from state index ≡ index ∷ active_from state (index + 1)
-  one_active v epoch at now is = active_opens v at ∙ ap (λ b. cond b (index ∷ active_from state (index + 1)) (active_from state (index + 1))) (ap (is_active_validator v) (sym now) ∙ is)
+  pub list_grows : (balances : List ℕ) (v : Validator) (left : List Validator) → (balances ++ balance_in epoch v ∷ []) ++ map (balance_in epoch) left ≡ balances ++ map (balance_in epoch) (v ∷ left)
+  list_grows balances v left = append_assoc balances (balance_in epoch v ∷ []) (map (balance_in epoch) left)
 
-  pub one_inactive : (v : Validator) (epoch : ℕ) → Some v ≡ slice_get state.validators index → epoch ≡ get_current_epoch state → is_active_validator v epoch ≡ false → active_from state index ≡ active_from state (index + 1)
-  one_inactive v epoch at now is = active_opens v at ∙ ap (λ b. cond b (index ∷ active_from state (index + 1)) (active_from state (index + 1))) (ap (is_active_validator v) (sym now) ∙ is)
+  pub list_ends : (balances : List ℕ) → balances ++ map (balance_in epoch) [] ≡ balances
+  list_ends balances = append-nil balances
 
-  active_over : length state.validators ≤ index → active_from state index ≡ []
-  unfolding active_from indices_from
-  active_over over = ap (indices_from (λ w. is_active_validator w (get_current_epoch state)) index) (drop_all index state.validators over)
+  pub sum_grows : (v : Validator) (left : List Validator) → sum_by (balance_in epoch) (v ∷ left) ≡ balance_in epoch v + sum_by (balance_in epoch) left
+  sum_grows v left = sum_by-cons (balance_in epoch) v left
 
-pub no_validator : (state : PlainState) (index : ℕ) → None ≡ slice_get state.validators index → active_from state index ≡ active_from state (index + 1)
-no_validator state index e =
-    let over : length state.validators ≤ index = past state.validators index e in
-    active_over state index over ∙ sym (active_over state (index + 1) (omega arith))
+  pub sum_ends : sum_by (balance_in epoch) [] ≡ 0
+  sum_ends = refl
 
-pub balance_read : (state : PlainState) (index : ℕ) (v : Validator) → Some v ≡ slice_get state.validators index → v.effective_balance ≡ effective_balance state.validators index
-balance_read state index v at = sym (effective_some state.validators index v (at))
+  abbrev active_at : Validator → Bool
+  active_at v = is_active_validator v epoch
 
-pub ruleset choosing = (one_active, one_inactive, no_validator, balance_read)
+  -- those who aren't active add nothing, and the others what is read at their indices
+  sum_read : (read : ℕ → ℕ) (i : ℕ) (left : List Validator) → ((k : ℕ) → k < length left → read (i + k) ≡ effective_balance left k) → sum_by read (indices_from active_at i left) ≡ sum_by (balance_in epoch) left
+  unfolding indices_from effective_balance balance_in
+  sum_read read i [] same = refl
+  sum_read read i (v ∷ left) same =
+      let here : read i ≡ v.effective_balance = let at : i ≡ i + 0 = omega arith in ap read at ∙ same 0 (omega arith) in
+      let more : (k : ℕ) → k < length left → read (suc i + k) ≡ effective_balance left k = λ k less. let at : suc i + k ≡ i + suc k = omega arith in ap read at ∙ same (suc k) (omega (arith, less)) in
+      let rest = sum_read read (suc i) left more in
+      by (active_at v) here rest ∙ sym (sum_by-cons (balance_in epoch) v left)
+    where
+      by : (b : Bool) → read i ≡ v.effective_balance → sum_by read (indices_from active_at (suc i) left) ≡ sum_by (balance_in epoch) left
+          → sum_by read (cond b (i ∷ indices_from active_at (suc i) left) (indices_from active_at (suc i) left)) ≡ cond b v.effective_balance 0 + sum_by (balance_in epoch) left
+      by true here rest = sum_by-cons read i (indices_from active_at (suc i) left) ∙ ap₂ (λ (m n : ℕ). m + n) here rest
+      by false here rest = let e : sum_by (balance_in epoch) left ≡ 0 + sum_by (balance_in epoch) left = omega arith in rest ∙ e
 
--- ---- what it adds
+pub sum_is : (state : PlainState) → sum_by (balance_in (get_current_epoch state)) state.validators ≡ sum_by (effective_balance state.validators) (active_in state)
+unfolding active_in get_active_validator_indices
+sum_is state = sym (sum_read (get_current_epoch state) (effective_balance state.validators) 0 state.validators (λ k less. let at : 0 + k ≡ k = omega arith in ap (effective_balance state.validators) at))
 
-module _ (state : PlainState) (index : ℕ) where
-  pub balance_added : (balance : ℕ) → balance ≡ effective_balance state.validators index → active_from state index ≡ index ∷ active_from state (index + 1) → balance_from state index ≡ balance + balance_from state (index + 1)
-  unfolding balance_from
-  balance_added balance is one =
-      ap (sum_by (effective_balance state.validators)) one ∙ sum_by-cons (effective_balance state.validators) index (active_from state (index + 1))
-      ∙ ap (λ n. n + sum_by (effective_balance state.validators) (active_from state (index + 1))) (sym is)
-
-  pub balance_left : active_from state index ≡ active_from state (index + 1) → balance_from state index ≡ 0 + balance_from state (index + 1)
-  unfolding balance_from
-  balance_left one = let e : balance_from state index ≡ balance_from state (index + 1) = ap (sum_by (effective_balance state.validators)) one in omega (arith, e)
-
-  pub balance_over : length state.validators ≤ index → balance_from state index ≡ 0
-  unfolding balance_from
-  balance_over over = ap (sum_by (effective_balance state.validators)) (active_over state index over)
-
-  pub balance_begins : balance_from state 0 ≡ sum_by (effective_balance state.validators) (active_in state)
-  unfolding balance_from active_from active_in get_active_validator_indices
-  balance_begins = refl
-
-pub ruleset adding = (balance_added, balance_left)
-
-pub ruleset balances = (balance_begins, balance_over)
-
--- ---- the list of balances
-
-pub balance_behind : (validators : List Validator) (index epoch : ℕ) (v : Validator) → Some v ≡ slice_get validators index
-    → map (balance_in epoch) (take (index + 1) validators) ≡ map (balance_in epoch) (take index validators) ++ balance_in epoch v ∷ []
-balance_behind validators index epoch v at =
-    let inside : index < length validators = slice_get_within validators index v (sym at) in
-    ap (map (balance_in epoch)) (take_more validators index v inside ∙ ap (λ w. take index validators ++ w ∷ []) (get_or_from_slice_get validators index v v (sym at)))
-    ∙ map_push (balance_in epoch) (take index validators) v
-
-pub ruleset listing = (balance_behind, no_place)
-
-pub list_ends : (validators : List Validator) (count epoch : ℕ) → length validators ≤ count → map (balance_in epoch) (take count validators) ≡ map (balance_in epoch) validators
-list_ends validators count epoch over = ap (map (balance_in epoch)) (take_all count validators over)
-
-pub few_listed : (validators : List Validator) (count epoch limit : ℕ) → count ≡ length validators → count ≤ limit → limit ≤ 2 ^ 40 → length (map (balance_in epoch) (take count validators)) ≤ 2 ^ 40
-few_listed validators count epoch limit is most low =
-    let same = ap length (list_ends validators count epoch (omega (arith, is))) in
-    let mapped = length-map validators (balance_in epoch) in
-    omega (arith, is, most, low, same, mapped)
-
-pub ruleset listed = (list_ends, few_listed)
+pub ruleset listing = (list_begins, list_grows, list_ends, sum_grows, sum_ends, sum_is)
 
 -- ---- where there is no state
 

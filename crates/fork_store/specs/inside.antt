@@ -3,6 +3,7 @@ pub mod ArrayVotes
 pub mod Boosts
 pub mod Chains
 pub mod CheckpointStates
+pub mod Entered
 pub mod Following
 pub mod Keepers
 pub mod Kept
@@ -11,5 +12,4 @@ pub mod Openings
 pub mod Plain
 pub mod Slashings
 pub mod Votes
-pub mod Weights
 pub mod Wholes

@@ -4,9 +4,9 @@
 
 ghost use Rattle.std.specs.Prelude.{◌≡◌};
 
+use crate::made_step::Entered;
 use hash_tree::Root;
 use std::marker::Model;
-use transition::Seen;
 
 /// The roots of an accepted block and of the state behind it, and the states on which epoch processing was entered on the way.
 #[derive(Drop)]
@@ -16,7 +16,7 @@ pub struct BlockIn {
     /// The root of the state behind it.
     pub state_root: Root,
     /// The states on which epoch processing was entered, in order, which only clauses see.
-    pub entered: Seen,
+    pub entered: Entered,
 }
 
 impl Model for BlockIn {

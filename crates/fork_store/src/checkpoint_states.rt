@@ -14,13 +14,14 @@ use beacon_types::Checkpoint;
 use committees::EpochCommittees;
 use std::alloc::Global;
 use std::marker::Model;
+use std::rc::Rc;
 
 /// The state of a checkpoint with the committees of the checkpoint's epoch. Clauses see checkpoint and state.
 #[derive(Drop)]
 pub struct CheckpointState {
     checkpoint: Checkpoint,
     state: State,
-    committees: EpochCommittees,
+    committees: Rc<EpochCommittees>,
 }
 
 impl Model for CheckpointState {
@@ -32,13 +33,17 @@ impl Model for CheckpointState {
 
     ghost view = { λ kept. record { checkpoint = kept.checkpoint; state = kept.state } };
 
-    ghost invariant = { λ kept. kept.committees ≡ epoch_committees kept.state kept.checkpoint.epoch };
+    ghost invariant = { λ kept. kept.committees.value ≡ epoch_committees kept.state kept.checkpoint.epoch };
 }
 
 impl CheckpointState {
     /// The state of a checkpoint with these committees.
-    pub fn new(checkpoint: Checkpoint, state: State, committees: EpochCommittees) -> CheckpointState
-        requires { committees ≡ epoch_committees state checkpoint.epoch }
+    pub fn new(
+        checkpoint: Checkpoint,
+        state: State,
+        committees: Rc<EpochCommittees>,
+    ) -> CheckpointState
+        requires { committees.value ≡ epoch_committees state checkpoint.epoch }
         ensures { result ≡ record { checkpoint = checkpoint; state = state } }
     {
         CheckpointState {

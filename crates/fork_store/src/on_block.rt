@@ -35,9 +35,11 @@ use crate::follow::{follow, told_of};
 use crate::get_ancestor::ancestor_of;
 use crate::kept_blocks::node_number;
 use crate::kept_state::kept_state;
+use crate::made_step::MadeStep;
 use crate::ready_balances::{ReadyBalances, balances_of};
 use crate::settle::{boost, facts_of, justify, may_move};
 use crate::slots::{current_slot, start_slot};
+use crate::step_again::step_again;
 use crate::store::Store;
 use crate::store_fields::StoreFields;
 use crate::store_target_checkpoint_state::keep_checkpoint_state;
@@ -50,7 +52,7 @@ use hash_tree::Root;
 use state_keeper::Keeper;
 use std::alloc::Global;
 use transition::state_transition::visit_step;
-use transition::{Seen, Step, Visitor, Watched};
+use transition::{Seen, Visitor, Watched};
 
 /// The checks of a block whose parent is the kept block of this number.
 #[tactic(auto, unfolding(crate::specs::inside::Accepted::check_block))]
@@ -86,7 +88,7 @@ fn step_from<V: Visitor>(
     parent: &State,
     block: &SignedBeaconBlock,
     visitor: &mut Watched<V>,
-) -> Result<Step, Stop>
+) -> Result<MadeStep, Stop>
     requires chained { IsChained store.now }
     requires parent { IsStateBehind store.now.blocks block.now.message.parent_root parent.now }
     requires low { block.now.message.slot < 2 ^ 64 }
@@ -101,7 +103,7 @@ fn step_from<V: Visitor>(
 {
     store.is_sound();
     let step = visit_step(alloc, parent, block, store.config(), visitor)?;
-    Ok(step)
+    Ok(MadeStep::of(step))
 }
 
 /// The number of a block's parent. Refused where it isn't kept.
@@ -128,7 +130,7 @@ fn block_step<V: Visitor>(
     parent: u32,
     block: &SignedBeaconBlock,
     visitor: &mut Watched<V>,
-) -> Result<Step, Stop>
+) -> Result<MadeStep, Stop>
     requires number { Some parent ≡ node_number store.now.blocks block.now.message.parent_root }
     requires nodes { AreNodesOf store.now.blocks array.now.nodes }
     requires chained { IsChained store.now }
@@ -397,7 +399,7 @@ pub fn accept_unless(
     parent: u32,
     block: &SignedBeaconBlock,
     root: Root,
-    step: Step,
+    step: MadeStep,
 ) -> Result<BlockIn, StoreStop>
     requires number { Some parent ≡ node_number store.old.blocks block.now.message.parent_root }
     requires parts { AreParts store.old array.old keeper.old ready.old }
@@ -419,7 +421,7 @@ pub fn accept_unless(
     match clash_of(store.blocks(), keeper, root, &block.message) {
         Some(kind) => Err(StoreStop::Clash(kind)),
         None => {
-            let Step { state, entered } = step;
+            let MadeStep { state, entered } = step;
             let facts = facts_of(&state);
             keep_justified(alloc, store, keeper, &state, facts)?;
             accept(
@@ -501,7 +503,8 @@ impl Store {
     ///
     /// Refused, in this order: as `ParentUnknown`, `FutureBlock`, `BeforeFinalized`, `NotOnFinalized`, and as the state
     /// transition is. Limited as that is too. A clash comes last, where the block's root or state root is zero or another block
-    /// of its root is kept. Where the justified checkpoint stays, the array is given no balances.
+    /// of its root is kept. Where the justified checkpoint stays, the array is given no balances. The state transition isn't run once
+    /// more for a kept block that comes again among the next 64 kept ones behind its parent.
     pub fn on_block(
         &mut self,
         alloc: Global,
@@ -512,7 +515,12 @@ impl Store {
         ensures balances_set_stays { self.new.plain.justified_checkpoint ≡ self.old.plain.justified_checkpoint → self.new.array.balances_set ≡ self.old.array.balances_set }
         ensures stays { IfErr result (λ _. StoreStays self.old self.new) }
     {
-        let mut visitor = Watched::new(Seen::new());
-        self.visit_block(alloc, block, &mut visitor)
+        match step_again(&self.fields, &mut self.keeper, block)? {
+            Some(step) => self.on_made_block(alloc, block, step),
+            None => {
+                let mut visitor = Watched::new(Seen::new());
+                self.visit_block(alloc, block, &mut visitor)
+            }
+        }
     }
 }

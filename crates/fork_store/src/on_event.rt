@@ -130,6 +130,40 @@ fn handle_block<V: Visitor>(
     }
 }
 
+/// Takes a signed block.
+#[tactic(auto, unfolding(spec_fork_choice::specs::OnEvent::handle_block), using(crate::proofs::Events::blocks))]
+fn take_signed_block(
+    alloc: Global,
+    store: &mut Store,
+    block: &SignedBeaconBlock,
+) -> Result<Accepted, StoreStop>
+    requires few { length store.old.plain.blocks < 2 ^ 32 - 1 }
+    ensures exact { AcceptsBy accepted_of result store.old.plain store.new.plain (handle_block store.old.plain (Some block.now)) }
+    ensures balances_set_stays { store.new.plain.justified_checkpoint ≡ store.old.plain.justified_checkpoint → store.new.array.balances_set ≡ store.old.array.balances_set }
+    ensures stays { IfErr result (λ _. StoreStays store.old store.new) }
+{
+    Ok(Accepted::Block(store.on_block(alloc, block)?))
+}
+
+/// Takes a signed block, whose payload is its writing.
+#[tactic(auto, unfolding(spec_fork_choice::specs::OnEvent::handle_block), using(crate::proofs::StoreStays::unchanged))]
+fn handle_signed_block(
+    alloc: Global,
+    store: &mut Store,
+    payload: &[u8],
+) -> Result<Accepted, StoreStop>
+    requires few { length store.old.plain.blocks < 2 ^ 32 - 1 }
+    ensures exact { AcceptsBy accepted_of result store.old.plain store.new.plain (handle_block store.old.plain (signed_block_codec.deserialize payload.now)) }
+    ensures balances_set_stays { store.new.plain.justified_checkpoint ≡ store.old.plain.justified_checkpoint → store.new.array.balances_set ≡ store.old.array.balances_set }
+    ensures stays { IfErr result (λ _. StoreStays store.old store.new) }
+{
+    match SignedBeaconBlock::read(alloc, payload) {
+        Ok(block) => take_signed_block(alloc, store, &block),
+        Err(SszFault::NotAWriting) => Err(StoreStop::Refused(Refusal::Malformed)),
+        Err(SszFault::NoMemory) => Err(StoreStop::NoMemory),
+    }
+}
+
 /// Takes an attestation from the wire or from a block.
 #[tactic(auto, using(crate::proofs::Events::voting))]
 fn take_attestation(
@@ -255,11 +289,13 @@ impl Store {
         self.visit_kind(alloc, EventKind::of(kind), payload, visitor)
     }
 
-    /// Takes an event of a kind. The block of an accepted block event is answered, and nothing for the others.
+    /// Takes an event of a kind. The block of an accepted block event is answered, and nothing for the others. A kept block that comes
+    /// again is not run again, as `on_block` says.
     ///
     /// Refused as `Malformed` where the payload isn't the writing of such an event, and refused, limited and clashing as its
     /// handler is. After a stop all is as before but for room that was made. Where the justified checkpoint stays, the array is given no
     /// balances.
+    #[tactic(auto, unfolding(spec_fork_choice::specs::OnEvent::on_event, crate::specs::Events::number_of_kind))]
     pub fn take_event(
         &mut self,
         alloc: Global,
@@ -271,8 +307,10 @@ impl Store {
         ensures balances_set_stays { self.new.plain.justified_checkpoint ≡ self.old.plain.justified_checkpoint → self.new.array.balances_set ≡ self.old.array.balances_set }
         ensures stays { IfErr result (λ _. StoreStays self.old self.new) }
     {
-        let mut visitor = Watched::new(Seen::new());
-        self.visit_kind(alloc, kind, payload, &mut visitor)
+        match kind {
+            EventKind::SignedBlock => handle_signed_block(alloc, self, payload),
+            _ => self.visit_kind(alloc, kind, payload, &mut Watched::new(Seen::new())),
+        }
     }
 
     /// Takes an event by the number of its kind in a record, 1 to 5, as `take_event` does.

@@ -2,13 +2,12 @@
 //!
 //! They come from the state of a checkpoint, and go to the array of nodes once that checkpoint is the justified one.
 
-ghost use Rattle.std.specs.Prelude.{◌≡◌, ◌+◌, ◌<◌, ◌≤◌, ◌^◌, ◌++◌, ◌∷◌, [], map, take, length, IfOk};
+ghost use Rattle.std.specs.Prelude.{◌≡◌, ◌<◌, ◌≤◌, ◌^◌, map, length, IfOk};
 ghost use Rattle.std.specs.List.{sum_by};
 ghost use Rattle.spec_state.specs.Accessors.{get_current_epoch};
 ghost use Rattle.spec_state.specs.Misc.{effective_balance};
 ghost use Rattle.spec_fork_choice.specs.GetLatestAttestingBalance.{active_in};
 ghost use Rattle.fork_store.specs.Arrays.{balance_in, balances_in, no_balances, balances_of};
-ghost use Rattle.fork_store.specs.inside.Weights.{balance_from, IsBalanceAt};
 ghost use Rattle.block_array.specs.Calls.{with_balances};
 ghost use Rattle.spec_fork_choice.specs.Slots.{start_slot_of};
 ghost use Rattle.spec_fork_choice.specs.StoreTargetCheckpointState.{store_target_checkpoint_state};
@@ -80,75 +79,25 @@ fn balance_in(validator: &Validator, epoch: u64) -> u64
     }
 }
 
-/// The balance behind those of the validators below one.
+/// The balances of a state's validators, in Gwei, and the effective balance of the active ones.
 #[tactic(auto, using(crate::proofs::Weights::listing))]
-fn next_balance(state: &State, epoch: u64, index: u64) -> u64
-    requires { index < length state.now.validators }
-    ensures { map (balance_in epoch) (take (index + 1) state.now.validators) ≡ map (balance_in epoch) (take index state.now.validators) ++ result ∷ [] }
-{
-    match state.validators_at(index) {
-        Some(validator) => balance_in(validator, epoch),
-        None => unreachable!(),
-    }
-}
-
-/// The balances of a state's validators, in Gwei.
-#[tactic(auto, using(crate::proofs::Weights::listed))]
-fn list_of(alloc: Global, state: &State) -> Result<Vec<u64>, NoMemory>
-    ensures exact { IfOk result (λ list. list.items ≡ map (balance_in (get_current_epoch state.now)) state.now.validators) }
-    ensures few { IfOk result (λ list. length list.items ≤ 2 ^ 40) }
+fn list_of(alloc: Global, state: &State) -> Result<(Vec<u64>, u128), NoMemory>
+    ensures exact { IfOk result (λ made. made.0.items ≡ map (balance_in (get_current_epoch state.now)) state.now.validators) }
+    ensures few { IfOk result (λ made. length made.0.items ≤ 2 ^ 40) }
+    ensures sum { IfOk result (λ made. made.1 ≡ sum_by (effective_balance state.now.validators) (active_in state.now)) }
+    ensures low { IfOk result (λ made. made.1 ≤ 2 ^ 104) }
 {
     let epoch = current_epoch(state);
     state.preset().bounds();
+    let _count = state.validators_len();
     let mut list = Vec::new(alloc);
-    for index in 0..state.validators_len() {
-        list.push(next_balance(state, epoch, index))?;
-    }
-    Ok(list)
-}
-
-/// The effective balance of a validator, in Gwei, where it is active in the state.
-#[tactic(auto, using(crate::proofs::Weights::choosing))]
-fn active_balance(state: &State, epoch: u64, index: u64) -> Option<u64>
-    requires { epoch ≡ get_current_epoch state.now }
-    ensures { IsBalanceAt state.now index result }
-{
-    match state.validators_at(index) {
-        Some(validator) => {
-            if !is_active_validator(validator, epoch) {
-                return None;
-            }
-            Some(validator.effective_balance)
-        }
-        None => None,
-    }
-}
-
-/// What a validator adds to the balance of the active ones, in Gwei.
-#[tactic(auto, using(crate::proofs::Weights::adding))]
-fn balance_of(state: &State, epoch: u64, index: u64) -> u64
-    requires { epoch ≡ get_current_epoch state.now }
-    ensures { balance_from state.now index ≡ result + balance_from state.now (index + 1) }
-{
-    match active_balance(state, epoch, index) {
-        Some(balance) => balance,
-        None => 0,
-    }
-}
-
-/// The effective balance of the active validators, in Gwei.
-#[tactic(auto, using(crate::proofs::Weights::balances))]
-fn active_total(state: &State) -> u128
-    ensures exact { result ≡ sum_by (effective_balance state.now.validators) (active_in state.now) }
-    ensures low { result ≤ 2 ^ 104 }
-{
-    let epoch = current_epoch(state);
-    state.preset().bounds();
     let mut sum: u128 = 0;
-    for index in 0..state.validators_len() {
-        sum += u128::from(balance_of(state, epoch, index));
+    for validator in state.validator_list().iter() {
+        let balance = balance_in(validator, epoch);
+        list.push(balance)?;
+        sum += u128::from(balance);
     }
-    sum
+    Ok((list, sum))
 }
 
 /// The balances of a state.
@@ -158,8 +107,8 @@ pub fn balances_in(alloc: Global, state: &State) -> Result<ReadyBalances, NoMemo
 {
     let preset = state.preset();
     preset.bounds();
-    let list = list_of(alloc, state)?;
-    let total = u128::from(preset.effective_balance_increment).max(active_total(state));
+    let (list, sum) = list_of(alloc, state)?;
+    let total = u128::from(preset.effective_balance_increment).max(sum);
     Ok(ReadyBalances {
         list,
         count: count_active(state, current_epoch(state)),

@@ -23,6 +23,7 @@ ghost use Rattle.fork_store.specs.inside.Wholes.{AreParts};
 
 use crate::block_in::BlockIn;
 use crate::chain_stepper::ChainStepper;
+use crate::made_step::MadeStep;
 use crate::on_block::{accept_unless, check_block, parent_number};
 use crate::on_event::Accepted;
 use crate::ready_balances::ReadyBalances;
@@ -44,8 +45,8 @@ fn checked_step(
     array: &BlockArray,
     parent: u32,
     block: &SignedBeaconBlock,
-    step: Step,
-) -> Result<Step, Stop>
+    step: MadeStep,
+) -> Result<MadeStep, Stop>
     requires number { Some parent ≡ node_number store.now.blocks block.now.message.parent_root }
     requires nodes { AreNodesOf store.now.blocks array.now.nodes }
     requires chained { IsChained store.now }
@@ -73,7 +74,7 @@ fn on_stepped_block(
     array: &mut BlockArray,
     ready: &mut Option<ReadyBalances>,
     block: &SignedBeaconBlock,
-    step: Step,
+    step: MadeStep,
 ) -> Result<BlockIn, StoreStop>
     requires parts { AreParts store.old array.old keeper.old ready.old }
     requires few { length store.old.blocks < 2 ^ 32 - 1 }
@@ -102,6 +103,23 @@ impl Store {
         alloc: Global,
         block: &SignedBeaconBlock,
         step: Step,
+    ) -> Result<BlockIn, StoreStop>
+        requires few { length self.old.plain.blocks < 2 ^ 32 - 1 }
+        requires made { IsStepOfKept self.old.plain block.now.message step }
+        ensures exact { Accepts result self.old.plain self.new.plain (on_block self.old.plain block.now) }
+        ensures kept { is_kept self.old.plain.blocks (header_root_of step.state) ≡ false → IfOk result (λ _. KeepsState self.new.plain (header_root_of step.state) step.state) }
+        ensures balances_set_stays { self.new.plain.justified_checkpoint ≡ self.old.plain.justified_checkpoint → self.new.array.balances_set ≡ self.old.array.balances_set }
+        ensures stays { IfErr result (λ _. StoreStays self.old self.new) }
+    {
+        self.on_made_block(alloc, block, MadeStep::of(step))
+    }
+
+    /// The same with a step that was made now or when the block was kept.
+    pub(crate) fn on_made_block(
+        &mut self,
+        alloc: Global,
+        block: &SignedBeaconBlock,
+        step: MadeStep,
     ) -> Result<BlockIn, StoreStop>
         requires few { length self.old.plain.blocks < 2 ^ 32 - 1 }
         requires made { IsStepOfKept self.old.plain block.now.message step }

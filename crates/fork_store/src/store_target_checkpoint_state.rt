@@ -1,8 +1,9 @@
 //! The state of a checkpoint (fork-choice.md, "store_target_checkpoint_state"), computed where it isn't kept yet.
 
-ghost use Rattle.std.specs.Prelude.{◌≡◌, ◌<◌, ◌^◌, IfOk};
+ghost use Rattle.std.specs.Prelude.{◌≡◌, ◌<◌, ◌≤◌, ◌^◌, IfOk};
 ghost use Rattle.bc_words.specs.Outcome.{Gives, GivesBy};
 ghost use Rattle.spec_state.specs.Soundness.{IsSound};
+ghost use Rattle.spec_state.specs.inside.EpochCommittees.{epoch_committees};
 ghost use Rattle.spec_fork_choice.specs.Slots.{start_slot_of};
 ghost use Rattle.spec_fork_choice.specs.StoreTargetCheckpointState.{store_target_checkpoint_state};
 ghost use Rattle.fork_store.specs.inside.CheckpointStates.{IsStateOf};
@@ -15,12 +16,14 @@ use crate::kept_state::kept_state;
 use crate::slots::start_slot;
 use crate::state_at::state_at;
 use crate::store_fields::StoreFields;
-use balance_totals::committees_of_epoch;
+use balance_totals::{kept_committees, note_total};
 use bc_words::{NoMemory, Refusal, Stop};
 use beacon_state::State;
 use beacon_types::Checkpoint;
+use committees::EpochCommittees;
 use state_keeper::Keeper;
 use std::alloc::Global;
+use std::rc::Rc;
 
 /// The state of a checkpoint whose epoch begins at a slot of 64 bits, made anew: that of its root, taken on to the first slot of
 /// its epoch. The keeper is as before.
@@ -68,6 +71,21 @@ pub(crate) fn store_target_checkpoint_state(
     }
 }
 
+/// The committees of an epoch, which is at most 2^61. The state keeps them, and the balance of those who are active at it.
+fn lent_committees(
+    alloc: Global,
+    state: &mut State,
+    epoch: u64,
+) -> Result<Rc<EpochCommittees>, NoMemory>
+    requires { epoch ≤ 2 ^ 61 }
+    ensures same { state.new ≡ state.old }
+    ensures committees { IfOk result (λ committees. committees.value ≡ epoch_committees state.old epoch) }
+{
+    let committees = kept_committees(alloc, state, epoch)?;
+    note_total(state, epoch);
+    Ok(committees)
+}
+
 /// The state of such a checkpoint, made anew, with the committees of its epoch. The keeper is as before.
 #[tactic(auto, using(crate::proofs::CheckpointStates::epoch_is_low))]
 pub(crate) fn checkpoint_state_anew(
@@ -84,8 +102,8 @@ pub(crate) fn checkpoint_state_anew(
     ensures same { keeper.new ≡ keeper.old }
 {
     store.config().preset().bounds();
-    let state = state_anew(alloc, store, keeper, target)?;
-    let committees = committees_of_epoch(alloc, &state, target.epoch)?;
+    let mut state = state_anew(alloc, store, keeper, target)?;
+    let committees = lent_committees(alloc, &mut state, target.epoch)?;
     Ok(CheckpointState::new(target, state, committees))
 }
 

@@ -4,3 +4,4 @@ pub mod Depths
 pub mod Halves
 pub mod Zeros
 pub mod Layers
+pub mod Filled

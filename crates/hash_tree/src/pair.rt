@@ -7,17 +7,13 @@ ghost use Rattle.hash_tree.specs.Merkle.{hash, padded_chunk};
 ghost use Rattle.hash_tree.specs.Merkle.{mix_in_length as mixed_in};
 
 use crate::Root;
-use sha2::{Digest, Sha256};
 
 /// The hash of two nodes that stand side by side.
 #[tactic(auto, unfolding(crate::specs::Merkle::hash))]
 pub fn hash_pair(a: &Root, b: &Root) -> Root
     ensures { result ≡ hash (a.now ++ b.now) }
 {
-    let mut hasher = Sha256::new();
-    hasher.update(a);
-    hasher.update(b);
-    hasher.finalize()
+    pair_lanes::hash_pair(a, b)
 }
 
 /// The chunk of at most 32 bytes: the bytes, filled up with zeros (simple-serialize.md, "pack").

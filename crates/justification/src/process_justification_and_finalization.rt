@@ -3,9 +3,8 @@
 ghost use Rattle.std.specs.Prelude.{◌≡◌};
 ghost use Rattle.bc_words.specs.Outcome.{Changes, Gives};
 ghost use Rattle.spec_state.specs.Accessors.{get_current_epoch, get_previous_epoch, get_block_root};
-ghost use Rattle.spec_state.specs.inside.EpochCommittees.{epoch_committees};
 ghost use Rattle.spec_state.specs.Soundness.{IsSound};
-ghost use Rattle.spec_epochs.specs.Helpers.{get_matching_target_attestations, get_attesting_balance};
+ghost use Rattle.participation.specs.inside.Statuses.{statuses_of};
 ghost use Rattle.spec_epochs.specs.Weigh.{weigh};
 ghost use Rattle.spec_epochs.specs.WeighJustificationAndFinalization.{justification_of, with_justification, weigh_justification_and_finalization};
 ghost use Rattle.spec_epochs.specs.ProcessJustificationAndFinalization.{process_justification_and_finalization};
@@ -14,10 +13,8 @@ use crate::weigh_justification_and_finalization::weigh;
 use balance_totals::{block_root, current_epoch, previous_epoch, total_active};
 use bc_words::Stop;
 use beacon_state::State;
-use committees::EpochCommittees;
-use participation::{Vote, vote_balance};
+use participation::{Status, Vote, vote_balance};
 use spec_epochs::Justification;
-use std::alloc::Global;
 
 /// The bits and checkpoints of a state.
 #[tactic(auto, unfolding(spec_epochs::specs::WeighJustificationAndFinalization::justification_of))]
@@ -66,47 +63,20 @@ fn weigh_of(state: &State, total: u64, previous: u64, current: u64) -> Result<Ju
     Ok(weighed)
 }
 
-/// The balance of those who voted for the first block of the previous epoch, in Gwei.
-#[tactic(auto, unfolding(participation::specs::inside::Votes::matching), using(participation::proofs::Sound::previous_is_earlier, participation::proofs::Sound::sound_previous))]
-fn previous_balance(alloc: Global, state: &State, committees: &EpochCommittees) -> Result<u64, Stop>
-    requires sound { IsSound state.now }
-    requires committees { committees.now ≡ epoch_committees state.now (get_previous_epoch state.now) }
-    ensures { Gives result (get_attesting_balance state.now (get_matching_target_attestations state.now (get_previous_epoch state.now))) }
-{
-    vote_balance(
-        alloc,
-        state,
-        committees,
-        previous_epoch(state),
-        Vote::Target,
-    )
-}
-
-/// The balance of those who voted for the first block of the current epoch, in Gwei.
-#[tactic(auto, unfolding(participation::specs::inside::Votes::matching), using(participation::proofs::Sound::sound_current))]
-fn current_balance(alloc: Global, state: &State, committees: &EpochCommittees) -> Result<u64, Stop>
-    requires sound { IsSound state.now }
-    requires committees { committees.now ≡ epoch_committees state.now (get_current_epoch state.now) }
-    ensures { Gives result (get_attesting_balance state.now (get_matching_target_attestations state.now (get_current_epoch state.now))) }
-{
-    vote_balance(alloc, state, committees, current_epoch(state), Vote::Target)
-}
-
 /// Justifies and makes final what the votes of the previous and of the current epoch are enough for (beacon-chain.md,
-/// `process_justification_and_finalization`). Nothing happens in the first two epochs. The committees are those of the
-/// state's previous and current epoch.
+/// `process_justification_and_finalization`). Nothing happens in the first two epochs. The statuses are those of the state's
+/// previous and current epoch.
 ///
 /// Refused as an overflow exactly where a sum or product of balances does not fit; the state is then as before.
-#[tactic(auto, unfolding(spec_epochs::specs::ProcessJustificationAndFinalization::process_justification_and_finalization, spec_epochs::specs::WeighJustificationAndFinalization::weigh_justification_and_finalization))]
+#[tactic(auto, unfolding(spec_epochs::specs::ProcessJustificationAndFinalization::process_justification_and_finalization, spec_epochs::specs::WeighJustificationAndFinalization::weigh_justification_and_finalization), using(crate::proofs::Targets::targets_are))]
 pub fn process_justification(
-    alloc: Global,
     state: &mut State,
-    previous: &EpochCommittees,
-    current: &EpochCommittees,
+    previous: &[Status],
+    current: &[Status],
 ) -> Result<(), Stop>
     requires sound { IsSound state.old }
-    requires previous { previous.now ≡ epoch_committees state.old (get_previous_epoch state.old) }
-    requires current { current.now ≡ epoch_committees state.old (get_current_epoch state.old) }
+    requires previous { previous.now ≡ statuses_of state.old (get_previous_epoch state.old) }
+    requires current { current.now ≡ statuses_of state.old (get_current_epoch state.old) }
     ensures { Changes result state.old state.new (process_justification_and_finalization state.old) }
 {
     let epoch = current_epoch(state);
@@ -114,8 +84,8 @@ pub fn process_justification(
         return Ok(());
     }
     let total = total_active(state, epoch)?;
-    let before = previous_balance(alloc, state, previous)?;
-    let now = current_balance(alloc, state, current)?;
+    let before = vote_balance(state, previous, Vote::Target)?;
+    let now = vote_balance(state, current, Vote::Target)?;
     let weighed = weigh_of(state, total, before, now)?;
     set_justification(state, weighed);
     Ok(())

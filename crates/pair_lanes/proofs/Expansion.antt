@@ -1,4 +1,4 @@
--- The words of eight lanes' schedules, from the words before them.
+-- The words of the lanes' schedules, from the words before them.
 use Rattle.std.proofs.Common.{◌≡◌, ℕ, ◌-◌, ◌<◌, ◌≤◌, List, [], slice_index, sym, ◌∙◌, arith}
 use Rattle.std.proofs.Math.ListN.{get_or-map}
 use Rattle.sha2.specs.Sha256.{add32, next_word, schedule, small_sigma0, small_sigma1}

@@ -5,6 +5,8 @@ pub mod Padding
 pub mod Hashes
 pub mod Layers
 pub mod Majority
+pub mod Choice
 pub mod Maps
 pub mod SourceBlocks
 pub mod Rotations
+pub mod SumOrder

@@ -21,15 +21,15 @@ first_is b (suc n) k less = elim (cases_lt k n) [
   | inr above ↦ let last : k ≡ n = omega arith in rw last (get_or_push (first_words b n) (word_at b (4 * n)) 0 n (first_count b n))
 ]
 
-count : (b : List ℕ) (n : ℕ) → length (schedule b n) ≡ n + 16
+pub schedule_length : (b : List ℕ) (n : ℕ) → length (schedule b n) ≡ n + 16
 unfolding schedule
-count b zero = first_count b 16
-count b (suc n) = length_push (schedule b n) (next_word (schedule b n) (n + 16)) ∙ omega (arith, count b n)
+schedule_length b zero = first_count b 16
+schedule_length b (suc n) = length_push (schedule b n) (next_word (schedule b n) (n + 16)) ∙ omega (arith, schedule_length b n)
 
 pub block_word : (b : List ℕ) (n k : ℕ) → k < 16 → slice_index (schedule b n) k ≡ word_at b (4 * k)
 unfolding schedule
 block_word b zero k less = first_is b 16 k less
-block_word b (suc n) k less = before_last (schedule b n) (next_word (schedule b n) (n + 16)) k (n + 16) (count b n) (omega arith) ∙ block_word b n k less
+block_word b (suc n) k less = before_last (schedule b n) (next_word (schedule b n) (n + 16)) k (n + 16) (schedule_length b n) (omega arith) ∙ block_word b n k less
 
 -- the next word reads four words before it
 pub same_next : (xs ys : List ℕ) (t : ℕ) → slice_index xs (t - 2) ≡ slice_index ys (t - 2) → slice_index xs (t - 7) ≡ slice_index ys (t - 7) → slice_index xs (t - 15) ≡ slice_index ys (t - 15) → slice_index xs (t - 16) ≡ slice_index ys (t - 16) → next_word xs t ≡ next_word ys t
@@ -46,10 +46,10 @@ further_word b (suc n) t low high =
     let x : ℕ = next_word (schedule b n) (n + 16) in
     elim (cases_lt t (n + 16)) [
       | inl below ↦
-          before_last (schedule b n) x t (n + 16) (count b n) below ∙ (further_word b n t low below ∙ sym (same_before_last (schedule b n) x t (n + 16) (count b n) low (omega arith)))
+          before_last (schedule b n) x t (n + 16) (schedule_length b n) below ∙ (further_word b n t low below ∙ sym (same_before_last (schedule b n) x t (n + 16) (schedule_length b n) low (omega arith)))
       | inr above ↦
           let last : t ≡ n + 16 = omega arith in
-          rw last (get_or_push (schedule b n) x 0 (n + 16) (count b n) ∙ sym (same_before_last (schedule b n) x (n + 16) (n + 16) (count b n) (omega arith) (omega arith)))
+          rw last (get_or_push (schedule b n) x 0 (n + 16) (schedule_length b n) ∙ sym (same_before_last (schedule b n) x (n + 16) (n + 16) (schedule_length b n) (omega arith) (omega arith)))
     ]
 
 -- one more round, its parts given by equations

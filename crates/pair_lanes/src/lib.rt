@@ -5,12 +5,14 @@
 #![tactic(auto)]
 
 mod constants;
-mod eight;
 mod pairs;
 mod rounds;
+mod single;
 mod sources;
+mod vectors;
 mod words;
 
 pub use pairs::{hash_layer, hash_pairs};
 pub use rounds::schedule_room;
+pub use single::hash_pair;
 pub use sources::Seed;

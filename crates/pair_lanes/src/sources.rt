@@ -8,10 +8,11 @@ ghost use Rattle.std.specs.Int.{w32, to_le_bytes};
 ghost use Rattle.sha2.specs.Sha256.{add32, schedule, sha256, small_sigma0, word_at};
 ghost use Rattle.pair_lanes.specs.inside.Lanes.{Ahead, Common, lane_at, source_block, variables};
 
-use crate::eight::{digest, turned};
 use crate::rounds::{
     compress_rest, eight_steps, expand, expand_from, expand_near, far_sum, initial, schedule_room,
+    spread,
 };
+use crate::vectors::{digest, turned};
 use std::marker::Model;
 use std::simd::u32x8;
 
@@ -215,23 +216,6 @@ fn fill_sources(
     } else {
         fill(seed, round, first, w);
     }
-}
-
-/// The same variables in each lane.
-#[inline(always)]
-fn spread(v: &[u32; 8]) -> [u32x8; 8]
-    ensures { (j : ℕ) → j < 8 → variables j result ≡ v.now }
-{
-    [
-        u32x8::splat(v[0]),
-        u32x8::splat(v[1]),
-        u32x8::splat(v[2]),
-        u32x8::splat(v[3]),
-        u32x8::splat(v[4]),
-        u32x8::splat(v[5]),
-        u32x8::splat(v[6]),
-        u32x8::splat(v[7]),
-    ]
 }
 
 /// A seed, with the variables behind the first eight rounds of its sources' blocks, and with the words of their schedules

@@ -1,8 +1,11 @@
 pub mod Members
 pub mod Places
+pub mod Rights
 pub mod Flags
 pub mod Weighed
 pub mod WeighedLeft
 pub mod Sound
 pub mod Entries
+pub mod Statuses
+pub mod Columns
 pub mod Listed

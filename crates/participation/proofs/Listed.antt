@@ -2,12 +2,6 @@
 use Rattle.std.proofs.Common.{◌≡◌, ℕ, ◌+◌, ◌≤◌, Bool, true, false, cond, List, [], ◌∷◌, ◌++◌, length, drop, Some, None, slice_get, sym, ap, ◌∙◌, append_assoc}
 use Rattle.std.specs.Prelude.{filter}
 use Rattle.std.proofs.lemmas.List.{append-nil, drop_all}
-use Rattle.spec_state.specs.declared.plain.PlainState.{PlainState}
-use Rattle.spec_state.specs.Accessors.{get_block_root}
-use Rattle.spec_epochs.specs.Helpers.{get_matching_source_attestations}
-use Rattle.participation.specs.declared.matching.Vote.{Vote}
-use Rattle.participation.specs.inside.Votes.{counts_for, matching, chosen}
-use Rattle.participation.proofs.Flags.{chosen_are}
 use Rattle.participation.proofs.Places.{drop_at_item, drop_at_nothing}
 
 module _ {A : Type 0} (is_right : A → Bool) (items : List A) (i : ℕ) where
@@ -29,9 +23,3 @@ module _ {A : Type 0} (is_right : A → Bool) (items : List A) (i : ℕ) where
   right_end found over = ap (λ xs. found ++ filter is_right xs) (drop_all i items over) ∙ append-nil found
 
 pub ruleset listing = (right_one, wrong_one, no_one)
-
--- all of them are the published list
-pub right_are : (state : PlainState) (vote : Vote) (epoch : ℕ) (root : List ℕ) → root ≡ get_block_root state epoch
-    → filter (counts_for state vote root) (get_matching_source_attestations state epoch) ≡ matching state vote epoch
-unfolding chosen
-right_are state vote epoch root is = ap (λ r. filter (counts_for state vote r) (get_matching_source_attestations state epoch)) is ∙ chosen_are state vote epoch

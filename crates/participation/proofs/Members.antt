@@ -1,8 +1,6 @@
--- The members of a committee whose bit is set, from a position on: what a loop over the committee has still to mark.
-use Rattle.std.proofs.Common.{◌≡◌, ℕ, zero, suc, ◌+◌, ◌<◌, ◌≤◌, Bool, true, false, cond, List, [], ◌∷◌, length, drop, get_or, Some, None, refl, ap, ◌∙◌, arith, slice_get, slice_set}
-use Rattle.std.proofs.lemmas.List.{drop_all}
+-- The members of a committee whose bit is set, from a position on: what a loop over the committee has still to note.
+use Rattle.std.proofs.Common.{◌≡◌, ℕ, zero, suc, ◌+◌, ◌<◌, Bool, cond, List, [], ◌∷◌, length, drop, get_or, Some, None, refl, ap, arith, slice_get}
 use Rattle.spec_state.specs.Accessors.{members_with_bits}
-use Rattle.participation.specs.inside.Marks.{marked}
 
 -- those from a position on
 unfoldable pub members_from : List ℕ → List Bool → ℕ → List ℕ
@@ -38,23 +36,3 @@ past_bits (m ∷ members) (b ∷ bits) (suc position) e = past_bits members bits
 
 pub next : (i : ℕ) → suc i ≡ i + 1
 next i = omega arith
-
-module _ (flags : List Bool) (members : List ℕ) (bits : List Bool) (position : ℕ) where
-  -- a member whose bit is set is marked
-  pub member_marked : position < length members → Some true ≡ slice_get bits position → marked flags (members_from members bits position) ≡ marked (slice_set flags (get_or members position 0) true) (members_from members bits (position + 1))
-  unfolding members_from marked
-  member_marked less e = ap (marked flags) (opens members bits position true less e) ∙ ap (λ n. marked (slice_set flags (get_or members position 0) true) (members_from members bits n)) (next position)
-
-  pub member_passed_over : position < length members → Some false ≡ slice_get bits position → marked flags (members_from members bits position) ≡ marked flags (members_from members bits (position + 1))
-  unfolding members_from
-  member_passed_over less e = ap (marked flags) (opens members bits position false less e) ∙ ap (λ n. marked flags (members_from members bits n)) (next position)
-
-  pub bits_end : None ≡ slice_get bits position → marked flags (members_from members bits position) ≡ flags
-  unfolding members_from marked
-  bits_end e = ap (marked flags) (past_bits members bits position e)
-
-  pub members_end : length members ≤ position → marked flags (members_from members bits position) ≡ flags
-  unfolding members_from marked members_with_bits
-  members_end past = ap (λ ms. marked flags (members_with_bits ms (drop position bits))) (drop_all position members past)
-
-pub ruleset marking = (members_begin, member_marked, member_passed_over, bits_end, members_end)

@@ -1,7 +1,6 @@
 -- Those whose flag is set, from an index on: whom a loop over the registry has still to weigh.
 use Rattle.std.proofs.Common.{◌≡◌, ℕ, suc, ◌+◌, ◌≤◌, Bool, true, false, not, cond, List, ◌∷◌, length, filter, drop, get_or, Some, None, refl, sym, ap, ◌∙◌, arith, slice_get}
-use Rattle.std.proofs.lemmas.List.{drop_all, get_or_past}
-use Rattle.std.proofs.lemmas.Option.{get_or_from_slice_get}
+use Rattle.std.proofs.lemmas.List.{drop_all}
 use Rattle.bc_words.specs.Outcome.{done, checked_add, checked_sum_by, checked_sum_from, StopsExactly}
 use Rattle.bc_words.specs.declared.stop.Stop.{Stop}
 use Rattle.bc_words.proofs.Sums.{sum_takes, sum_refuses, sum_of_nothing}
@@ -12,14 +11,6 @@ use Rattle.spec_state.specs.Accessors.{indices_from}
 use Rattle.balance_totals.proofs.LookedUp.{effective_some}
 use Rattle.participation.specs.inside.Marks.{flagged, flagged_from}
 use Rattle.participation.proofs.Places.{drop_at_item, past}
-
-pub flag_some : (flags : List Bool) (index : ℕ) (flag : Bool) → Some flag ≡ slice_get flags index → flag ≡ get_or flags index false
-flag_some flags index flag e = sym (get_or_from_slice_get flags index flag false (sym e))
-
-pub flag_none : (flags : List Bool) (index : ℕ) → None ≡ slice_get flags index → false ≡ get_or flags index false
-flag_none flags index e = sym (get_or_past flags index false (past flags index e))
-
-pub ruleset flag_read = (flag_some, flag_none)
 
 module _ (state : PlainState) (flags : List Bool) where
   abbrev from : ℕ → List ℕ

@@ -2,3 +2,4 @@
 pub mod Votes
 pub mod Marks
 pub mod Inclusions
+pub mod Statuses

@@ -1,5 +1,5 @@
 //! The pending attestations of an epoch that have a vote right, as lists (beacon-chain.md, "get_matching_target_attestations" and
-//! "get_matching_head_attestations"). Flags and inclusions are made of the same attestations, one at a time.
+//! "get_matching_head_attestations"). The table is made of the same attestations, one at a time.
 
 ghost use Rattle.std.specs.Prelude.{◌≡◌, ◌+◌, ◌≤◌, ◌++◌, IfOk, OnOk};
 ghost use Rattle.spec_state.specs.Accessors.{get_current_epoch};
@@ -38,7 +38,7 @@ fn add_at(
 }
 
 /// The epoch's attestations that have the vote right, in order.
-#[tactic(auto, using(crate::proofs::Listed::right_end, crate::proofs::Listed::right_are))]
+#[tactic(auto, using(crate::proofs::Listed::right_end, crate::proofs::Rights::right_are))]
 fn matching(
     alloc: Global,
     state: &State,

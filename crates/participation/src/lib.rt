@@ -1,18 +1,18 @@
-//! Who attested in the pending attestations of an epoch (beacon-chain.md, "Epoch processing", "Helper functions"): a flag a
-//! validator, made in one pass over the attestations.
+//! Who attested in the pending attestations of an epoch (beacon-chain.md, "Epoch processing", "Helper functions"): a table of a
+//! status a validator, made in one pass over the attestations.
 //!
 //! States come from epoch processing; justification and rewards weigh what is found.
 #![tactic(auto)]
 
-mod attesters;
 mod balance;
 mod get_matching_attestations;
 mod inclusions;
 mod matching;
 mod pending;
+mod table;
 
-pub use attesters::attested;
-pub use balance::{flag_at, vote_balance};
+pub use balance::vote_balance;
 pub use get_matching_attestations::{matching_head, matching_target};
-pub use inclusions::{Inclusion, earliest_inclusions, inclusion_at};
+pub use inclusions::Inclusion;
 pub use matching::Vote;
+pub use table::{Status, current_statuses, flag_at, inclusion_at, previous_statuses};

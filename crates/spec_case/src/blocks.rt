@@ -3,49 +3,54 @@
 use crate::case::Case;
 use crate::verdict::{Outside, Verdict, judged};
 use anyhow::Result;
-use bc_preset::Config;
-use bc_words::Stop;
 use beacon_body::SignedBeaconBlock;
 use beacon_state::State;
-use std::alloc::Global;
 use std::rt::Files;
 use transition::is_sound;
 use transition::state_transition::state_transition;
 
-/// Takes the state through the block. None where the state isn't sound.
+/// Takes the state through the block. A verdict where the case ends here.
 fn take_block(
-    alloc: Global,
+    rt: &(impl Files + AllocGlobal),
+    case: &Case,
     state: &mut State,
     block: &SignedBeaconBlock,
-    config: &Config,
-) -> Result<Option<Result<(), Stop>>> {
-    if !is_sound(alloc, state)? {
-        return Ok(None);
+) -> Result<Option<Verdict>> {
+    if block.message.slot > state.slot() && block.message.parent_root != state.header_root() {
+        return Ok(Some(Verdict::Outside(Outside::OtherParent)));
     }
-    match state_transition(alloc, state, block, config) {
+    if !is_sound(rt.alloc(), state)? {
+        return Ok(Some(Verdict::Outside(Outside::Unsound)));
+    }
+    match state_transition(rt.alloc(), state, block, case.config()) {
         Ok(step) => {
             *state = step.state;
-            Ok(Some(Ok(())))
+            Ok(None)
         }
-        Err(stop) => Ok(Some(Err(stop))),
+        Err(stop) => Ok(Some(judged(rt, case, state, Err(stop))?)),
+    }
+}
+
+/// Reads the block of this number, and takes the state through it. A verdict where the case ends here.
+fn read_block(
+    rt: &(impl Files + AllocGlobal),
+    case: &Case,
+    state: &mut State,
+    index: u64,
+) -> Result<Option<Verdict>> {
+    let name = format!(in rt.alloc(); "blocks_{index}")?;
+    match case.value(rt, name.as_str()) {
+        Ok(block) => take_block(rt, case, state, &block),
+        Err(error) => Err(error),
     }
 }
 
 /// Runs a case of `sanity/blocks`, `finality` or `random`.
-pub fn run(rt: &(impl Files + AllocGlobal), case: &Case) -> Result<Verdict> {
-    let alloc = rt.alloc();
-    let mut state = case.state(rt, "pre")?;
+pub fn run(rt: &(impl Files + AllocGlobal), case: &Case, state: &mut State) -> Result<Verdict> {
     for index in 0..case.number("blocks_count")? {
-        let name = format!(in alloc; "blocks_{index}")?;
-        let block: SignedBeaconBlock = case.value(rt, name.as_str())?;
-        if block.message.slot > state.slot() && block.message.parent_root != state.header_root() {
-            return Ok(Verdict::Outside(Outside::OtherParent));
-        }
-        match take_block(alloc, &mut state, &block, case.config())? {
-            Some(Ok(())) => {}
-            Some(Err(stop)) => return judged(rt, case, &state, Err(stop)),
-            None => return Ok(Verdict::Outside(Outside::Unsound)),
+        if let Some(verdict) = read_block(rt, case, state, index)? {
+            return Ok(verdict);
         }
     }
-    judged(rt, case, &state, Ok(()))
+    judged(rt, case, state, Ok(()))
 }

@@ -28,6 +28,15 @@ fn value_in<'a>(given: &'a str, key: &str) -> Option<&'a str> {
     None
 }
 
+/// The bytes of a file, None where there is no such file.
+fn bytes_at<R: Files + AllocGlobal>(rt: &R, path: &str) -> Result<Option<Vec<u8>>> {
+    match fs::read(rt, path) {
+        Ok(bytes) => Ok(Some(bytes)),
+        Err(error) if error.kind() == io::ErrorKind::NotFound => Ok(None),
+        Err(error) => Err(error.into()),
+    }
+}
+
 /// The bytes that hexadecimal digits are, behind `0x`.
 pub fn bytes_of<const N: usize>(text: &str) -> Result<[u8; N]> {
     let digits = text.strip_prefix("0x").context("0x is wanted")?;
@@ -61,11 +70,7 @@ impl Case {
     ) -> Result<Option<Vec<u8>>> {
         let folder = self.folder.as_str();
         let path = format!(in rt.alloc(); "{folder}/{name}.ssz")?;
-        match fs::read(rt, path.as_str()) {
-            Ok(bytes) => Ok(Some(bytes)),
-            Err(error) if error.kind() == io::ErrorKind::NotFound => Ok(None),
-            Err(error) => Err(error.into()),
-        }
+        bytes_at(rt, path.as_str())
     }
 
     /// Whether the case has a container of this name.

@@ -37,41 +37,70 @@ impl Difference {
         }
     }
 
-    /// Notes where two numbers differ.
-    pub fn number(&mut self, name: &str, ours: u64, theirs: u64) -> Result<()> {
+    /// Notes where two numbers of a field at a place differ.
+    pub fn number(&mut self, place: &str, field: &str, ours: u64, theirs: u64) -> Result<()> {
         if ours != theirs {
-            self.note(format!(in self.alloc; "{name}: {ours}, and not {theirs}")?);
+            self.note(format!(in self.alloc; "{place}{field}: {ours}, and not {theirs}")?);
         }
         Ok(())
     }
 
     /// Notes where two strings of bytes differ.
-    pub fn bytes(&mut self, name: &str, ours: &[u8], theirs: &[u8]) -> Result<()> {
+    pub fn bytes(&mut self, place: &str, field: &str, ours: &[u8], theirs: &[u8]) -> Result<()> {
         if ours != theirs {
             let ours = hex::encode(self.alloc, ours)?;
             let theirs = hex::encode(self.alloc, theirs)?;
-            self.note(format!(in self.alloc; "{name}: 0x{ours}, and not 0x{theirs}")?);
+            self.note(format!(in self.alloc; "{place}{field}: 0x{ours}, and not 0x{theirs}")?);
         }
         Ok(())
     }
 
     /// Notes where two truths differ.
-    pub fn truth(&mut self, name: &str, ours: bool, theirs: bool) -> Result<()> {
+    pub fn truth(&mut self, place: &str, field: &str, ours: bool, theirs: bool) -> Result<()> {
         if ours != theirs {
-            self.note(format!(in self.alloc; "{name}: {ours}, and not {theirs}")?);
+            self.note(format!(in self.alloc; "{place}{field}: {ours}, and not {theirs}")?);
         }
         Ok(())
     }
 
+    /// Notes where two items of a list of numbers differ.
+    fn item(
+        &mut self,
+        place: &str,
+        field: &str,
+        index: usize,
+        ours: u64,
+        theirs: u64,
+    ) -> Result<()> {
+        let item = format!(in self.alloc; "{field}[{index}]")?;
+        self.number(place, item.as_str(), ours, theirs)
+    }
+
     /// Notes where two lists of numbers differ: in length, or at the first place where they do.
-    pub fn numbers(&mut self, name: &str, ours: &[u64], theirs: &[u64]) -> Result<()> {
-        let length = format!(in self.alloc; "length of {name}")?;
-        self.number(length.as_str(), ours.len() as u64, theirs.len() as u64)?;
+    pub fn numbers(
+        &mut self,
+        place: &str,
+        field: &str,
+        ours: &[u64],
+        theirs: &[u64],
+    ) -> Result<()> {
+        if ours.len() != theirs.len() {
+            return self.lengths(place, field, ours.len() as u64, theirs.len() as u64);
+        }
         for (index, (one, other)) in ours.iter().zip(theirs.iter()).enumerate() {
             if one != other {
-                let place = format!(in self.alloc; "{name}[{index}]")?;
-                return self.number(place.as_str(), *one, *other);
+                return self.item(place, field, index, *one, *other);
             }
+        }
+        Ok(())
+    }
+
+    /// Notes where the lengths of two lists differ.
+    pub fn lengths(&mut self, place: &str, field: &str, ours: u64, theirs: u64) -> Result<()> {
+        if ours != theirs {
+            self.note(format!(in self.alloc;
+                "length of {place}{field}: {ours}, and not {theirs}"
+            )?);
         }
         Ok(())
     }

@@ -14,19 +14,23 @@ use epoch_close::process_participation_record_updates::process_rotation;
 use epoch_close::process_randao_mixes_reset::process_randao_reset;
 use epoch_close::process_slashings::process_slashings;
 use epoch_close::process_slashings_reset::process_slashings_reset;
+use participation::{current_statuses, previous_statuses};
 use registry_queue::process_registry_updates::process_registry;
 use std::alloc::Global;
 use std::rt::Files;
-use transition::{is_sound, is_sound_within_epoch};
+use transition::{is_sound, is_sound_within_epoch, sound_within_epoch};
 
 /// Justifies what the votes of the state's two epochs are enough for. None where the state isn't sound.
 fn justify(alloc: Global, state: &mut State) -> Result<Option<Result<(), Stop>>> {
     if !is_sound(alloc, state)? {
         return Ok(None);
     }
-    let previous = committees_of_epoch(alloc, state, previous_epoch(state))?;
-    let current = committees_of_epoch(alloc, state, current_epoch(state))?;
-    Ok(Some(justification::process_justification(alloc, state, &previous, &current)))
+    sound_within_epoch();
+    let committees = committees_of_epoch(alloc, state, previous_epoch(state))?;
+    let previous = previous_statuses(alloc, state, &committees)?;
+    let committees = committees_of_epoch(alloc, state, current_epoch(state))?;
+    let current = current_statuses(alloc, state, &committees)?;
+    Ok(Some(justification::process_justification(state, &previous, &current)))
 }
 
 /// Pays what the votes of the previous epoch bring and cost. None where the state isn't sound.
@@ -34,8 +38,9 @@ fn pay(alloc: Global, state: &mut State) -> Result<Option<Result<(), Stop>>> {
     if !is_sound_within_epoch(alloc, state)? {
         return Ok(None);
     }
-    let previous = committees_of_epoch(alloc, state, previous_epoch(state))?;
-    Ok(Some(epoch_rewards::process_rewards(alloc, state, &previous)))
+    let committees = committees_of_epoch(alloc, state, previous_epoch(state))?;
+    let statuses = previous_statuses(alloc, state, &committees)?;
+    Ok(Some(epoch_rewards::process_rewards(alloc, state, &statuses)))
 }
 
 /// A part that may be given any state. None where there is none of this name.
@@ -59,19 +64,23 @@ fn process(
 }
 
 /// Runs a case of `epoch_processing`.
-pub fn run(rt: &(impl Files + AllocGlobal), case: &Case, handler: &str) -> Result<Verdict> {
+pub fn run(
+    rt: &(impl Files + AllocGlobal),
+    case: &Case,
+    handler: &str,
+    state: &mut State,
+) -> Result<Verdict> {
     let alloc = rt.alloc();
-    let mut state = case.state(rt, "pre")?;
     let (outcome, otherwise) = match handler {
-        "justification_and_finalization" => (justify(alloc, &mut state)?, Outside::Unsound),
-        "rewards_and_penalties" => (pay(alloc, &mut state)?, Outside::Unsound),
+        "justification_and_finalization" => (justify(alloc, state)?, Outside::Unsound),
+        "rewards_and_penalties" => (pay(alloc, state)?, Outside::Unsound),
         _ => (
-            process(alloc, &mut state, handler, case.config()),
+            process(alloc, state, handler, case.config()),
             Outside::Handler,
         ),
     };
     match outcome {
-        Some(outcome) => judged(rt, case, &state, outcome),
+        Some(outcome) => judged(rt, case, state, outcome),
         None => Ok(Verdict::Outside(otherwise)),
     }
 }

@@ -27,6 +27,18 @@ fn is_in_tree(tree: &mut DepositTree, deposit: &Deposit) -> Result<bool> {
     }
 }
 
+/// Adds a deposit, whose branch has to lead to the tree's root, to the tree and to the writing of all.
+fn add_deposit(
+    name: &str,
+    deposit: &Deposit,
+    tree: &mut DepositTree,
+    out: &mut Writer,
+    difference: &mut Difference,
+) -> Result<()> {
+    difference.truth(name, ".branch_holds", is_in_tree(tree, deposit)?, true)?;
+    Ok(deposit.content.write_to(out)?)
+}
+
 /// The deposits of a case, one behind the other, whose branches lead to the tree's roots.
 fn deposits_of(
     rt: &(impl Files + AllocGlobal),
@@ -37,10 +49,8 @@ fn deposits_of(
     let mut out = Writer::new(rt.alloc());
     for index in 0..case.number("deposits_count")? {
         let name = format!(in rt.alloc(); "deposits_{index}")?;
-        let deposit: Deposit = case.value(rt, name.as_str())?;
-        let branch = format!(in rt.alloc(); "the branch of {name} holds")?;
-        difference.truth(branch.as_str(), is_in_tree(&mut tree, &deposit)?, true)?;
-        deposit.content.write_to(&mut out)?;
+        let deposit = case.value(rt, name.as_str())?;
+        add_deposit(name.as_str(), &deposit, &mut tree, &mut out, difference)?;
     }
     Ok(out.finish())
 }
@@ -53,27 +63,69 @@ fn made(alloc: Global, case: &Case, deposits: Deposits<'_>) -> Result<State> {
     if deposits.len() >= 1 << 32 {
         bail!("too many deposits");
     }
-    Ok(make_genesis(alloc, case.config().preset(), version, time, hash, deposits)?)
+    match make_genesis(alloc, case.config().preset(), version, time, hash, deposits) {
+        Ok(state) => Ok(state),
+        Err(fault) => Err(fault.into()),
+    }
+}
+
+/// Notes where the state is another than that of the case.
+fn compare_made(
+    rt: &(impl Files + AllocGlobal),
+    case: &Case,
+    state: &State,
+    difference: &mut Difference,
+) -> Result<()> {
+    match case.state(rt, "state") {
+        Ok(expected) => compare_states(state, &expected, difference),
+        Err(error) => Err(error),
+    }
+}
+
+/// Makes the state of deposits with this writing, and notes where it is another than that of the case.
+fn make(
+    rt: &(impl Files + AllocGlobal),
+    case: &Case,
+    bytes: &[u8],
+    difference: &mut Difference,
+) -> Result<()> {
+    let deposits = Deposits::of(bytes).context("too many deposits")?;
+    match made(rt.alloc(), case, deposits) {
+        Ok(state) => compare_made(rt, case, &state, difference),
+        Err(error) => Err(error),
+    }
 }
 
 /// Runs a case of `genesis/initialization`.
 fn initialization(rt: &(impl Files + AllocGlobal), case: &Case) -> Result<Verdict> {
     let mut difference = Difference::new(rt.alloc());
     let bytes = deposits_of(rt, case, &mut difference)?;
-    let deposits = Deposits::of(bytes.as_slice()).context("too many deposits")?;
-    let state = made(rt.alloc(), case, deposits)?;
-    compare_states(&state, &case.state(rt, "state")?, &mut difference)?;
+    make(rt, case, bytes.as_slice(), &mut difference)?;
     Ok(difference.verdict())
 }
 
-/// Runs a case of `genesis/validity`: whether the time has come and enough validators are active in epoch 0.
-fn validity(rt: &(impl Files + AllocGlobal), case: &Case) -> Result<Verdict> {
-    let state = case.state(rt, "genesis")?;
-    let valid = state.genesis_time() >= case.number("min_genesis_time")?
-        && count_active(&state, 0) >= case.number("min_genesis_active_validator_count")?;
-    let mut difference = Difference::new(rt.alloc());
-    difference.truth("is_valid", valid, case.word("is_valid")? == "true")?;
+/// Whether the time has come and enough validators are active in epoch 0.
+fn is_valid(case: &Case, state: &State) -> Result<bool> {
+    let time = case.number("min_genesis_time")?;
+    let count = case.number("min_genesis_active_validator_count")?;
+    Ok(state.genesis_time() >= time && count_active(state, 0) >= count)
+}
+
+/// Runs a case of `genesis/validity` on its state.
+fn validity_of(alloc: Global, case: &Case, state: &State) -> Result<Verdict> {
+    let valid = is_valid(case, state)?;
+    let expected = case.word("is_valid")? == "true";
+    let mut difference = Difference::new(alloc);
+    difference.truth("is_valid", "", valid, expected)?;
     Ok(difference.verdict())
+}
+
+/// Runs a case of `genesis/validity`.
+fn validity(rt: &(impl Files + AllocGlobal), case: &Case) -> Result<Verdict> {
+    match case.state(rt, "genesis") {
+        Ok(state) => validity_of(rt.alloc(), case, &state),
+        Err(error) => Err(error),
+    }
 }
 
 /// Runs a case of `genesis`.

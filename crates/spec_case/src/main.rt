@@ -22,8 +22,26 @@ mod verdict;
 use crate::case::Case;
 use crate::verdict::{Outside, Verdict};
 use anyhow::{Context, Result};
+use beacon_state::State;
 use std::env;
 use std::rt::Files;
+
+/// Runs the case that has this state `pre`, by its runner and handler.
+fn run_on(
+    rt: &(impl Files + AllocGlobal),
+    case: &Case,
+    runner: &str,
+    handler: &str,
+    state: &mut State,
+) -> Result<Verdict> {
+    match runner {
+        "operations" => operations::run(rt, case, handler, state),
+        "epoch_processing" => epoch_processing::run(rt, case, handler, state),
+        "rewards" => rewards::run(rt, case, state),
+        "sanity" if handler == "slots" => slots::run(rt, case, state),
+        _ => blocks::run(rt, case, state),
+    }
+}
 
 /// Runs the case by its runner and handler.
 fn run(
@@ -33,11 +51,12 @@ fn run(
     handler: &str,
 ) -> Result<Verdict> {
     match runner {
-        "operations" => operations::run(rt, case, handler),
-        "epoch_processing" => epoch_processing::run(rt, case, handler),
-        "sanity" if handler == "slots" => slots::run(rt, case),
-        "sanity" | "finality" | "random" => blocks::run(rt, case),
-        "rewards" => rewards::run(rt, case),
+        "operations" | "epoch_processing" | "rewards" | "sanity" | "finality" | "random" => {
+            match case.state(rt, "pre") {
+                Ok(mut state) => run_on(rt, case, runner, handler, &mut state),
+                Err(error) => Err(error),
+            }
+        }
         "shuffling" => shuffling_core::run(rt.alloc(), case),
         "ssz_static" => ssz_static::run(rt, case, handler),
         "genesis" => genesis::run(rt, case, handler),

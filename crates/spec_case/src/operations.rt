@@ -143,13 +143,17 @@ fn process(
 }
 
 /// Runs a case of `operations`.
-pub fn run(rt: &(impl Files + AllocGlobal), case: &Case, handler: &str) -> Result<Verdict> {
-    let mut state = case.state(rt, "pre")?;
+pub fn run(
+    rt: &(impl Files + AllocGlobal),
+    case: &Case,
+    handler: &str,
+    state: &mut State,
+) -> Result<Verdict> {
     if handler == "block_header" {
-        return run_header(rt, case, &mut state);
+        return run_header(rt, case, state);
     }
-    match process(rt, case, handler, &mut state)? {
-        Some(outcome) => judged(rt, case, &state, outcome),
+    match process(rt, case, handler, state)? {
+        Some(outcome) => judged(rt, case, state, outcome),
         None => Ok(Verdict::Outside(Outside::Handler)),
     }
 }

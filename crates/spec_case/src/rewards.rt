@@ -2,8 +2,8 @@
 
 ghost use Rattle.std.specs.Prelude.{◌≡◌};
 ghost use Rattle.spec_state.specs.Accessors.{get_previous_epoch};
-ghost use Rattle.spec_state.specs.inside.EpochCommittees.{epoch_committees};
 ghost use Rattle.spec_state.specs.Soundness.{IsSoundWithinEpoch};
+ghost use Rattle.participation.specs.inside.Statuses.{statuses_of};
 
 use crate::case::Case;
 use crate::difference::Difference;
@@ -12,10 +12,10 @@ use anyhow::Result;
 use balance_totals::{committees_of_epoch, previous_epoch};
 use bc_words::Stop;
 use beacon_state::State;
-use committees::EpochCommittees;
 use epoch_rewards::{
     Deltas, head_deltas, inactivity_deltas, inclusion_deltas, source_deltas, target_deltas,
 };
+use participation::{Status, previous_statuses};
 use ssz_codec::{Field, Items, cut, read_list};
 use std::alloc::Global;
 use std::rt::Files;
@@ -56,21 +56,16 @@ impl Part {
     }
 
     /// What it gives.
-    fn deltas(
-        self,
-        alloc: Global,
-        state: &State,
-        previous: &EpochCommittees,
-    ) -> Result<Deltas, Stop>
+    fn deltas(self, alloc: Global, state: &State, statuses: &[Status]) -> Result<Deltas, Stop>
         requires sound { IsSoundWithinEpoch state.now }
-        requires committees { previous.now ≡ epoch_committees state.now (get_previous_epoch state.now) }
+        requires statuses { statuses.now ≡ statuses_of state.now (get_previous_epoch state.now) }
     {
         match self {
-            Part::Source => source_deltas(alloc, state, previous),
-            Part::Target => target_deltas(alloc, state, previous),
-            Part::Head => head_deltas(alloc, state, previous),
-            Part::InclusionDelay => inclusion_deltas(alloc, state, previous),
-            Part::InactivityPenalty => inactivity_deltas(alloc, state, previous),
+            Part::Source => source_deltas(alloc, state, statuses),
+            Part::Target => target_deltas(alloc, state, statuses),
+            Part::Head => head_deltas(alloc, state, statuses),
+            Part::InclusionDelay => inclusion_deltas(alloc, state, statuses),
+            Part::InactivityPenalty => inactivity_deltas(alloc, state, statuses),
         }
     }
 }
@@ -78,13 +73,14 @@ impl Part {
 /// Notes where numbers are others than those whose writing these bytes are.
 fn compare_numbers(
     alloc: Global,
-    name: &str,
+    part: Part,
+    field: &str,
     ours: &Items<u64>,
     bytes: &[u8],
     difference: &mut Difference,
 ) -> Result<()> {
     let theirs = read_list(alloc, bytes, 8, VALIDATOR_REGISTRY_LIMIT)?;
-    difference.numbers(name, ours.as_slice(), theirs.as_slice())
+    difference.numbers(part.name(), field, ours.as_slice(), theirs.as_slice())
 }
 
 /// Notes where deltas are others than those whose writing these bytes are.
@@ -97,34 +93,64 @@ fn compare(
 ) -> Result<()> {
     let mut parts: [&[u8]; 2] = [&[], &[]];
     cut(bytes, &[Field::Variable, Field::Variable], &mut parts)?;
-    let name = part.name();
-    let rewards = format!(in alloc; "{name}.rewards")?;
-    compare_numbers(alloc, rewards.as_str(), &ours.rewards, parts[0], difference)?;
-    let penalties = format!(in alloc; "{name}.penalties")?;
+    compare_numbers(alloc, part, ".rewards", &ours.rewards, parts[0], difference)?;
     compare_numbers(
         alloc,
-        penalties.as_str(),
+        part,
+        ".penalties",
         &ours.penalties,
         parts[1],
         difference,
     )
 }
 
-/// Runs a case of `rewards`.
-pub fn run(rt: &(impl Files + AllocGlobal), case: &Case) -> Result<Verdict> {
-    let alloc = rt.alloc();
-    let state = case.state(rt, "pre")?;
-    if !is_sound_within_epoch(alloc, &state)? {
-        return Ok(Verdict::Outside(Outside::Unsound));
+/// Notes where the deltas of a part are others than those of the case. The stop, where the part gives none.
+fn run_part(
+    rt: &(impl Files + AllocGlobal),
+    case: &Case,
+    part: Part,
+    state: &State,
+    statuses: &[Status],
+    difference: &mut Difference,
+) -> Result<Option<Stop>>
+    requires sound { IsSoundWithinEpoch state.now }
+    requires statuses { statuses.now ≡ statuses_of state.now (get_previous_epoch state.now) }
+{
+    let bytes = case.bytes(rt, part.name())?;
+    match part.deltas(rt.alloc(), state, statuses) {
+        Ok(deltas) => {
+            compare(rt.alloc(), part, &deltas, bytes.as_slice(), difference)?;
+            Ok(None)
+        }
+        Err(stop) => Ok(Some(stop)),
     }
-    let previous = committees_of_epoch(alloc, &state, previous_epoch(&state))?;
-    let mut difference = Difference::new(alloc);
+}
+
+/// Runs the parts on a sound state with how each validator attested in its previous epoch.
+fn run_parts(
+    rt: &(impl Files + AllocGlobal),
+    case: &Case,
+    state: &State,
+    statuses: &[Status],
+) -> Result<Verdict>
+    requires sound { IsSoundWithinEpoch state.now }
+    requires statuses { statuses.now ≡ statuses_of state.now (get_previous_epoch state.now) }
+{
+    let mut difference = Difference::new(rt.alloc());
     for part in PARTS {
-        let bytes = case.bytes(rt, part.name())?;
-        match part.deltas(alloc, &state, &previous) {
-            Ok(deltas) => compare(alloc, part, &deltas, bytes.as_slice(), &mut difference)?,
-            Err(stop) => return not_accepted(stop),
+        if let Some(stop) = run_part(rt, case, part, state, statuses, &mut difference)? {
+            return not_accepted(stop);
         }
     }
     Ok(difference.verdict())
+}
+
+/// Runs a case of `rewards`.
+pub fn run(rt: &(impl Files + AllocGlobal), case: &Case, state: &State) -> Result<Verdict> {
+    if !is_sound_within_epoch(rt.alloc(), state)? {
+        return Ok(Verdict::Outside(Outside::Unsound));
+    }
+    let previous = committees_of_epoch(rt.alloc(), state, previous_epoch(state))?;
+    let statuses = previous_statuses(rt.alloc(), state, &previous)?;
+    run_parts(rt, case, state, &statuses)
 }

@@ -78,8 +78,8 @@ pub fn run(alloc: Global, case: &Case) -> Result<Verdict> {
     }
     let mut difference = Difference::new(alloc);
     let places = one_by_one(alloc, count, &seed, rounds)?;
-    difference.numbers("mapping", places.as_slice(), mapping.as_slice())?;
+    difference.numbers("mapping", "", places.as_slice(), mapping.as_slice())?;
     let list = at_once(alloc, count, &seed, rounds)?;
-    difference.numbers("shuffled list", list.as_slice(), mapping.as_slice())?;
+    difference.numbers("shuffled list", "", list.as_slice(), mapping.as_slice())?;
     Ok(difference.verdict())
 }

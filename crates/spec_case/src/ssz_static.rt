@@ -143,18 +143,22 @@ fn told_by_name(alloc: Global, preset: &Preset, name: &str, bytes: &[u8]) -> Opt
     }
 }
 
+/// Notes where the two forms of a container are others than those of the case.
+fn compare(alloc: Global, case: &Case, told: &Forms, bytes: &[u8]) -> Result<Verdict> {
+    let root = case.root("root")?;
+    let mut difference = Difference::new(alloc);
+    difference.bytes("writing", "", told.writing.as_slice(), bytes)?;
+    difference.bytes("hash_tree_root", "", &told.root, &root)?;
+    Ok(difference.verdict())
+}
+
 /// Runs a case of `ssz_static`.
 pub fn run(rt: &(impl Files + AllocGlobal), case: &Case, handler: &str) -> Result<Verdict> {
     let alloc = rt.alloc();
     let bytes = case.bytes(rt, "serialized")?;
     match told_by_name(alloc, case.config().preset(), handler, bytes.as_slice()) {
-        Some(told) => {
-            let told = told?;
-            let mut difference = Difference::new(alloc);
-            difference.bytes("writing", told.writing.as_slice(), bytes.as_slice())?;
-            difference.bytes("hash_tree_root", &told.root, &case.root("root")?)?;
-            Ok(difference.verdict())
-        }
+        Some(Ok(told)) => compare(alloc, case, &told, bytes.as_slice()),
+        Some(Err(error)) => Err(error),
         None => Ok(Verdict::Outside(Outside::Container)),
     }
 }

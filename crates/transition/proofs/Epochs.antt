@@ -1,40 +1,34 @@
--- What justification leaves for rewards: the committees of the previous epoch, and a state that is sound within its epoch.
-use Rattle.std.proofs.Common.{◌≡◌, ◌∙◌, ℕ, ◌%◌, List, [], refl, sym, ap, ap₂}
-use Rattle.std.specs.Prelude.{slice_index_or}
+-- What justification leaves for rewards: how each validator attested in the previous epoch, and a state that is sound within its
+-- epoch.
+use Rattle.std.proofs.Common.{◌≡◌, ◌∙◌, ℕ, refl, ap, subst, inl, inr}
 use Rattle.bc_words.specs.Outcome.{done}
-use Rattle.bc_preset.specs.declared.presets.Preset.{Preset}
-use Rattle.beacon_types.specs.declared.validator.Validator.{Validator}
-use Rattle.committees.specs.Seeds.{seed_from}
-use Rattle.committees.specs.Committees.{Committees, committees_of}
 use Rattle.spec_state.specs.declared.plain.PlainState.{PlainState}
-use Rattle.spec_state.specs.Constants.{domain_beacon_attester}
-use Rattle.spec_state.specs.Predicates.{is_active_validator}
-use Rattle.spec_state.specs.Accessors.{get_previous_epoch, get_active_validator_indices, get_randao_mix, indices_from}
-use Rattle.spec_state.specs.inside.EpochCommittees.{epoch_committees}
-use Rattle.spec_blocks.proofs.Sound.{same_previous}
+use Rattle.spec_state.specs.Accessors.{get_current_epoch, get_previous_epoch, get_block_root_at_slot, get_block_root, get_randao_mix, get_active_validator_indices, get_committee_count_per_slot, get_beacon_committee, get_attesting_indices}
+use Rattle.spec_epochs.specs.declared.justification.Justification.{Justification}
+use Rattle.spec_epochs.specs.Each.{validator_indices}
+use Rattle.spec_epochs.specs.Helpers.{get_matching_source_attestations, get_matching_target_attestations, get_matching_head_attestations, attests}
+use Rattle.spec_epochs.specs.GetInclusionDelayDeltas.{inclusion}
+use Rattle.spec_epochs.specs.WeighJustificationAndFinalization.{with_justification}
 use Rattle.spec_epochs.specs.ProcessJustificationAndFinalization.{process_justification_and_finalization}
-use Rattle.spec_epochs.proofs.SoundWithin.{epoch_of}
-use Rattle.spec_epochs.proofs.SoundJustification.{justification_leaves}
+use Rattle.spec_epochs.proofs.SoundJustification.{either_of}
+use Rattle.participation.specs.inside.Statuses.{status_of, statuses_of}
 
--- the committees of an epoch, by what they depend on
-abbrev by_parts : Preset → List (List ℕ) → List Validator → ℕ → Committees
-by_parts p mixes validators epoch =
-    committees_of p (seed_from p (λ e. slice_index_or mixes (e % p.epochs_per_historical_vector) []) epoch domain_beacon_attester)
-    (indices_from (λ v. is_active_validator v epoch) 0 validators)
+-- how each attested doesn't depend on the bits and checkpoints
+by_the_rest : (s : PlainState) (j : Justification) (epoch : ℕ) → statuses_of (with_justification s j) epoch ≡ statuses_of s epoch
+unfolding with_justification statuses_of validator_indices status_of inclusion attests get_matching_source_attestations get_matching_target_attestations get_matching_head_attestations get_current_epoch get_block_root get_block_root_at_slot get_attesting_indices get_beacon_committee get_committee_count_per_slot get_active_validator_indices get_randao_mix
+by_the_rest s j epoch = refl
 
-committees_by : (s : PlainState) (epoch : ℕ) → epoch_committees s epoch ≡ by_parts s.preset s.randao_mixes s.validators epoch
-unfolding seed_from get_randao_mix get_active_validator_indices
-committees_by s epoch = refl
+same_epoch : (s : PlainState) (j : Justification) → get_previous_epoch (with_justification s j) ≡ get_previous_epoch s
+unfolding with_justification get_previous_epoch get_current_epoch
+same_epoch s j = refl
 
-same_committees : (s t : PlainState) (epoch : ℕ) → t.preset ≡ s.preset → t.randao_mixes ≡ s.randao_mixes → t.validators ≡ s.validators → epoch_committees t epoch ≡ epoch_committees s epoch
-same_committees s t epoch preset mixes validators =
-    committees_by t epoch
-    ∙ (ap (λ (p : Preset). by_parts p t.randao_mixes t.validators epoch) preset
-    ∙ (ap₂ (λ (m : List (List ℕ)) (vs : List Validator). by_parts s.preset m vs epoch) mixes validators
-    ∙ sym (committees_by s epoch)))
+abbrev AreThose : PlainState → PlainState → Type 0
+AreThose s t = statuses_of t (get_previous_epoch t) ≡ statuses_of s (get_previous_epoch s)
 
-pub justified_committees : (s t : PlainState) → process_justification_and_finalization s ≡ done t → epoch_committees t (get_previous_epoch t) ≡ epoch_committees s (get_previous_epoch s)
-justified_committees s t is =
-    let leaves = justification_leaves s t is in
-    let epoch = same_previous s t (epoch_of s t leaves.preset leaves.slot) in
-    ap (epoch_committees t) epoch ∙ same_committees s t (get_previous_epoch s) leaves.preset leaves.randao_mixes leaves.validators
+pub justified_statuses : (s t : PlainState) → process_justification_and_finalization s ≡ done t → statuses_of t (get_previous_epoch t) ≡ statuses_of s (get_previous_epoch s)
+justified_statuses s t is = elim (either_of s t is) as (λ _. AreThose s t) [
+  | inl same ↦ subst (AreThose s) same refl
+  | inr weighed ↦
+      let t' = with_justification s weighed.checkpoints in
+      subst (AreThose s) weighed.gives (ap (statuses_of t') (same_epoch s weighed.checkpoints) ∙ by_the_rest s weighed.checkpoints (get_previous_epoch s))
+]

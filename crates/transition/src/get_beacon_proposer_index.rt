@@ -37,7 +37,10 @@ pub fn get_beacon_proposer_index(alloc: Global, state: &State) -> Result<u64, St
 {
     let epoch = current_epoch(state);
     let seed = proposer_seed(state);
-    let active = active(alloc, state, epoch)?;
     active_are_indices(state, epoch);
+    if let Some(kept) = state.active_list(epoch) {
+        return pick_proposer(kept, state, &seed, MAX_PROPOSER_CANDIDATES);
+    }
+    let active = active(alloc, state, epoch)?;
     pick_proposer(&active, state, &seed, MAX_PROPOSER_CANDIDATES)
 }

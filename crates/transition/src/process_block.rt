@@ -7,9 +7,9 @@ ghost use Rattle.spec_blocks.specs.ProcessBlock.{process_block};
 
 use crate::get_beacon_proposer_index::get_beacon_proposer_index;
 use crate::process_operations::process_operations;
-use balance_totals::current_epoch;
+use balance_totals::{current_epoch, keep_active, keep_committees, previous_epoch};
 use bc_preset::Config;
-use bc_words::Stop;
+use bc_words::{NoMemory, Stop};
 use beacon_body::BeaconBlock;
 use beacon_state::State;
 use block_head::process_eth1_data::process_eth1_data;
@@ -17,9 +17,23 @@ use block_head::process_header;
 use block_head::process_randao::process_randao;
 use std::alloc::Global;
 
-/// The steps of a block, one after another.
+/// The state keeps the active validators of the previous and the current epoch, and the committees of the current one, where it
+/// doesn't yet: the first block of an epoch finds them, and the blocks on it have them of its state.
+fn keep_epoch(alloc: Global, state: &mut State) -> Result<(), NoMemory>
+    ensures { state.new ≡ state.old }
+{
+    let before = previous_epoch(state);
+    let now = current_epoch(state);
+    if state.active_list(now).is_some() {
+        return Ok(());
+    }
+    keep_active(alloc, state, before)?;
+    keep_committees(alloc, state, now)
+}
+
+/// The parts of a block, one after another.
 #[tactic(auto, unfolding(spec_blocks::specs::ProcessBlock::process_block))]
-fn take_steps(
+fn take_parts(
     alloc: Global,
     state: &mut State,
     block: &BeaconBlock,
@@ -32,6 +46,19 @@ fn take_steps(
     process_randao(state, &block.body)?;
     process_eth1_data(state, &block.body)?;
     process_operations(alloc, state, &block.body, proposer, config)
+}
+
+/// The steps of a block, once the state keeps who is active.
+fn take_steps(
+    alloc: Global,
+    state: &mut State,
+    block: &BeaconBlock,
+    config: &Config,
+) -> Result<(), Stop>
+    ensures { Moves result state.new (process_block state.old block.now config.now) }
+{
+    keep_epoch(alloc, state)?;
+    take_parts(alloc, state, block, config)
 }
 
 /// The block's header, randomness, vote for the deposit contract, and operations (beacon-chain.md, `process_block`), on a

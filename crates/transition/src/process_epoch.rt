@@ -2,15 +2,20 @@
 //!
 //! States come from the way through slots, at the last one of an epoch, and go back to it.
 
+ghost use Rattle.std.specs.Prelude.{◌≡◌, IfOk};
 ghost use Rattle.bc_words.specs.Outcome.{Moves};
+ghost use Rattle.spec_state.specs.Accessors.{get_current_epoch, get_previous_epoch};
 ghost use Rattle.spec_state.specs.Soundness.{IsSound};
+ghost use Rattle.spec_state.specs.inside.EpochCommittees.{epoch_committees};
 ghost use Rattle.spec_epochs.specs.ProcessEpoch.{process_epoch};
+ghost use Rattle.participation.specs.inside.Statuses.{statuses_of};
 ghost use Rattle.transition.specs.inside.Epochs.{resets, closing_parts};
 
-use balance_totals::{committees_of_epoch, current_epoch, previous_epoch};
+use balance_totals::{current_epoch, kept_committees, note_total, previous_epoch};
 use bc_preset::Config;
-use bc_words::Stop;
+use bc_words::{NoMemory, Stop};
 use beacon_state::State;
+use committees::EpochCommittees;
 use epoch_close::process_effective_balance_updates::process_effective_balances;
 use epoch_close::process_eth1_data_reset::process_eth1_reset;
 use epoch_close::process_historical_roots_update::process_historical_roots;
@@ -20,8 +25,68 @@ use epoch_close::process_slashings::process_slashings;
 use epoch_close::process_slashings_reset::process_slashings_reset;
 use epoch_rewards::process_rewards;
 use justification::process_justification;
+use participation::{Status, current_statuses, previous_statuses};
 use registry_queue::process_registry_updates::process_registry;
 use std::alloc::Global;
+use std::rc::Rc;
+
+/// The committees of the previous and of the current epoch, which the state keeps, as it does the balance of the active validators.
+fn recent_committees(
+    alloc: Global,
+    state: &mut State,
+) -> Result<(Rc<EpochCommittees>, Rc<EpochCommittees>), NoMemory>
+    ensures same { state.new ≡ state.old }
+    ensures previous { IfOk result (λ recent. recent.0.value ≡ epoch_committees state.old (get_previous_epoch state.old)) }
+    ensures current { IfOk result (λ recent. recent.1.value ≡ epoch_committees state.old (get_current_epoch state.old)) }
+{
+    let before = previous_epoch(state);
+    let now = current_epoch(state);
+    let previous = kept_committees(alloc, state, before)?;
+    let current = kept_committees(alloc, state, now)?;
+    note_total(state, now);
+    Ok((previous, current))
+}
+
+/// How each validator attested in the previous epoch of a sound state, whose committees these are.
+#[tactic(auto, using(spec_epochs::proofs::SoundJustification::sound_within))]
+fn previous_table(
+    alloc: Global,
+    state: &State,
+    committees: &EpochCommittees,
+) -> Result<Vec<Status>, NoMemory>
+    requires sound { IsSound state.now }
+    requires committees { committees.now ≡ epoch_committees state.now (get_previous_epoch state.now) }
+    ensures { IfOk result (λ statuses. statuses.items ≡ statuses_of state.now (get_previous_epoch state.now)) }
+{
+    previous_statuses(alloc, state, committees)
+}
+
+/// How each validator attested in the current epoch of a sound state, whose committees these are.
+#[tactic(auto, using(spec_epochs::proofs::SoundJustification::sound_within))]
+fn current_table(
+    alloc: Global,
+    state: &State,
+    committees: &EpochCommittees,
+) -> Result<Vec<Status>, NoMemory>
+    requires sound { IsSound state.now }
+    requires committees { committees.now ≡ epoch_committees state.now (get_current_epoch state.now) }
+    ensures { IfOk result (λ statuses. statuses.items ≡ statuses_of state.now (get_current_epoch state.now)) }
+{
+    current_statuses(alloc, state, committees)
+}
+
+/// How each validator attested in the previous and in the current epoch of a sound state, which is as before.
+fn tables(alloc: Global, state: &mut State) -> Result<(Vec<Status>, Vec<Status>), NoMemory>
+    requires { IsSound state.old }
+    ensures same { state.new ≡ state.old }
+    ensures previous { IfOk result (λ tables. tables.0.items ≡ statuses_of state.old (get_previous_epoch state.old)) }
+    ensures current { IfOk result (λ tables. tables.1.items ≡ statuses_of state.old (get_current_epoch state.old)) }
+{
+    let (previous, current) = recent_committees(alloc, state)?;
+    let previous = previous_table(alloc, state, &previous)?;
+    let current = current_table(alloc, state, &current)?;
+    Ok((previous, current))
+}
 
 /// The resets of what the next epoch begins with, the root of the latest roots, and the rotation of the pending
 /// attestations.
@@ -46,19 +111,35 @@ fn close(alloc: Global, state: &mut State) -> Result<(), Stop>
     reset(state)
 }
 
-/// The parts of an epoch's end, one after another (beacon-chain.md, `process_epoch`), on a sound state. The committees of
-/// the previous and of the current epoch are made once. It leaves anything in the state after a stop.
+/// The parts of an epoch's end, one after another, on a sound state of which these tables are.
+#[tactic(auto, using(crate::proofs::Epochs::justified_statuses), unfolding(spec_epochs::specs::ProcessEpoch::process_epoch, crate::specs::inside::Epochs::closing_parts, crate::specs::inside::Epochs::resets))]
+fn take_parts(
+    alloc: Global,
+    state: &mut State,
+    config: &Config,
+    previous: &[Status],
+    current: &[Status],
+) -> Result<(), Stop>
+    requires sound { IsSound state.old }
+    requires previous { previous.now ≡ statuses_of state.old (get_previous_epoch state.old) }
+    requires current { current.now ≡ statuses_of state.old (get_current_epoch state.old) }
+    ensures { Moves result state.new (process_epoch state.old config.now) }
+{
+    process_justification(state, previous, current)?;
+    process_rewards(alloc, state, previous)?;
+    process_registry(alloc, state, config)?;
+    close(alloc, state)
+}
+
+/// The parts of an epoch's end (beacon-chain.md, `process_epoch`), on a sound state. The table of how each validator attested is made
+/// once for the previous and once for the current epoch, by the committees that the state keeps. It leaves anything in the state after
+/// a stop.
 ///
 /// Refused where a part is: as an overflow where a sum or product does not fit, and as a full list of historical roots.
-#[tactic(auto, using(crate::proofs::Epochs::justified_committees), unfolding(spec_epochs::specs::ProcessEpoch::process_epoch, crate::specs::inside::Epochs::closing_parts, crate::specs::inside::Epochs::resets))]
 pub fn process_epoch(alloc: Global, state: &mut State, config: &Config) -> Result<(), Stop>
     requires sound { IsSound state.old }
     ensures { Moves result state.new (process_epoch state.old config.now) }
 {
-    let previous = committees_of_epoch(alloc, state, previous_epoch(state))?;
-    let current = committees_of_epoch(alloc, state, current_epoch(state))?;
-    process_justification(alloc, state, &previous, &current)?;
-    process_rewards(alloc, state, &previous)?;
-    process_registry(alloc, state, config)?;
-    close(alloc, state)
+    let (previous, current) = tables(alloc, state)?;
+    take_parts(alloc, state, config, &previous, &current)
 }

@@ -2,11 +2,13 @@
 //! single calls of its layers, lists of votes, and pairs of histories.
 //!
 //! `cases` lists the cases, each a folder of `data`: those below `calls` are calls, those below `offences` lists of votes, those
-//! below `books` pairs of histories, and all others are runs; the file `third_shared` has calls of its own.
+//! below `books` pairs of histories, and all others are runs; the file `third_shared` has calls of its own. Behind `hostile/` stands
+//! what is tried on a case, many times over.
 #![tactic(auto)]
 
 mod books;
 mod calls;
+mod case_files;
 mod offences;
 mod runs;
 mod shared_weights;
@@ -20,6 +22,7 @@ fn run_case(rt: &(impl Files + Print + AllocGlobal), name: &str) -> Result<bool>
     match name.split_once('/') {
         Some(("calls", _)) => calls::run_case(rt, name),
         Some(("books", _)) => books::run_case(rt, name),
+        Some(("hostile", case)) => runs::hostile::run_case(rt, case),
         Some(("offences", _)) => offences::run_case(rt, name),
         None => shared_weights::run_case(rt, name),
         _ => runs::run_case(rt, name),

@@ -9,6 +9,7 @@
 
 mod case;
 mod expected;
+pub mod hostile;
 
 use crate::runs::case::Case;
 use anyhow::Result;

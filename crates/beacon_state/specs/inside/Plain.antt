@@ -3,6 +3,9 @@ use Rattle.std.specs.Prelude.{◌≡◌, ℕ, List}
 use Rattle.std.specs.Option.{IfSome}
 use Rattle.shared_tree.specs.Lists.{Limited}
 use Rattle.state_parts.specs.inside.Lists.{limited_to}
+use Rattle.active_sets.specs.declared.active_lists.ActiveLists.{ActiveLists}
+use Rattle.active_sets.specs.inside.Kept.{AreActiveIn}
+use Rattle.bc_preset.specs.declared.presets.Preset.{Preset}
 use Rattle.spec_state.specs.States.{state_codec, votes_limit, attestations_limit}
 use Rattle.spec_state.specs.Limits.{IsState}
 use Rattle.beacon_types.specs.declared.eth1_data.Eth1Data.{Eth1Data}
@@ -37,7 +40,8 @@ plain_of s = record {
   finalized_checkpoint = s.finalized_checkpoint;
 }
 
--- it is a state, each list has the limit of the preset, each vector its length, and a root that is kept is the state's
+-- it is a state, each list has the limit of the preset, each vector its length, a root that is kept is the state's, and lists and
+-- committees that are kept are of its registry and its preset
 pub record IsHeld (s : Inside) : Type 0 where
   pub state : IsState (plain_of s)
   pub block_roots_limit : s.block_roots.limit ≡ s.preset.slots_per_historical_root
@@ -51,6 +55,12 @@ pub record IsHeld (s : Inside) : Type 0 where
   pub previous_epoch_attestations_limit : s.previous_epoch_attestations.limit ≡ attestations_limit s.preset
   pub current_epoch_attestations_limit : s.current_epoch_attestations.limit ≡ attestations_limit s.preset
   pub kept_root : IfSome s.kept_root (λ root. root ≡ (state_codec s.preset).hash_tree_root (plain_of s))
+  pub active_lists : AreActiveIn s.validators.items s.active_lists
+  pub kept_committees : s.kept_committees ≡ s.preset
+
+-- these are lists of active validators, and committees, that a state may keep
+abbrev pub HasKept : PlainState → ActiveLists × Preset → Type 0
+HasKept s kept = AreActiveIn s.validators kept.0 × (kept.1 ≡ s.preset)
 
 -- these are the lists of a state, each with its limit: those of roots, those by validator or epoch, and those that a period or
 -- an epoch fills

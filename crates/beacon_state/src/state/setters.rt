@@ -1,7 +1,7 @@
 //! Changing the fields of a state: each call says in one clause which field or place changes, and that all else stays.
 //!
 //! What may take memory answers whether it was refused, and then leaves the state as it was. A root that was kept goes with the
-//! first change.
+//! first change, and a kept list of active validators with the first validator who isn't active at its epoch as before.
 
 ghost use Rattle.std.specs.Prelude.{◌≡◌, ◌<◌, [], length, slice_set};
 ghost use Rattle.bc_words.specs.Outcome.{Pushes, Becomes};
@@ -9,7 +9,7 @@ ghost use Rattle.beacon_state.specs.inside.Changes.{one_more_historical_root, on
 ghost use Rattle.beacon_state.specs.inside.Changes.{one_more_previous_attestation, one_more_current_attestation};
 ghost use Rattle.beacon_state.specs.inside.Changes.{with_previous_attestation_at, with_current_attestation_at, with_rotated_attestations};
 
-use super::State;
+use super::{State, registry};
 use bc_words::{NoMemory, PushStop};
 use beacon_types::{BeaconBlockHeader, Checkpoint, Eth1Data, Fork, PendingAttestation, Validator};
 use hash_tree::Root;
@@ -167,7 +167,7 @@ impl State {
         ensures { Becomes result self.old self.new (record self.old { validators = slice_set self.old.validators i validator }) }
     {
         self.kept_root = None;
-        self.validators.set(i, validator)
+        registry::set(&mut self.validators, &mut self.active_lists, i, validator)
     }
 
     /// Appends one more validator. Full exactly where there are as many as the limit. On an error the
@@ -176,7 +176,7 @@ impl State {
         ensures { Pushes result self.old self.new (one_more_validator self.old validator) }
     {
         self.kept_root = None;
-        self.validators.push(validator)
+        registry::push(&mut self.validators, &mut self.active_lists, validator)
     }
 
     /// Writes another balance at a place. Where memory is refused, the state is as before.

@@ -9,6 +9,7 @@ ghost use Rattle.ssz_codec.specs.Lists.{vector_codec};
 ghost use Rattle.spec_state.specs.States.{state_codec};
 
 use super::State;
+use active_sets::ActiveLists;
 use bc_words::NoMemory;
 use beacon_types::Validator;
 use hash_tree::Root;
@@ -20,6 +21,7 @@ impl State {
         ensures { Becomes result self.old self.new (record self.old { validators = validators.items }) }
     {
         self.kept_root = None;
+        self.active_lists = ActiveLists::none();
         self.validators.replace(validators)
     }
 

@@ -1,8 +1,8 @@
 -- The balance of a validator after all five parts of its rewards and penalties, and those of all.
-use Rattle.std.specs.Prelude.{ℕ, ◌-◌, ◌/◌, Bool, List, Option, if◌then◌else◌}
+use Rattle.std.specs.Prelude.{ℕ, ◌-◌, ◌/◌, Bool, List, Option, slice_get, if◌then◌else◌}
 use Rattle.bc_words.specs.Outcome.{Outcome, done, ◌>>=◌, checked_add}
 use Rattle.spec_state.specs.declared.plain.PlainState.{PlainState}
-use Rattle.spec_blocks.specs.Checks.{item_at}
+use Rattle.spec_blocks.specs.Checks.{found}
 use Rattle.participation.specs.declared.inclusions.Inclusion.{Inclusion}
 use Rattle.epoch_rewards.specs.declared.get_attestation_component_deltas.Weights.{Weights}
 use Rattle.epoch_rewards.specs.declared.paid.Delta.{Delta}
@@ -33,19 +33,19 @@ component_delta state attesters w index = do
 unfoldable pub leak_part : PlainState → Bool → List ℕ → ℕ → Outcome ℕ
 leak_part state leak target_attesters index = if leak then leak_penalty state target_attesters index else done 0
 
--- a validator's balance after what it gains was added and what it loses taken
-unfoldable pub settled : PlainState → ℕ → ℕ → ℕ → Outcome ℕ
-settled state index rewards penalties = do
-  balance ← item_at state.balances index
-  increased ← checked_add balance rewards
+-- a validator's balance, where it has one, after what it gains was added and what it loses taken
+unfoldable pub settled : Option ℕ → ℕ → ℕ → Outcome ℕ
+settled balance rewards penalties = do
+  before ← found balance
+  increased ← checked_add before rewards
   done (increased - penalties)
 
--- a validator's balance after its five parts
-unfoldable pub summed : PlainState → Delta → Delta → Delta → ℕ → ℕ → ℕ → Outcome ℕ
-summed state source target head inclusion inactivity index = do
+-- the same after its five parts
+unfoldable pub summed : Delta → Delta → Delta → ℕ → ℕ → Option ℕ → Outcome ℕ
+summed source target head inclusion inactivity balance = do
   rewards ← sum_of_four source.reward target.reward head.reward inclusion
   penalties ← sum_of_four source.penalty target.penalty head.penalty inactivity
-  settled state index rewards penalties
+  settled balance rewards penalties
 
 -- a validator's balance after its rewards and penalties, by those who had each vote right
 unfoldable pub paid_balance : PlainState → List ℕ → List ℕ → List ℕ → Weights → Weights → Weights → List (Option Inclusion) → List ℕ → ℕ → Outcome ℕ
@@ -55,7 +55,7 @@ paid_balance state sources targets heads by_source by_target by_head entries gai
   head ← component_delta state heads by_head index
   inclusion ← joined_reward state entries sources gains index
   inactivity ← leak_part state by_target.leak targets index
-  summed state source target head inclusion inactivity index
+  summed source target head inclusion inactivity (slice_get state.balances index)
 
 -- what a component is reckoned by
 unfoldable pub weights_by : PlainState → Bool → ℕ → ℕ → Weights

@@ -1,11 +1,10 @@
 -- An inclusion a validator: the first of the least delay among the attestations in which it attests.
-use Rattle.std.specs.Prelude.{ℕ, List, [], ◌∷◌, Option, Some, None, map, drop, leb, slice_set, slice_index_or, if◌then◌else◌}
+use Rattle.std.specs.Prelude.{ℕ, List, Option, Some, None, map, leb, if◌then◌else◌}
 use Rattle.std.specs.Option.{option_map}
 use Rattle.beacon_types.specs.declared.pending_attestation.PendingAttestation.{PendingAttestation}
 use Rattle.spec_state.specs.declared.plain.PlainState.{PlainState}
 use Rattle.spec_state.specs.Accessors.{get_attesting_indices}
 use Rattle.spec_epochs.specs.Each.{validator_indices}
-use Rattle.spec_epochs.specs.Helpers.{get_matching_source_attestations}
 use Rattle.spec_epochs.specs.GetInclusionDelayDeltas.{inclusion}
 use Rattle.participation.specs.declared.inclusions.Inclusion.{Inclusion}
 
@@ -22,20 +21,6 @@ unfoldable pub better : Option Inclusion → Inclusion → Option Inclusion
 better None new = Some new
 better (Some kept) new = if leb kept.delay new.delay then Some kept else Some new
 
--- the entries with an inclusion taken for some validators, where it is the better one
-unfoldable pub put : List (Option Inclusion) → List ℕ → Inclusion → List (Option Inclusion)
-put entries [] new = entries
-put entries (index ∷ indices) new = put (slice_set entries index (better (slice_index_or entries index None) new)) indices new
-
 -- those who attest in an attestation
 abbrev pub attesters_of : PlainState → PendingAttestation → List ℕ
 attesters_of state a = get_attesting_indices state a.content a.aggregation_bits
-
--- the entries with the inclusions of some attestations taken, in order
-unfoldable pub all_put : PlainState → List (Option Inclusion) → List PendingAttestation → List (Option Inclusion)
-all_put state entries [] = entries
-all_put state entries (a ∷ attestations) = all_put state (put entries (attesters_of state a) (entry_of a)) attestations
-
--- the same of those of an epoch from a place on
-abbrev pub put_from : PlainState → List (Option Inclusion) → ℕ → ℕ → List (Option Inclusion)
-put_from state entries epoch i = all_put state entries (drop i (get_matching_source_attestations state epoch))

@@ -1,33 +1,17 @@
 -- A flag a validator: whether it attests in one of some attestations.
-use Rattle.std.specs.Prelude.{◌≡◌, ℕ, ◌+◌, Bool, true, false, not, ◌&&◌, List, [], ◌∷◌, map, filter, drop, slice_set, slice_index_or}
+use Rattle.std.specs.Prelude.{◌≡◌, ℕ, ◌+◌, Bool, false, not, ◌&&◌, List, ◌∷◌, map, filter, drop, slice_index_or}
 use Rattle.std.specs.List.{list_any}
 use Rattle.beacon_types.specs.declared.pending_attestation.PendingAttestation.{PendingAttestation}
 use Rattle.beacon_types.specs.declared.validator.Validator.{Validator}
 use Rattle.spec_state.specs.declared.plain.PlainState.{PlainState}
 use Rattle.spec_state.specs.Misc.{effective_balance}
-use Rattle.spec_state.specs.Accessors.{get_attesting_indices, indices_from}
+use Rattle.spec_state.specs.Accessors.{indices_from}
 use Rattle.spec_epochs.specs.Each.{validator_indices}
-use Rattle.spec_epochs.specs.Helpers.{attests, get_matching_source_attestations}
-use Rattle.participation.specs.declared.matching.Vote.{Vote}
-use Rattle.participation.specs.inside.Votes.{chosen}
+use Rattle.spec_epochs.specs.Helpers.{attests}
 
 -- whether each validator attests in one of the attestations, in order of index
 unfoldable pub attester_flags : PlainState → List PendingAttestation → List Bool
 attester_flags state attestations = map (λ index. list_any (attests state index) attestations) (validator_indices state)
-
--- the flags with those of some validators set
-unfoldable pub marked : List Bool → List ℕ → List Bool
-marked flags [] = flags
-marked flags (index ∷ indices) = marked (slice_set flags index true) indices
-
--- the flags with those of all attesters set
-unfoldable pub all_marked : PlainState → List Bool → List PendingAttestation → List Bool
-all_marked state flags [] = flags
-all_marked state flags (a ∷ attestations) = all_marked state (marked flags (get_attesting_indices state a.content a.aggregation_bits)) attestations
-
--- the same of those of an epoch from a place on that have a vote right
-abbrev pub marked_from : PlainState → List Bool → Vote → ℕ → ℕ → List Bool
-marked_from state flags vote epoch i = all_marked state flags (chosen state vote epoch (drop i (get_matching_source_attestations state epoch)))
 
 -- whether the validator with an index is weighed: it isn't slashed, and its flag is set
 unfoldable pub is_weighed : List Bool → ℕ → Validator → Bool

@@ -3,7 +3,7 @@ use Rattle.std.specs.Prelude.{ℕ, Bool, true, ◌&&◌, List, filter, drop}
 use Rattle.beacon_types.specs.declared.pending_attestation.PendingAttestation.{PendingAttestation}
 use Rattle.spec_state.specs.declared.plain.PlainState.{PlainState}
 use Rattle.spec_state.specs.Genesis.{same_root}
-use Rattle.spec_state.specs.Accessors.{get_block_root_at_slot, get_block_root}
+use Rattle.spec_state.specs.Accessors.{get_block_root_at_slot}
 use Rattle.spec_epochs.specs.Helpers.{get_matching_source_attestations, get_matching_target_attestations, get_matching_head_attestations}
 use Rattle.participation.specs.declared.matching.Vote.{Vote}
 use Rattle.participation.specs.declared.matching.Vote.TheVariants.{Source, Target, Head}
@@ -19,10 +19,6 @@ unfoldable pub matching : PlainState → Vote → ℕ → List PendingAttestatio
 matching state Source epoch = get_matching_source_attestations state epoch
 matching state Target epoch = get_matching_target_attestations state epoch
 matching state Head epoch = get_matching_head_attestations state epoch
-
--- the same, chosen one at a time
-unfoldable pub chosen : PlainState → Vote → ℕ → List PendingAttestation → List PendingAttestation
-chosen state vote epoch attestations = filter (counts_for state vote (get_block_root state epoch)) attestations
 
 -- those of an epoch from a place on that have a vote right, where the root is that of the epoch's first block
 abbrev pub right_from : PlainState → Vote → List ℕ → ℕ → ℕ → List PendingAttestation

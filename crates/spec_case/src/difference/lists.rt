@@ -105,7 +105,7 @@ fn compare_balances(
     difference: &mut Difference,
 ) -> Result<()> {
     match (ours, theirs) {
-        (Some(one), Some(other)) => difference.number(place, one, other),
+        (Some(one), Some(other)) => difference.number(place, "", one, other),
         _ => Ok(()),
     }
 }
@@ -118,7 +118,7 @@ fn compare_roots<T: Leaf>(
     difference: &mut Difference,
 ) -> Result<()> {
     match (ours, theirs) {
-        (Some(one), Some(other)) => difference.bytes(place, &one.root(), &other.root()),
+        (Some(one), Some(other)) => difference.bytes(place, "", &one.root(), &other.root()),
         _ => Ok(()),
     }
 }
@@ -223,8 +223,7 @@ pub(crate) fn compare_lists(
     difference: &mut Difference,
 ) -> Result<()> {
     let name = list.name();
-    let length = format!(in difference.alloc; "length of {name}")?;
-    difference.number(length.as_str(), list.len(ours), list.len(theirs))?;
+    difference.lengths(name, "", list.len(ours), list.len(theirs))?;
     match first_difference(ours, theirs, list) {
         Some(i) => {
             let place = format!(in difference.alloc; "{name}[{i}]")?;

@@ -11,11 +11,8 @@ pub(crate) fn compare_checkpoints(
     theirs: &Checkpoint,
     difference: &mut Difference,
 ) -> Result<()> {
-    let alloc = difference.alloc;
-    let epoch = format!(in alloc; "{name}.epoch")?;
-    difference.number(epoch.as_str(), ours.epoch, theirs.epoch)?;
-    let root = format!(in alloc; "{name}.root")?;
-    difference.bytes(root.as_str(), &ours.root, &theirs.root)
+    difference.number(name, ".epoch", ours.epoch, theirs.epoch)?;
+    difference.bytes(name, ".root", &ours.root, &theirs.root)
 }
 
 /// What is known of the deposit contract.
@@ -25,16 +22,19 @@ pub(crate) fn compare_eth1_data(
     theirs: &Eth1Data,
     difference: &mut Difference,
 ) -> Result<()> {
-    if ours == theirs {
-        return Ok(());
-    }
-    let alloc = difference.alloc;
-    let root = format!(in alloc; "{name}.deposit_root")?;
-    difference.bytes(root.as_str(), &ours.deposit_root, &theirs.deposit_root)?;
-    let count = format!(in alloc; "{name}.deposit_count")?;
-    difference.number(count.as_str(), ours.deposit_count, theirs.deposit_count)?;
-    let hash = format!(in alloc; "{name}.block_hash")?;
-    difference.bytes(hash.as_str(), &ours.block_hash, &theirs.block_hash)
+    difference.bytes(
+        name,
+        ".deposit_root",
+        &ours.deposit_root,
+        &theirs.deposit_root,
+    )?;
+    difference.number(
+        name,
+        ".deposit_count",
+        ours.deposit_count,
+        theirs.deposit_count,
+    )?;
+    difference.bytes(name, ".block_hash", &ours.block_hash, &theirs.block_hash)
 }
 
 /// Two votes for the deposit contract, where there are two.
@@ -57,23 +57,20 @@ fn compare_holdings(
     theirs: &Validator,
     difference: &mut Difference,
 ) -> Result<()> {
-    let alloc = difference.alloc;
-    let name = format!(in alloc; "{place}.pubkey")?;
-    difference.bytes(name.as_str(), &ours.pubkey, &theirs.pubkey)?;
-    let name = format!(in alloc; "{place}.withdrawal_credentials")?;
+    difference.bytes(place, ".pubkey", &ours.pubkey, &theirs.pubkey)?;
     difference.bytes(
-        name.as_str(),
+        place,
+        ".withdrawal_credentials",
         &ours.withdrawal_credentials,
         &theirs.withdrawal_credentials,
     )?;
-    let name = format!(in alloc; "{place}.effective_balance")?;
     difference.number(
-        name.as_str(),
+        place,
+        ".effective_balance",
         ours.effective_balance,
         theirs.effective_balance,
     )?;
-    let name = format!(in alloc; "{place}.slashed")?;
-    difference.truth(name.as_str(), ours.slashed, theirs.slashed)
+    difference.truth(place, ".slashed", ours.slashed, theirs.slashed)
 }
 
 /// When a validator comes and goes.
@@ -83,24 +80,22 @@ fn compare_times(
     theirs: &Validator,
     difference: &mut Difference,
 ) -> Result<()> {
-    let alloc = difference.alloc;
-    let name = format!(in alloc; "{place}.activation_eligibility_epoch")?;
     difference.number(
-        name.as_str(),
+        place,
+        ".activation_eligibility_epoch",
         ours.activation_eligibility_epoch,
         theirs.activation_eligibility_epoch,
     )?;
-    let name = format!(in alloc; "{place}.activation_epoch")?;
     difference.number(
-        name.as_str(),
+        place,
+        ".activation_epoch",
         ours.activation_epoch,
         theirs.activation_epoch,
     )?;
-    let name = format!(in alloc; "{place}.exit_epoch")?;
-    difference.number(name.as_str(), ours.exit_epoch, theirs.exit_epoch)?;
-    let name = format!(in alloc; "{place}.withdrawable_epoch")?;
+    difference.number(place, ".exit_epoch", ours.exit_epoch, theirs.exit_epoch)?;
     difference.number(
-        name.as_str(),
+        place,
+        ".withdrawable_epoch",
         ours.withdrawable_epoch,
         theirs.withdrawable_epoch,
     )

@@ -8,48 +8,60 @@ use beacon_state::State;
 
 /// The time of the beginning, the slot and the fork.
 fn compare_versioning(ours: &State, theirs: &State, difference: &mut Difference) -> Result<()> {
-    difference.number("genesis_time", ours.genesis_time(), theirs.genesis_time())?;
+    difference.number(
+        "genesis_time",
+        "",
+        ours.genesis_time(),
+        theirs.genesis_time(),
+    )?;
     difference.bytes(
         "genesis_validators_root",
+        "",
         &ours.genesis_validators_root(),
         &theirs.genesis_validators_root(),
     )?;
-    difference.number("slot", ours.slot(), theirs.slot())?;
+    difference.number("slot", "", ours.slot(), theirs.slot())?;
     let (one, other) = (ours.fork(), theirs.fork());
     difference.bytes(
-        "fork.previous_version",
+        "fork",
+        ".previous_version",
         &one.previous_version,
         &other.previous_version,
     )?;
     difference.bytes(
-        "fork.current_version",
+        "fork",
+        ".current_version",
         &one.current_version,
         &other.current_version,
     )?;
-    difference.number("fork.epoch", one.epoch, other.epoch)
+    difference.number("fork", ".epoch", one.epoch, other.epoch)
 }
 
 /// The header of the latest block.
 fn compare_headers(ours: &State, theirs: &State, difference: &mut Difference) -> Result<()> {
     let (one, other) = (ours.latest_block_header(), theirs.latest_block_header());
-    difference.number("latest_block_header.slot", one.slot, other.slot)?;
+    difference.number("latest_block_header", ".slot", one.slot, other.slot)?;
     difference.number(
-        "latest_block_header.proposer_index",
+        "latest_block_header",
+        ".proposer_index",
         one.proposer_index,
         other.proposer_index,
     )?;
     difference.bytes(
-        "latest_block_header.parent_root",
+        "latest_block_header",
+        ".parent_root",
         &one.parent_root,
         &other.parent_root,
     )?;
     difference.bytes(
-        "latest_block_header.state_root",
+        "latest_block_header",
+        ".state_root",
         &one.state_root,
         &other.state_root,
     )?;
     difference.bytes(
-        "latest_block_header.body_root",
+        "latest_block_header",
+        ".body_root",
         &one.body_root,
         &other.body_root,
     )
@@ -73,6 +85,7 @@ fn compare_registry(ours: &State, theirs: &State, difference: &mut Difference) -
     compare_lists(ours, theirs, List::Eth1DataVotes, difference)?;
     difference.number(
         "eth1_deposit_index",
+        "",
         ours.eth1_deposit_index(),
         theirs.eth1_deposit_index(),
     )?;
@@ -93,7 +106,7 @@ fn compare_finality(ours: &State, theirs: &State, difference: &mut Difference) -
     let (one, other) = (ours.justification_bits(), theirs.justification_bits());
     for index in 0..4 {
         let name = format!(in difference.alloc; "justification_bits[{index}]")?;
-        difference.truth(name.as_str(), one[index], other[index])?;
+        difference.truth(name.as_str(), "", one[index], other[index])?;
     }
     let (one, other) = (
         ours.previous_justified_checkpoint(),
@@ -117,5 +130,5 @@ pub fn compare_states(ours: &State, theirs: &State, difference: &mut Difference)
     compare_registry(ours, theirs, difference)?;
     compare_epochs(ours, theirs, difference)?;
     compare_finality(ours, theirs, difference)?;
-    difference.bytes("hash_tree_root", &ours.root(), &theirs.root())
+    difference.bytes("hash_tree_root", "", &ours.root(), &theirs.root())
 }

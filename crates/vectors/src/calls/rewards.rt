@@ -2,18 +2,18 @@
 
 ghost use Rattle.std.specs.Prelude.{◌≡◌};
 ghost use Rattle.spec_state.specs.Accessors.{get_previous_epoch};
-ghost use Rattle.spec_state.specs.inside.EpochCommittees.{epoch_committees};
 ghost use Rattle.spec_state.specs.Soundness.{IsSoundWithinEpoch};
+ghost use Rattle.participation.specs.inside.Statuses.{statuses_of};
 
 use crate::calls::answers::stop_line;
 use anyhow::{Result, bail};
 use balance_totals::{committees_of_epoch, previous_epoch};
 use bc_words::Stop;
 use beacon_state::State;
-use committees::EpochCommittees;
 use epoch_rewards::{
     Deltas, head_deltas, inactivity_deltas, inclusion_deltas, source_deltas, target_deltas,
 };
+use participation::{Status, previous_statuses};
 use ssz_codec::Items;
 use std::alloc::Global;
 use transition::is_sound_within_epoch;
@@ -24,7 +24,8 @@ pub fn process_rewards(alloc: Global, state: &mut State) -> Result<Result<(), St
         bail!("the state isn't sound");
     }
     let previous = committees_of_epoch(alloc, state, previous_epoch(state))?;
-    Ok(epoch_rewards::process_rewards(alloc, state, &previous))
+    let statuses = previous_statuses(alloc, state, &previous)?;
+    Ok(epoch_rewards::process_rewards(alloc, state, &statuses))
 }
 
 /// Appends a number to a line.
@@ -67,18 +68,18 @@ fn lines_of(alloc: Global, outcome: &Result<Deltas, Stop>) -> Result<String> {
 fn part(
     alloc: Global,
     state: &State,
-    previous: &EpochCommittees,
+    statuses: &[Status],
     call: &str,
 ) -> Option<Result<Deltas, Stop>>
     requires sound { IsSoundWithinEpoch state.now }
-    requires committees { previous.now ≡ epoch_committees state.now (get_previous_epoch state.now) }
+    requires statuses { statuses.now ≡ statuses_of state.now (get_previous_epoch state.now) }
 {
     match call {
-        "source_deltas" => Some(source_deltas(alloc, state, previous)),
-        "target_deltas" => Some(target_deltas(alloc, state, previous)),
-        "head_deltas" => Some(head_deltas(alloc, state, previous)),
-        "inclusion_deltas" => Some(inclusion_deltas(alloc, state, previous)),
-        "inactivity_deltas" => Some(inactivity_deltas(alloc, state, previous)),
+        "source_deltas" => Some(source_deltas(alloc, state, statuses)),
+        "target_deltas" => Some(target_deltas(alloc, state, statuses)),
+        "head_deltas" => Some(head_deltas(alloc, state, statuses)),
+        "inclusion_deltas" => Some(inclusion_deltas(alloc, state, statuses)),
+        "inactivity_deltas" => Some(inactivity_deltas(alloc, state, statuses)),
         _ => None,
     }
 }
@@ -97,7 +98,8 @@ pub fn deltas_answer(alloc: Global, state: &State, call: &str) -> Result<String>
         bail!("the state isn't sound");
     }
     let previous = committees_of_epoch(alloc, state, previous_epoch(state))?;
-    match part(alloc, state, &previous, call) {
+    let statuses = previous_statuses(alloc, state, &previous)?;
+    match part(alloc, state, &statuses, call) {
         Some(outcome) => lines_of(alloc, &outcome),
         None => bail!("no such part"),
     }

@@ -1,5 +1,6 @@
 //! One case: its words, the files that they name, and what is expected of them.
 
+use crate::case_files::bytes_at;
 use crate::runs::expected::status_text;
 use anyhow::{Context, Result};
 use bc_outside::{MemoryFile, MemoryShelf, MemorySink};
@@ -18,6 +19,8 @@ pub struct Case {
     pieces: Vec<u64>,
     lines: Vec<u8>,
     status: String,
+    /// How many bytes of the last file there are at most.
+    last_len: usize,
 }
 
 /// What the program answered.
@@ -25,15 +28,6 @@ pub struct Case {
 pub struct Answer {
     lines: Vec<u8>,
     status: String,
-}
-
-/// The bytes of a file, None where there is no such file.
-fn bytes_at<R: Files + AllocGlobal>(rt: &R, path: &str) -> Result<Option<Vec<u8>>> {
-    match fs::read(rt, path) {
-        Ok(bytes) => Ok(Some(bytes)),
-        Err(error) if error.kind() == io::ErrorKind::NotFound => Ok(None),
-        Err(error) => Err(error.into()),
-    }
 }
 
 /// The text of a file.
@@ -140,9 +134,15 @@ fn load_into<R: Files + AllocGlobal>(rt: &R, name: &str, case: &mut Case) -> Res
     }
 }
 
-/// A file in memory.
-fn memory_file(alloc: Global, name: &String, bytes: &Vec<u8>) -> Result<MemoryFile, AllocError> {
-    Ok(MemoryFile::new(name.clone()?, Vec::from_slice(alloc, bytes)?))
+/// A file in memory, of so many bytes at most.
+fn memory_file(
+    alloc: Global,
+    name: &String,
+    bytes: &[u8],
+    len: usize,
+) -> Result<MemoryFile, AllocError> {
+    let kept = Vec::from_slice(alloc, &bytes[..len.min(bytes.len())])?;
+    Ok(MemoryFile::new(name.clone()?, kept))
 }
 
 /// What the program wrote, and its status.
@@ -151,6 +151,18 @@ fn answer_of(alloc: Global, status: &Status, lines: &[u8]) -> Result<Answer> {
         lines: Vec::from_slice(alloc, lines)?,
         status: status_text(alloc, status)?,
     })
+}
+
+impl Answer {
+    /// The status, as the cases write it.
+    pub fn status(&self) -> &str {
+        self.status.as_str()
+    }
+
+    /// What was written.
+    pub fn lines(&self) -> &[u8] {
+        self.lines.as_slice()
+    }
 }
 
 impl Case {
@@ -164,6 +176,7 @@ impl Case {
             pieces: Vec::new(alloc),
             lines: Vec::new(alloc),
             status: String::new(alloc),
+            last_len: usize::MAX,
         }
     }
 
@@ -186,11 +199,50 @@ impl Case {
         self.pieces.as_slice()
     }
 
+    /// The expected lines.
+    pub fn lines(&self) -> &[u8] {
+        self.lines.as_slice()
+    }
+
+    /// How many bytes the last file has.
+    pub fn last_len(&self) -> usize {
+        match self.files.last() {
+            Some((_name, bytes)) => bytes.len(),
+            None => 0,
+        }
+    }
+
+    /// Leaves so many bytes of the last file.
+    pub fn cut_last(&mut self, len: usize) {
+        self.last_len = len;
+    }
+
+    /// Lets the shelf's call of this number fail, and no other one.
+    pub fn fail_call(&mut self, call: u64) -> Result<(), AllocError> {
+        self.failing_calls.clear();
+        self.failing_calls.push(call)?;
+        Ok(())
+    }
+
+    /// Lets the sink's call of this number fail, and no other one.
+    pub fn fail_write(&mut self, call: u64) -> Result<(), AllocError> {
+        self.failing_writes.clear();
+        self.failing_writes.push(call)?;
+        Ok(())
+    }
+
     /// The files in memory.
     fn memory_files(&self, alloc: Global) -> Result<Vec<MemoryFile>, AllocError> {
         let mut files = Vec::new(alloc);
+        let mut left = self.files.len();
         for (name, bytes) in &self.files {
-            files.push(memory_file(alloc, name, bytes)?)?;
+            let len = if left == 1 {
+                self.last_len
+            } else {
+                bytes.len()
+            };
+            files.push(memory_file(alloc, name, bytes, len)?)?;
+            left = left.saturating_sub(1);
         }
         Ok(files)
     }

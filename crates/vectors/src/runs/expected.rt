@@ -9,98 +9,120 @@ use spec_fork_choice::AnchorFault;
 use spec_genesis::DepositsFault;
 use spec_state::GenesisFault;
 use std::alloc::{AllocError, Global};
+use std::fmt;
 
-/// A configuration's fault, as the cases name it.
-fn config_text(alloc: Global, fault: ConfigFault) -> Result<String, AllocError> {
-    match fault {
-        ConfigFault::TooLong => format!(in alloc; "TooLong"),
-        ConfigFault::BadLine(line) => format!(in alloc; "BadLine({line})"),
-        ConfigFault::Twice(line) => format!(in alloc; "Twice({line})"),
-        ConfigFault::BadNumber(line) => format!(in alloc; "BadNumber({line})"),
-        ConfigFault::BadPreset(line) => format!(in alloc; "BadPreset({line})"),
-        ConfigFault::Missing(key) => format!(in alloc; "Missing({})", key.name()),
-        ConfigFault::OutOfRange(key) => format!(in alloc; "OutOfRange({})", key.name()),
+/// A fault as the cases name it, with what it is about.
+#[derive(Clone, Copy)]
+enum Detail {
+    /// Nothing more.
+    Plain(&'static str),
+    /// A number.
+    Number(&'static str, u64),
+    /// A key.
+    Key(&'static str, &'static str),
+}
+
+impl fmt::Display for Detail {
+    fn fmt<W: fmt::Write>(&self, f: &mut fmt::Formatter<W>) -> fmt::Result {
+        match *self {
+            Detail::Plain(name) => write!(f, "{name}"),
+            Detail::Number(name, number) => write!(f, "{name}({number})"),
+            Detail::Key(name, key) => write!(f, "{name}({key})"),
+        }
     }
 }
 
-/// A part of a genesis state, as the cases name it.
-fn genesis_text(alloc: Global, part: GenesisFault) -> Result<String, AllocError> {
+/// A configuration's fault.
+fn config_detail(fault: ConfigFault) -> Detail {
+    match fault {
+        ConfigFault::TooLong => Detail::Plain("TooLong"),
+        ConfigFault::BadLine(line) => Detail::Number("BadLine", line),
+        ConfigFault::Twice(line) => Detail::Number("Twice", line),
+        ConfigFault::BadNumber(line) => Detail::Number("BadNumber", line),
+        ConfigFault::BadPreset(line) => Detail::Number("BadPreset", line),
+        ConfigFault::Missing(key) => Detail::Key("Missing", key.name()),
+        ConfigFault::OutOfRange(key) => Detail::Key("OutOfRange", key.name()),
+    }
+}
+
+/// A part of a genesis state.
+fn genesis_detail(part: GenesisFault) -> Detail {
     match part {
-        GenesisFault::TooLong => format!(in alloc; "TooLong"),
-        GenesisFault::NotAWriting => format!(in alloc; "NotAWriting"),
-        GenesisFault::Slot => format!(in alloc; "Slot"),
-        GenesisFault::Header => format!(in alloc; "Header"),
-        GenesisFault::Checkpoints => format!(in alloc; "Checkpoints"),
-        GenesisFault::Bits => format!(in alloc; "Bits"),
-        GenesisFault::Slashings => format!(in alloc; "Slashings"),
-        GenesisFault::Lists => format!(in alloc; "Lists"),
-        GenesisFault::Balances => format!(in alloc; "Balances"),
-        GenesisFault::Validator(index, _) => format!(in alloc; "Validator({index})"),
+        GenesisFault::TooLong => Detail::Plain("TooLong"),
+        GenesisFault::NotAWriting => Detail::Plain("NotAWriting"),
+        GenesisFault::Slot => Detail::Plain("Slot"),
+        GenesisFault::Header => Detail::Plain("Header"),
+        GenesisFault::Checkpoints => Detail::Plain("Checkpoints"),
+        GenesisFault::Bits => Detail::Plain("Bits"),
+        GenesisFault::Slashings => Detail::Plain("Slashings"),
+        GenesisFault::Lists => Detail::Plain("Lists"),
+        GenesisFault::Balances => Detail::Plain("Balances"),
+        GenesisFault::Validator(index, _) => Detail::Number("Validator", index),
     }
 }
 
-/// A record's fault, as the cases name it.
-fn record_text(alloc: Global, fault: RecordFault) -> Result<String, AllocError> {
+/// A record's fault.
+fn record_detail(fault: RecordFault) -> Detail {
     match fault {
-        RecordFault::BadMagic => format!(in alloc; "BadMagic"),
-        RecordFault::TooMany => format!(in alloc; "TooMany"),
-        RecordFault::BadKind(kind) => format!(in alloc; "BadKind({kind})"),
-        RecordFault::Torn => format!(in alloc; "Torn"),
-        RecordFault::TooLong(len) => format!(in alloc; "TooLong({len})"),
+        RecordFault::BadMagic => Detail::Plain("BadMagic"),
+        RecordFault::TooMany => Detail::Plain("TooMany"),
+        RecordFault::BadKind(kind) => Detail::Number("BadKind", u64::from(kind)),
+        RecordFault::Torn => Detail::Plain("Torn"),
+        RecordFault::TooLong(len) => Detail::Number("TooLong", u64::from(len)),
     }
 }
 
-/// A fault of a file of deposits, as the cases name it.
-fn deposits_text(alloc: Global, fault: DepositsFault) -> Result<String, AllocError> {
+/// A fault of a file of deposits.
+fn deposits_detail(fault: DepositsFault) -> Detail {
     match fault {
-        DepositsFault::TooLong => format!(in alloc; "TooLong"),
-        DepositsFault::BadMagic => format!(in alloc; "BadMagic"),
-        DepositsFault::Torn => format!(in alloc; "Torn"),
-        DepositsFault::Overflow(index) => format!(in alloc; "Overflow({index})"),
+        DepositsFault::TooLong => Detail::Plain("TooLong"),
+        DepositsFault::BadMagic => Detail::Plain("BadMagic"),
+        DepositsFault::Torn => Detail::Plain("Torn"),
+        DepositsFault::Overflow(index) => Detail::Number("Overflow", index),
     }
 }
 
-/// A bound, as the cases name it.
-fn limit_text(alloc: Global, limit: Limit) -> Result<String, AllocError> {
+/// A bound.
+fn limit_detail(limit: Limit) -> Detail {
     match limit {
-        Limit::Slots(count) => format!(in alloc; "Slots({count})"),
-        Limit::Proposer => format!(in alloc; "Proposer"),
+        Limit::Slots(count) => Detail::Number("Slots", count),
+        Limit::Proposer => Detail::Plain("Proposer"),
     }
 }
 
-/// How a block clashes, as the cases name it.
-fn clash_text(alloc: Global, kind: ClashKind) -> Result<String, AllocError> {
+/// How a block clashes.
+fn clash_detail(kind: ClashKind) -> Detail {
     match kind {
-        ClashKind::ZeroBlock => format!(in alloc; "ZeroBlock"),
-        ClashKind::ZeroState => format!(in alloc; "ZeroState"),
-        ClashKind::Kept(number) => format!(in alloc; "Kept({number})"),
+        ClashKind::ZeroBlock => Detail::Plain("ZeroBlock"),
+        ClashKind::ZeroState => Detail::Plain("ZeroState"),
+        ClashKind::Kept(number) => Detail::Number("Kept", u64::from(number)),
     }
 }
 
-/// Why duties can't be told, as the cases name it.
-fn duties_text(alloc: Global, fault: DutiesFault) -> Result<String, AllocError> {
+/// Why duties can't be told.
+fn duties_detail(fault: DutiesFault) -> Detail {
     match fault {
-        DutiesFault::TooLong => format!(in alloc; "TooLong"),
-        DutiesFault::NotAWriting => format!(in alloc; "NotAWriting"),
-        DutiesFault::Unsound => format!(in alloc; "Unsound"),
-        DutiesFault::Epoch => format!(in alloc; "Epoch"),
-        DutiesFault::Refused(refusal) => format!(in alloc; "Refused({})", refusal.number()),
+        DutiesFault::TooLong => Detail::Plain("TooLong"),
+        DutiesFault::NotAWriting => Detail::Plain("NotAWriting"),
+        DutiesFault::Unsound => Detail::Plain("Unsound"),
+        DutiesFault::Epoch => Detail::Plain("Epoch"),
+        DutiesFault::Refused(why) => Detail::Number("Refused", u64::from(why.number())),
     }
 }
 
-/// Why a state and a block are no anchor, as the cases name it.
-fn anchor_text(alloc: Global, fault: AnchorFault) -> Result<String, AllocError> {
+/// Why a state and a block are no anchor.
+fn anchor_detail(fault: AnchorFault) -> Detail {
     match fault {
-        AnchorFault::StateTooLong => format!(in alloc; "StateTooLong"),
-        AnchorFault::StateNotAWriting => format!(in alloc; "StateNotAWriting"),
-        AnchorFault::BlockTooLong => format!(in alloc; "BlockTooLong"),
-        AnchorFault::BlockNotAWriting => format!(in alloc; "BlockNotAWriting"),
-        AnchorFault::EpochStart(_) => format!(in alloc; "EpochStart"),
-        AnchorFault::BlockSlot(_, _) => format!(in alloc; "BlockSlot"),
-        AnchorFault::Unsound => format!(in alloc; "Unsound"),
-        AnchorFault::StateRoot(_, _) => format!(in alloc; "StateRoot"),
-        AnchorFault::Header(_, _) => format!(in alloc; "Header"),
-        AnchorFault::Time(_, _) => format!(in alloc; "Time"),
+        AnchorFault::StateTooLong => Detail::Plain("StateTooLong"),
+        AnchorFault::StateNotAWriting => Detail::Plain("StateNotAWriting"),
+        AnchorFault::BlockTooLong => Detail::Plain("BlockTooLong"),
+        AnchorFault::BlockNotAWriting => Detail::Plain("BlockNotAWriting"),
+        AnchorFault::EpochStart(_) => Detail::Plain("EpochStart"),
+        AnchorFault::BlockSlot(_, _) => Detail::Plain("BlockSlot"),
+        AnchorFault::Unsound => Detail::Plain("Unsound"),
+        AnchorFault::StateRoot(_, _) => Detail::Plain("StateRoot"),
+        AnchorFault::Header(_, _) => Detail::Plain("Header"),
+        AnchorFault::Time(_, _) => Detail::Plain("Time"),
     }
 }
 
@@ -110,11 +132,11 @@ pub fn status_text(alloc: Global, status: &Status) -> Result<String, AllocError>
     let name = status.name();
     match status {
         Status::Config(fault) => {
-            let fault = config_text(alloc, *fault)?;
+            let fault = config_detail(*fault);
             format!(in alloc; "{number} {name} fault={fault}")
         }
         Status::Genesis(part) => {
-            let part = genesis_text(alloc, *part)?;
+            let part = genesis_detail(*part);
             format!(in alloc; "{number} {name} part={part}")
         }
         Status::Record {
@@ -122,7 +144,7 @@ pub fn status_text(alloc: Global, status: &Status) -> Result<String, AllocError>
             event,
             fault,
         } => {
-            let fault = record_text(alloc, *fault)?;
+            let fault = record_detail(*fault);
             format!(in alloc; "{number} {name} which={which} event={event} fault={fault}")
         }
         Status::Limit {
@@ -130,7 +152,7 @@ pub fn status_text(alloc: Global, status: &Status) -> Result<String, AllocError>
             event,
             limit,
         } => {
-            let limit = limit_text(alloc, *limit)?;
+            let limit = limit_detail(*limit);
             format!(in alloc; "{number} {name} which={which} event={event} limit={limit}")
         }
         Status::Clash {
@@ -139,21 +161,21 @@ pub fn status_text(alloc: Global, status: &Status) -> Result<String, AllocError>
             kind,
             kept_which,
         } => {
-            let kind = clash_text(alloc, *kind)?;
+            let kind = clash_detail(*kind);
             format!(in alloc;
                 "{number} {name} which={which} event={event} kind={kind} kept_which={kept_which}"
             )
         }
         Status::Deposits(fault) => {
-            let fault = deposits_text(alloc, *fault)?;
+            let fault = deposits_detail(*fault);
             format!(in alloc; "{number} {name} fault={fault}")
         }
         Status::Duties(fault) => {
-            let fault = duties_text(alloc, *fault)?;
+            let fault = duties_detail(*fault);
             format!(in alloc; "{number} {name} fault={fault}")
         }
         Status::Anchor(fault) => {
-            let fault = anchor_text(alloc, *fault)?;
+            let fault = anchor_detail(*fault);
             format!(in alloc; "{number} {name} fault={fault}")
         }
         _ => format!(in alloc; "{number} {name}"),

@@ -1,5 +1,11 @@
 -- The step from the state of the kept parent.
-use Rattle.std.proofs.Common.{◌∙◌, rules}
+use Rattle.std.proofs.Common.{◌≡◌, ◌∙◌, rules, ap, subst, sym}
+use Rattle.bc_words.specs.Outcome.{done}
+use Rattle.spec_transition.specs.ProcessSlots.{Stepped}
+use Rattle.spec_fork_choice.specs.OnBlock.{block_step}
+use Rattle.fork_store.specs.Stores.{IsBehind}
+use Rattle.fork_store.specs.inside.Chains.{IsLinked}
+use Rattle.fork_store.specs.inside.Keepers.{IsStepOn}
 use Rattle.fork_store.proofs.Keepers.{behind_preset, behind_sound}
 use Rattle.fork_store.proofs.Steps.{state_root_is}
 use Rattle.fork_store.proofs.Stepping.{step_gives, step_done, step_parent, step_linked, stepped_on}
@@ -14,19 +20,21 @@ returns-in_err-step-clause-step g c =
 
 pub returns-clause-step : goal.returns-clause-step
 returns-clause-step g c =
-    step_done c.args.store.now c.args.block.now c.args.parent.now c.requires.parent c.requires.checked.value c.requires.checked.is c.in_ok-step.step (rw (← c.config.ensures) c.in_ok-step.ensures.step)
+    subst (λ (s : Stepped). block_step c.args.store.now c.args.block.now ≡ done s) (sym c.of.ensures)
+    (step_done c.args.store.now c.args.block.now c.args.parent.now c.requires.parent c.requires.checked.value c.requires.checked.is c.in_ok-step.step (rw (← c.config.ensures) c.in_ok-step.ensures.step))
 
 pub returns-clause-behind : goal.returns-clause-behind
-returns-clause-behind g c = record {
+returns-clause-behind g c = subst (λ (s : Stepped). IsBehind c.args.block.now.message s.state) (sym c.of.ensures) (record {
   sound = c.in_ok-step.ensures.sound;
   slot = c.in_ok-step.ensures.slot;
   latest = c.in_ok-step.ensures.latest;
   state_root = state_root_is c.args.parent.now c.args.block.now _ c.in_ok-step.step c.in_ok-step.ensures.step;
-}
+})
 
 pub returns-clause-preset : goal.returns-clause-preset
 returns-clause-preset g c =
-    c.in_ok-step.ensures.preset
+    ap (λ (s : Stepped). s.state.preset) c.of.ensures
+    ∙ c.in_ok-step.ensures.preset
     ∙ behind_preset c.args.store.now.blocks c.args.block.now.message.parent_root c.args.parent.now c.requires.parent c.args.store.now.config.preset c.is_sound.ensures.store.presets
 
 pub returns-clause-parent : goal.returns-clause-parent
@@ -34,8 +42,10 @@ returns-clause-parent g c = step_parent c.args.store.now c.args.block.now c.args
 
 pub returns-clause-linked : goal.returns-clause-linked
 returns-clause-linked g c =
-    step_linked c.args.store.now c.args.block.now c.args.parent.now c.in_ok-step.step c.requires.parent (rw (← c.config.ensures) c.in_ok-step.ensures.step) c.requires.chained c.is_sound.ensures.preset c.requires.low
+    subst (λ (s : Stepped). IsLinked c.args.store.now.config c.args.store.now.blocks s.state) (sym c.of.ensures)
+    (step_linked c.args.store.now c.args.block.now c.args.parent.now c.in_ok-step.step c.requires.parent (rw (← c.config.ensures) c.in_ok-step.ensures.step) c.requires.chained c.is_sound.ensures.preset c.requires.low)
 
 pub returns-clause-stepped : goal.returns-clause-stepped
 returns-clause-stepped g c =
-    stepped_on c.args.store.now c.args.block.now c.args.parent.now c.in_ok-step.step c.requires.parent (rw (← c.config.ensures) c.in_ok-step.ensures.step) c.is_sound.ensures.store
+    subst (λ (s : Stepped). IsStepOn c.args.store.now.config c.args.store.now.blocks c.args.block.now s.state) (sym c.of.ensures)
+    (stepped_on c.args.store.now c.args.block.now c.args.parent.now c.in_ok-step.step c.requires.parent (rw (← c.config.ensures) c.in_ok-step.ensures.step) c.is_sound.ensures.store)

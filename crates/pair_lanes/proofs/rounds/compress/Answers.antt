@@ -6,7 +6,7 @@ use Rattle.pair_lanes.proofs.rounds.compress.Goals as goal
 
 pub returns : goal.returns
 unfolding compress
-returns c j b less words_are =
+returns g c j b less words_are =
     let h = variables j c.args.h in
     let words = schedule b 48 in
     let one = c.sixteen_steps-v.ensures j h words less words_are (no_round h words) in

@@ -6,7 +6,7 @@ use Rattle.pair_lanes.proofs.rounds.compress_padding.Goals as goal
 
 pub returns : goal.returns
 unfolding compress
-returns c j less =
+returns g c j less =
     let h = variables j c.args.h in
     let one = c.sixteen_padding_steps-v.ensures j h less (no_round h (schedule padding_block 48)) in
     let two = c.sixteen_padding_steps-v-2.ensures j h less one in

@@ -6,10 +6,10 @@ use Rattle.pair_lanes.proofs.Expansion.{next_is}
 use Rattle.pair_lanes.proofs.rounds.expand_from.Goals as goal
 
 pub words-init : goal.words-init
-words-init c = record { room = c.told-w; so_far = λ j b less before k below. before k below }
+words-init g c = record { room = c.told-w; so_far = λ j b less before k below. before k below }
 
 pub words-preserved : goal.words-preserved
-words-preserved c = record {
+words-preserved g c = record {
   room = length-set c.words.w c.words.t c.following.result ∙ c.words.invariant.room;
   so_far = λ j b less begun k below. elim (cases_lt k c.words.t) [
     | inl before ↦
@@ -25,4 +25,4 @@ words-preserved c = record {
 }
 
 pub returns : goal.returns
-returns c j b less begun k below = c.words.invariant.so_far j b less begun k (let done : c.words.t ≡ 64 = omega (arith, c.words.auto.t-end (omega arith)) in omega arith)
+returns g c j b less begun k below = c.words.invariant.so_far j b less begun k (let done : c.words.t ≡ 64 = omega (arith, c.words.auto.t-end (omega arith)) in omega arith)

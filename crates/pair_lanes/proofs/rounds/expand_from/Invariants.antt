@@ -5,7 +5,7 @@ use Rattle.pair_lanes.specs.inside.Lanes.{lane_at}
 use Rattle.pair_lanes.proofs.rounds.expand_from.Given as goal
 
 abbrev pub invariant-words : goal.invariant-words
-invariant-words l = record {
+invariant-words g l = record {
   room : length l.w ≡ 64;
-  so_far : (j : ℕ) (b : List ℕ) → j < 8 → ((k : ℕ) → k < l.from → lane_at l.initial.w k j ≡ slice_index (schedule b 48) k) → (k : ℕ) → k < l.t → lane_at l.w k j ≡ slice_index (schedule b 48) k;
+  so_far : (j : ℕ) (b : List ℕ) → j < g.row.N → ((k : ℕ) → k < l.from → lane_at l.initial.w k j ≡ slice_index (schedule b 48) k) → (k : ℕ) → k < l.t → lane_at l.w k j ≡ slice_index (schedule b 48) k;
 }

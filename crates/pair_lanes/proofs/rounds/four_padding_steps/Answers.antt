@@ -4,7 +4,7 @@ use Rattle.pair_lanes.specs.inside.Lanes.{padding_block}
 use Rattle.pair_lanes.proofs.rounds.four_padding_steps.Goals as goal
 
 pub returns : goal.returns
-returns c j h less before =
+returns g c j h less before =
     let after = rounds h (schedule padding_block 48) in
     let one = c.padding_step-v.ensures j h less before in
     let two = c.padding_step-v-2.ensures j h less one in

@@ -3,7 +3,7 @@ use Rattle.sha2.specs.Sha256.{rounds}
 use Rattle.pair_lanes.proofs.rounds.four_steps.Goals as goal
 
 pub returns : goal.returns
-returns c j h words less words_are before =
+returns g c j h words less words_are before =
     let after = rounds h words in
     let one = c.step-v.ensures j h words less (words_are c.args.t (omega arith)) before in
     let two = c.step-v-2.ensures j h words less (words_are (c.args.t + 1) (omega arith)) one in

@@ -1,8 +1,13 @@
-use Rattle.sha2.specs.Sha256.{schedule}
-use Rattle.pair_lanes.specs.inside.Lanes.{variables, padding_block}
-use Rattle.pair_lanes.proofs.Padding.{padding_lane}
-use Rattle.pair_lanes.proofs.Schedules.{next_round}
+use Rattle.std.proofs.Common.{ap, ◌∙◌, slice_index}
+use Rattle.std.proofs.lemmas.List.{get_or-replicate}
+use Rattle.sha2.specs.Sha256.{round}
+use Rattle.pair_lanes.specs.declared.constants.TheConstants.{PADDING_SUMS}
+use Rattle.pair_lanes.specs.inside.Lanes.{variables}
+use Rattle.pair_lanes.proofs.Padding.{padding_round}
 use Rattle.pair_lanes.proofs.rounds.padding_step.Goals as goal
 
 pub returns : goal.returns
-returns c j h less before = next_round h (schedule padding_block 48) (variables j c.args.v) c.args.t _ _ before (padding_lane c.args.t j less) (c.round.ensures j less)
+returns g c j h less before =
+    let v = variables j c.args.v in
+    padding_round h v c.args.t _ before
+    (c.round.ensures j less ∙ ap (round v (slice_index PADDING_SUMS c.args.t)) (get_or-replicate g.row.N j 0 0 less))

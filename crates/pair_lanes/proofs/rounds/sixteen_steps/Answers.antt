@@ -3,7 +3,7 @@ use Rattle.sha2.specs.Sha256.{rounds}
 use Rattle.pair_lanes.proofs.rounds.sixteen_steps.Goals as goal
 
 pub returns : goal.returns
-returns c j h words less words_are before =
+returns g c j h words less words_are before =
     let after = rounds h words in
     let one = c.four_steps-v.ensures j h words less words_are before in
     let two = c.four_steps-v-2.ensures j h words less words_are one in

@@ -5,6 +5,6 @@ use Rattle.pair_lanes.proofs.Rotations.{rotated_three}
 use Rattle.pair_lanes.proofs.words.big_sigma0.Goals as goal
 
 pub returns : goal.returns
-returns c j h =
+returns g c j h =
     rw (c.turn-3.ensures j h, c.xor-2.ensures j h, c.turn-2.ensures j h, c.xor.ensures j h, c.turn.ensures j h)
     (rotated_three 32 (slice_index c.args.x j) 2 11 9 (omega arith) (Fits-lt-pow (Each1-get_or (Fits w32) c.args.x j 0 (omega arith) c.fits-x.1)))

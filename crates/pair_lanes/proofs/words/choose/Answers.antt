@@ -2,4 +2,4 @@ use Rattle.std.proofs.Common.{refl}
 use Rattle.pair_lanes.proofs.words.choose.Goals as goal
 
 pub returns : goal.returns
-returns c j h = rw (c.xor.ensures j h, c.and.ensures j h, c.without.ensures j h) refl
+returns g c j h = rw (c.xor.ensures j h, c.and.ensures j h, c.without.ensures j h) refl

@@ -3,4 +3,4 @@ use Rattle.pair_lanes.proofs.Majority.{fewer}
 use Rattle.pair_lanes.proofs.words.majority.Goals as goal
 
 pub returns : goal.returns
-returns c j h = rw (c.xor-3.ensures j h, c.and.ensures j h, c.xor.ensures j h, c.xor-2.ensures j h) (fewer (slice_index c.args.x j) (slice_index c.args.y j) (slice_index c.args.z j))
+returns g c j h = rw (c.xor-3.ensures j h, c.and.ensures j h, c.xor.ensures j h, c.xor-2.ensures j h) (fewer (slice_index c.args.x j) (slice_index c.args.y j) (slice_index c.args.z j))

@@ -1,0 +1,174 @@
+//! The list of an epoch's active validators, which states share.
+
+ghost use Rattle.std.specs.Prelude.{◌≡◌, ◌<◌, ◌++◌, ◌∷◌, [], length, slice_set, IfOk, IfSome, IsTrue, None};
+ghost use Rattle.spec_state.specs.Predicates.{is_active_validator};
+ghost use Rattle.active_sets.specs.inside.Active.{IsActiveIn};
+
+use crate::predicates::is_active_validator;
+use bc_words::NoMemory;
+use beacon_types::Validator;
+use shared_tree::SharedList;
+use std::alloc::Global;
+use std::marker::Model;
+use std::rc::Rc;
+
+/// The indices of the validators that are active at an epoch, in order, and the sum of their effective balances, in Gwei, where it
+/// was noted.
+#[derive(Drop)]
+pub struct ActiveList {
+    epoch: u64,
+    indices: Rc<Vec<u64>>,
+    balance: Option<u64>,
+}
+
+impl Model for ActiveList {
+    ghost use Rattle.active_sets.specs.inside.Active.{Listed};
+
+    ghost Value = { Listed };
+
+    ghost view = { λ list. record { epoch = list.epoch; indices = list.indices.value.items; balance = list.balance } };
+}
+
+impl ActiveList {
+    /// These indices, listed for an epoch.
+    pub fn new(alloc: Global, epoch: u64, indices: Vec<u64>) -> Result<ActiveList, NoMemory>
+        ensures { IfOk result (λ list. list ≡ record { epoch = epoch; indices = indices.items; balance = None }) }
+    {
+        let indices = Rc::new(alloc, indices)?;
+        Ok(ActiveList {
+            epoch,
+            indices,
+            balance: None,
+        })
+    }
+
+    /// The epoch.
+    pub fn epoch(&self) -> u64
+        ensures { result ≡ self.now.epoch }
+    {
+        self.epoch
+    }
+
+    /// The indices.
+    pub fn indices(&self) -> &[u64]
+        ensures { result.now ≡ self.now.indices }
+    {
+        &self.indices
+    }
+
+    /// The indices, to be shared.
+    pub fn shared(&self) -> Result<Rc<Vec<u64>>, NoMemory>
+        ensures { IfOk result (λ indices. indices.value.items ≡ self.now.indices) }
+    {
+        Ok(self.indices.clone()?)
+    }
+
+    /// The sum, where it was noted.
+    pub fn balance(&self) -> Option<u64>
+        ensures { result ≡ self.now.balance }
+    {
+        self.balance
+    }
+
+    /// Notes the sum.
+    pub fn note_balance(&mut self, balance: Option<u64>)
+        ensures { self.new ≡ record self.old { balance = balance } }
+    {
+        self.balance = balance;
+    }
+
+    /// The same list, whose indices are shared.
+    pub fn share(&self) -> Result<ActiveList, NoMemory>
+        ensures { IfOk result (λ list. list ≡ self.now) }
+    {
+        let indices = self.indices.clone()?;
+        Ok(ActiveList {
+            epoch: self.epoch,
+            indices,
+            balance: self.balance,
+        })
+    }
+}
+
+/// Whether a validator is active at an epoch exactly where the one is whose place it takes.
+fn is_active_alike(before: &Validator, after: &Validator, epoch: u64) -> bool
+    ensures { IsTrue result → is_active_validator before.now epoch ≡ is_active_validator after.now epoch }
+{
+    is_active_validator(before, epoch) == is_active_validator(after, epoch)
+}
+
+/// The list, so far as it stays true where a validator takes the place of another one.
+#[tactic(auto, using(crate::proofs::Following::list_at, crate::proofs::Following::balance_at))]
+fn changed_at(
+    list: ActiveList,
+    validators: &SharedList<Validator>,
+    i: u64,
+    validator: &Validator,
+) -> Option<ActiveList>
+    requires place { i < length validators.now.items }
+    requires active { IsActiveIn validators.now.items list }
+    ensures before { IfSome result (IsActiveIn validators.now.items) }
+    ensures behind { IfSome result (IsActiveIn (slice_set validators.now.items i validator.now)) }
+{
+    let mut list = list;
+    let Some(before) = validators.get(i) else {
+        return None;
+    };
+    if !is_active_alike(before, validator, list.epoch()) {
+        return None;
+    }
+    if before.effective_balance != validator.effective_balance {
+        list.note_balance(None);
+        return Some(list);
+    }
+    Some(list)
+}
+
+/// The list, where it stays true once a validator is put behind the others.
+#[tactic(auto, using(crate::proofs::Following::list_behind, crate::proofs::Following::balance_behind))]
+fn pushed_behind(
+    list: ActiveList,
+    validators: &SharedList<Validator>,
+    validator: &Validator,
+) -> Option<ActiveList>
+    requires { IsActiveIn validators.now.items list }
+    ensures before { IfSome result (IsActiveIn validators.now.items) }
+    ensures behind { IfSome result (IsActiveIn (validators.now.items ++ validator.now ∷ [])) }
+{
+    if is_active_validator(validator, list.epoch()) {
+        return None;
+    }
+    Some(list)
+}
+
+/// Gives a kept list up so far as it isn't true of the registry any longer once a validator takes a place.
+pub(crate) fn follow_set(
+    kept: &mut Option<ActiveList>,
+    validators: &SharedList<Validator>,
+    i: u64,
+    validator: &Validator,
+)
+    requires place { i < length validators.now.items }
+    requires active { IfSome kept.old (IsActiveIn validators.now.items) }
+    ensures before { IfSome kept.new (IsActiveIn validators.now.items) }
+    ensures behind { IfSome kept.new (IsActiveIn (slice_set validators.now.items i validator.now)) }
+{
+    if let Some(list) = kept.take() {
+        *kept = changed_at(list, validators, i, validator);
+    }
+}
+
+/// Gives a kept list up where it isn't true of the registry any longer once a validator is put behind the others.
+pub(crate) fn follow_push(
+    kept: &mut Option<ActiveList>,
+    validators: &SharedList<Validator>,
+    validator: &Validator,
+)
+    requires { IfSome kept.old (IsActiveIn validators.now.items) }
+    ensures before { IfSome kept.new (IsActiveIn validators.now.items) }
+    ensures behind { IfSome kept.new (IsActiveIn (validators.now.items ++ validator.now ∷ [])) }
+{
+    if let Some(list) = kept.take() {
+        *kept = pushed_behind(list, validators, validator);
+    }
+}

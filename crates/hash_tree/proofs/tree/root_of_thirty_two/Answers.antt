@@ -1,0 +1,7 @@
+use Rattle.std.proofs.Common.{sym, ap, ◌∙◌}
+use Rattle.hash_tree.specs.Merkle.{merkle_root}
+use Rattle.hash_tree.proofs.Layers.{one_layer}
+use Rattle.hash_tree.proofs.tree.root_of_thirty_two.Goals as goal
+
+pub returns : goal.returns
+returns c = c.root_of_sixteen.ensures ∙ (ap (merkle_root 4) c.hash_layer.ensures ∙ sym (one_layer 4 c.args.nodes.now c.told-nodes))

@@ -1,0 +1,15 @@
+-- The balance of those who have the target right in an epoch's table is that of the attesters of its first block.
+use Rattle.std.proofs.Common.{◌≡◌, ℕ, List, ap}
+use Rattle.spec_state.specs.declared.plain.PlainState.{PlainState}
+use Rattle.spec_state.specs.Accessors.{get_total_balance}
+use Rattle.spec_epochs.specs.Helpers.{get_matching_target_attestations, get_attesting_balance}
+use Rattle.participation.specs.declared.matching.Vote.TheVariants.{Target}
+use Rattle.participation.specs.declared.table.Status.{Status}
+use Rattle.participation.specs.inside.Votes.{matching}
+use Rattle.participation.specs.inside.Marks.{flagged}
+use Rattle.participation.specs.inside.Statuses.{statuses_of, flags_of}
+use Rattle.participation.proofs.Columns.{voters_are}
+
+pub targets_are : (state : PlainState) (statuses : List Status) (epoch : ℕ) → statuses ≡ statuses_of state epoch → get_total_balance state (flagged state (flags_of Target statuses)) ≡ get_attesting_balance state (get_matching_target_attestations state epoch)
+unfolding get_attesting_balance matching
+targets_are state statuses epoch are = ap (get_total_balance state) (voters_are state epoch statuses are Target)
