@@ -6,7 +6,6 @@ ghost use Rattle.spec_state.specs.Accessors.{get_current_epoch};
 
 use crate::block::{BEGIN, put_offsets};
 use crate::genesis::Genesis;
-use crate::hashes::{HEADER, Pairs, Step, pairs_of_body};
 use crate::states::{put, put_number, put_offset};
 use anyhow::{Result, bail};
 use balance_totals::{block_root, committees_of_epoch, current_epoch};
@@ -31,9 +30,9 @@ const ATTESTATION: usize = 228;
 #[derive(Drop)]
 pub struct Event {
     /// 1 a tick, 2 a signed block, 3 an attestation from the wire, 4 one from a block.
-    pub kind: u8,
+    kind: u8,
     /// What it brings.
-    pub payload: Vec<u8>,
+    payload: Vec<u8>,
 }
 
 /// A vote of the chain: what it says, and how many members its committee has.
@@ -91,17 +90,17 @@ fn vote_bytes(
     Ok(bytes)
 }
 
-/// Appends the writings of the votes of these committees of a slot, in their order.
-fn append_committees(
+/// The writings of the votes of these committees of a slot, in their order.
+fn votes_of(
     alloc: Global,
     state: &State,
     committees: &EpochCommittees,
     slot: u64,
     epoch: u64,
-    votes: &mut Vec<Vec<u8>>,
-) -> Result<(), AllocError>
+) -> Result<Vec<Vec<u8>>, AllocError>
     requires { epoch ≤ get_current_epoch state.now }
 {
+    let mut votes = Vec::new(alloc);
     let target = block_root(state, epoch);
     for index in 0..committees.per_slot() {
         let members = match committees.committee(slot, index) {
@@ -116,27 +115,18 @@ fn append_committees(
         };
         votes.push(vote_bytes(alloc, state, &vote, &target)?)?;
     }
-    Ok(())
+    Ok(votes)
 }
 
-/// Appends the writings of the votes of the slot before the state's, in order of their committees.
-fn append_votes(alloc: Global, state: &State, votes: &mut Vec<Vec<u8>>) -> Result<()> {
+/// The writings of the votes of the slot before the state's, in order of their committees.
+fn votes(alloc: Global, state: &State) -> Result<Vec<Vec<u8>>> {
     let slot = state.slot().saturating_sub(1);
     let epoch = slot / state.preset().slots_per_epoch.max(1);
     if epoch > 1 << 40 || epoch > current_epoch(state) {
         bail!("no such epoch");
     }
     let committees = committees_of_epoch(alloc, state, epoch)?;
-    Ok(append_committees(alloc, state, &committees, slot, epoch, votes)?)
-}
-
-/// These votes, so many times.
-fn votes(alloc: Global, state: &State, times: u64) -> Result<Vec<Vec<u8>>> {
-    let mut votes = Vec::new(alloc);
-    for _time in 0..times {
-        append_votes(alloc, state, &mut votes)?;
-    }
-    Ok(votes)
+    Ok(votes_of(alloc, state, &committees, slot, epoch)?)
 }
 
 /// Puts the fixed part of a block of the state's slot on its chain, but for offsets.
@@ -230,46 +220,16 @@ fn push_votes(
     Ok(())
 }
 
-/// What a chain is like.
-#[derive(Clone, Copy)]
-pub struct Shape {
-    /// Of how many slots one has no block; each has one where there are fewer than 6.
-    pub every: u64,
-    /// How often each vote is told.
-    pub votes: u64,
-    /// What all bytes of a block's graffiti are.
-    pub graffiti: u8,
-}
-
-/// What a slot of it is like.
-#[derive(Clone, Copy)]
-struct Slot {
-    has_block: bool,
-    votes: u64,
-    graffiti: u8,
-}
-
-/// What a chain tells.
-#[derive(Drop)]
-pub struct Told {
-    /// The events of its record.
-    pub events: Vec<Event>,
-    /// The pairs that the roots of its states and blocks need, each node once.
-    pub pairs: Pairs,
-}
-
-impl Told {
-    /// The record of its events.
-    pub fn record(&self, alloc: Global) -> Result<Vec<u8>> {
-        let mut record = Vec::from_slice(alloc, b"BCR1")?;
-        for event in &self.events {
-            let length = u32::try_from(event.payload.len())?;
-            record.push(event.kind)?;
-            record.extend_from_slice(&length.to_le_bytes())?;
-            record.extend_from_slice(&event.payload)?;
-        }
-        Ok(record)
+/// The record of these events.
+pub fn record(alloc: Global, events: &[Event]) -> Result<Vec<u8>> {
+    let mut record = Vec::from_slice(alloc, b"BCR1")?;
+    for event in events {
+        let length = u32::try_from(event.payload.len())?;
+        record.push(event.kind)?;
+        record.extend_from_slice(&length.to_le_bytes())?;
+        record.extend_from_slice(&event.payload)?;
     }
+    Ok(record)
 }
 
 /// Tells the block with this writing of no state root yet, takes the state through it, and tells its votes again.
@@ -292,70 +252,29 @@ fn tell_block(
     alloc: Global,
     state: &mut State,
     config: &Config,
-    graffiti: u8,
     votes: &[Vec<u8>],
     events: &mut Vec<Event>,
 ) -> Result<()> {
     let proposer = get_beacon_proposer_index(alloc, state)?;
     let mut bytes = block_bytes(alloc, state, proposer, votes)?;
-    put(&mut bytes, 352, &[graffiti; 32]);
     tell_written(alloc, state, config, &mut bytes, votes, events)
 }
 
-/// Tells these votes on the wire, and takes the state through the slot's block with them, if it has one.
-fn tell_votes(
-    alloc: Global,
-    state: &mut State,
-    config: &Config,
-    slot: Slot,
-    votes: &[Vec<u8>],
-    told: &mut Told,
-) -> Result<()> {
-    push_votes(alloc, &mut told.events, 3, votes)?;
-    if slot.has_block {
-        tell_block(alloc, state, config, slot.graffiti, votes, &mut told.events)?;
-        told.pairs.add(pairs_of_body(votes.len() as u64));
-    }
-    Ok(())
-}
-
-/// Tells the events of a slot that the state has entered, and takes the state through the slot's block, if it has one.
+/// Tells the events of a slot that the state has entered, and takes the state through the slot's block.
 fn tell_slot(
     alloc: Global,
     state: &mut State,
     config: &Config,
-    slot: Slot,
-    told: &mut Told,
+    events: &mut Vec<Event>,
 ) -> Result<()> {
     let time = state
         .slot()
         .wrapping_mul(config.seconds_per_slot())
         .wrapping_add(state.genesis_time());
-    push_event(alloc, &mut told.events, 1, &time.to_le_bytes())?;
-    let votes = votes(alloc, state, slot.votes)?;
-    tell_votes(alloc, state, config, slot, &votes, told)
-}
-
-/// Adds the pairs that the step from a state to that of the next slot needs: those of the new state's root, and of the header's where
-/// the state's latest block got its state root.
-fn count(alloc: Global, old: &State, new: &State, pairs: &mut Pairs) -> Result<(), AllocError> {
-    if old.latest_block_header().state_root == [0; 32] {
-        pairs.add(HEADER);
-    }
-    Step { old, new }.add_root(alloc, pairs)
-}
-
-/// Tells the events of a slot that the state has entered from an old one, and counts the pairs of that step.
-fn tell_next(
-    alloc: Global,
-    old: &State,
-    new: &mut State,
-    config: &Config,
-    slot: Slot,
-    told: &mut Told,
-) -> Result<()> {
-    tell_slot(alloc, new, config, slot, told)?;
-    Ok(count(alloc, old, new, &mut told.pairs)?)
+    push_event(alloc, events, 1, &time.to_le_bytes())?;
+    let votes = votes(alloc, state)?;
+    push_votes(alloc, events, 3, &votes)?;
+    tell_block(alloc, state, config, &votes, events)
 }
 
 /// Tells the events of a slot that the next state has entered, and puts that state, once it is behind them, in the place of the
@@ -365,10 +284,9 @@ fn enter(
     state: &mut State,
     mut next: State,
     config: &Config,
-    slot: Slot,
-    told: &mut Told,
+    events: &mut Vec<Event>,
 ) -> Result<()> {
-    tell_next(alloc, state, &mut next, config, slot, told)?;
+    tell_slot(alloc, &mut next, config, events)?;
     *state = next;
     Ok(())
 }
@@ -378,14 +296,13 @@ fn advance(
     alloc: Global,
     state: &mut State,
     config: &Config,
-    slot: Slot,
-    told: &mut Told,
+    events: &mut Vec<Event>,
 ) -> Result<()> {
     if !is_sound(alloc, state)? {
         bail!("the state isn't sound");
     }
     match process_slots(alloc, state, state.slot().saturating_add(1), config) {
-        Ok(step) => enter(alloc, state, step.state, config, slot, told),
+        Ok(step) => enter(alloc, state, step.state, config, events),
         Err(stop) => Err(stop.into()),
     }
 }
@@ -396,28 +313,12 @@ fn advance_all(
     state: &mut State,
     config: &Config,
     slots: u64,
-    shape: Shape,
-    told: &mut Told,
+    events: &mut Vec<Event>,
 ) -> Result<()> {
-    for number in 0..slots {
-        let slot = Slot {
-            has_block: number % shape.every.max(1) != 5,
-            votes: shape.votes,
-            graffiti: shape.graffiti,
-        };
-        advance(alloc, state, config, slot, told)?;
+    for _slot in 0..slots {
+        advance(alloc, state, config, events)?;
     }
     Ok(())
-}
-
-/// What a chain of so many slots behind genesis tells.
-pub fn chain(alloc: Global, genesis: &Genesis, slots: u64, shape: Shape) -> Result<Told> {
-    let mut told = Told {
-        events: Vec::new(alloc),
-        pairs: Pairs::none(),
-    };
-    advance_share(alloc, genesis, slots, shape, &mut told)?;
-    Ok(told)
 }
 
 /// Takes a share of the genesis state through so many slots, and tells the events of each.
@@ -425,11 +326,17 @@ fn advance_share(
     alloc: Global,
     genesis: &Genesis,
     slots: u64,
-    shape: Shape,
-    told: &mut Told,
+    events: &mut Vec<Event>,
 ) -> Result<()> {
     match genesis.state.share() {
-        Ok(mut state) => advance_all(alloc, &mut state, &genesis.config, slots, shape, told),
+        Ok(mut state) => advance_all(alloc, &mut state, &genesis.config, slots, events),
         Err(refused) => Err(refused.into()),
     }
+}
+
+/// The events of a chain of so many slots behind genesis.
+pub fn chain(alloc: Global, genesis: &Genesis, slots: u64) -> Result<Vec<Event>> {
+    let mut events = Vec::new(alloc);
+    advance_share(alloc, genesis, slots, &mut events)?;
+    Ok(events)
 }

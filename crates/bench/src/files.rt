@@ -1,6 +1,6 @@
 //! The files of a chain in which all vote, by which two programs can be measured beside each other.
 
-use crate::chain::{Shape, chain};
+use crate::chain::{chain, record};
 use crate::genesis::{Network, read_genesis};
 use anyhow::{Result, bail};
 use std::alloc::Global;
@@ -14,11 +14,11 @@ struct Asked {
     slots: u64,
 }
 
-/// The network of a preset's name.
-fn network_of(preset: &str) -> Result<Network> {
+/// The network of a preset's name, with so many validators.
+fn network_of(preset: &str, validators: u32) -> Result<Network> {
     match preset {
-        "minimal" => Ok(Network::minimal()),
-        "mainnet" => Ok(Network::mainnet()),
+        "minimal" => Ok(Network::minimal(validators)),
+        "mainnet" => Ok(Network::mainnet(validators)),
         _ => bail!("the preset is minimal or mainnet"),
     }
 }
@@ -27,9 +27,7 @@ fn network_of(preset: &str) -> Result<Network> {
 fn read_words(words: &[String]) -> Result<Asked> {
     match words {
         [preset, validators, slots] => Ok(Asked {
-            network: network_of(preset.as_str())?.of_validators(
-                validators.as_str().parse::<u32>()?,
-            ),
+            network: network_of(preset.as_str(), validators.as_str().parse::<u32>()?)?,
             slots: slots.as_str().parse::<u64>()?,
         }),
         _ => bail!("files needs a preset, a number of validators and a number of slots"),
@@ -38,14 +36,9 @@ fn read_words(words: &[String]) -> Result<Asked> {
 
 /// The record of the chain, in each of whose slots is a block that carries the votes of all committees of the slot before.
 fn record_of(alloc: Global, asked: &Asked) -> Result<Vec<u8>> {
-    let shape = Shape {
-        every: 1,
-        votes: 1,
-        graffiti: 0,
-    };
     let genesis = read_genesis(alloc, &asked.network)?;
-    match chain(alloc, &genesis, asked.slots, shape) {
-        Ok(told) => told.record(alloc),
+    match chain(alloc, &genesis, asked.slots) {
+        Ok(events) => record(alloc, &events),
         Err(error) => Err(error),
     }
 }

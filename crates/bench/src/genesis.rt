@@ -19,7 +19,7 @@ const MINIMAL_CONFIG: &[u8] =
 #[derive(Clone, Copy)]
 pub struct Network {
     /// How many validators it has.
-    pub validators: u32,
+    validators: u32,
     /// How its preset lays out a state.
     layout: Layout,
     /// The configuration.
@@ -27,29 +27,22 @@ pub struct Network {
 }
 
 impl Network {
-    /// The minimal preset with 64 validators.
-    pub fn minimal() -> Network {
+    /// The minimal preset with so many validators.
+    pub fn minimal(validators: u32) -> Network {
         Network {
-            validators: 64,
+            validators,
             layout: Layout::minimal(),
             config: MINIMAL_CONFIG,
         }
     }
 
-    /// The mainnet preset with 16,384 validators.
-    pub fn mainnet() -> Network {
+    /// The mainnet preset with so many validators.
+    pub fn mainnet(validators: u32) -> Network {
         Network {
-            validators: 16_384,
+            validators,
             layout: Layout::mainnet(),
             config: crate::states::CONFIG,
         }
-    }
-}
-
-impl Network {
-    /// The same preset and configuration with so many validators.
-    pub fn of_validators(self, validators: u32) -> Network {
-        Network { validators, ..self }
     }
 
     /// The file of its configuration.
@@ -60,11 +53,6 @@ impl Network {
     /// The file of its genesis state.
     pub fn genesis_bytes(&self, alloc: Global) -> Result<Vec<u8>> {
         Ok(state_bytes(alloc, self.layout, &Shape::at_genesis(self.validators))?)
-    }
-
-    /// Its configuration.
-    pub fn configuration(&self) -> Result<Config> {
-        Ok(Config::read(self.config)?)
     }
 }
 
@@ -79,7 +67,7 @@ pub struct Genesis {
 
 /// Reads a state of the preset.
 #[tactic(auto, using(spec_state::proofs::Limits::within_preset))]
-pub fn read_state(alloc: Global, preset: &Preset, bytes: &[u8]) -> Result<State, SszFault>
+fn read_state(alloc: Global, preset: &Preset, bytes: &[u8]) -> Result<State, SszFault>
     requires { IsPreset preset.now }
     ensures { IfOk result (λ state. state.preset ≡ preset.now) }
 {

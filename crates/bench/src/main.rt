@@ -1,45 +1,29 @@
 //! Measures what has to be fast, each against the hashes that it can't do without or another part of the run, in one run.
 //!
 //! The word behind the program's name says what to measure: `pairs`, `shuffle`, `state`, `registry`, `change`, `iter`, `many`,
-//! `slots`, `block`, `attestation`, `operations`, `epoch`, `head`, `record`, `events`, `bodies`,
-//! `mainnet`, `drill`, `drill_mainnet`, `deposits`, `anchor`, `duties`, `book`, `forensic`, `forensic_mainnet` or `nodes`. Without a word
-//! nothing is measured. `files` with a preset, a number of validators and a number of slots writes the files of a chain, by which whole programs
-//! are measured.
+//! `slots`, `block`, `attestation`, `operations`, `epoch` or `head`. Without a word nothing is measured. `files` with a preset, a
+//! number of validators and a number of slots writes the files of a chain, by which whole programs are measured.
 #![tactic(auto)]
 
-mod anchor;
 mod attestation;
 mod block;
-mod book;
 mod chain;
-mod command;
-mod deposits;
-mod drill;
 mod epoch;
-mod epoch_duties;
-mod events;
 mod files;
-mod forensic;
 mod genesis;
 mod hashes;
 mod head;
-mod memory;
-mod nodes;
 mod operations;
 mod pairs;
 mod ratio;
-mod record;
-mod running;
 mod shuffle;
 mod state;
 mod states;
-mod transitions;
 mod tree_change;
 mod tree_iter;
 mod tree_many;
 mod tree_slots;
 
-use crate::genesis::Network;
 use crate::ratio::tell_text;
 use anyhow::Result;
 use std::env;
@@ -48,29 +32,10 @@ use std::time::CpuClock;
 
 /// What is printed where no word names a measurement.
 const USAGE: &str =
-    "name what to measure: pairs, shuffle, state, registry, change, iter, many, slots, block, attestation, operations, epoch, head, record, events, bodies, mainnet, drill, drill_mainnet, deposits, anchor, duties, book, forensic, forensic_mainnet or nodes";
+    "name what to measure: pairs, shuffle, state, registry, change, iter, many, slots, block, attestation, operations, epoch or head";
 
 /// Measures what a word names.
-fn measure(rt: &(impl AllocGlobal + Print + CpuClock + Files), word: &str) -> Result<()> {
-    match word {
-        "record" => record::measure(rt, &Network::minimal(), 1),
-        "events" => events::measure(rt),
-        "bodies" => record::measure(rt, &Network::minimal(), 32),
-        "mainnet" => record::measure(rt, &Network::mainnet(), 1),
-        "drill" => drill::measure(rt),
-        "drill_mainnet" => drill::measure_mainnet(rt),
-        "deposits" => deposits::measure(rt),
-        "anchor" => anchor::measure(rt),
-        "book" => book::measure(rt),
-        "forensic" => forensic::measure(rt),
-        "forensic_mainnet" => forensic::measure_mainnet(rt),
-        "nodes" => nodes::measure(rt),
-        _ => measure_steps(rt, word),
-    }
-}
-
-/// Measures what a word names among slots, an epoch's end, blocks and what they bring.
-fn measure_steps(rt: &(impl AllocGlobal + Print + CpuClock), word: &str) -> Result<()> {
+fn measure(rt: &(impl AllocGlobal + Print + CpuClock), word: &str) -> Result<()> {
     match word {
         "slots" => tree_slots::measure(rt),
         "epoch" => epoch::measure(rt),
@@ -78,7 +43,6 @@ fn measure_steps(rt: &(impl AllocGlobal + Print + CpuClock), word: &str) -> Resu
         "operations" => operations::measure(rt),
         "attestation" => attestation::measure(rt),
         "head" => head::measure(rt),
-        "duties" => epoch_duties::measure(rt),
         _ => measure_parts(rt, word),
     }
 }

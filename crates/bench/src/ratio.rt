@@ -35,26 +35,10 @@ impl Time {
         }
     }
 
-    /// The time without the other one, and none where that is longer.
-    pub fn less(self, other: Time) -> Time {
-        match (self.0, other.0) {
-            (Some(first), Some(second)) => Time(Some(first.saturating_sub(second))),
-            _ => Time(None),
-        }
-    }
-
     /// So many times the time.
     pub fn times(self, count: u32) -> Time {
         match self.0 {
             Some(time) => Time(Some(time.saturating_mul(count))),
-            None => self,
-        }
-    }
-
-    /// The time of one of so many.
-    pub fn part(self, count: u32) -> Time {
-        match self.0 {
-            Some(time) => Time(time.checked_div(count.max(1))),
             None => self,
         }
     }

@@ -16,7 +16,7 @@ const ITEMS: u64 = 1 << 20;
 const ROUNDS: u8 = 90;
 
 /// The numbers below the count.
-pub fn numbers(alloc: Global, count: u64) -> Result<Vec<u64>, AllocError> {
+fn numbers(alloc: Global, count: u64) -> Result<Vec<u64>, AllocError> {
     let mut list = Vec::new(alloc);
     for i in 0..count {
         list.push(i)?;
@@ -53,7 +53,7 @@ fn time_rounds(rt: &impl CpuClock) -> (Time, u8) {
 }
 
 /// Shuffles so many items. Gives the first of them then, and the time; None where memory ran out.
-pub fn time_shuffle(rt: &(impl AllocGlobal + CpuClock), list: Vec<u64>) -> Option<(u64, Time)> {
+fn time_shuffle(rt: &(impl AllocGlobal + CpuClock), list: Vec<u64>) -> Option<(u64, Time)> {
     if list.len() > 1 << 40 {
         return None;
     }
