@@ -1,6 +1,6 @@
 -- Lists of active validators that were followed through a change are those of the registry that it leaves, also where it was refused.
-use Rattle.std.proofs.Common.{◌≡◌, ℕ, ◌<◌, Bool, true, false, cond, List, [], ◌∷◌, ◌++◌, length, Result, Ok, Err, slice_set, nat_lt, subst, sym, ap}
-use Rattle.bc_words.specs.Outcome.{Outcome, done, refused, Pushes, Becomes, checked_push}
+use Rattle.std.proofs.Common.{◌≡◌, ℕ, Bool, true, false, cond, List, [], ◌∷◌, ◌++◌, length, Result, Ok, Err, slice_set, nat_lt, subst, sym}
+use Rattle.bc_words.specs.Outcome.{done, refused, Pushes, Becomes, checked_push}
 use Rattle.bc_words.specs.declared.refusal.Refusal.TheVariants.{ListFull}
 use Rattle.bc_words.specs.declared.stop.NoMemory.{NoMemory}
 use Rattle.bc_words.specs.declared.stop.PushStop.{PushStop}
