@@ -1,6 +1,6 @@
 //! The beginning of a validator's exit (beacon-chain.md, "initiate_validator_exit").
 
-ghost use Rattle.std.specs.Prelude.{◌≡◌, ◌+◌, ◌<◌, ◌≤◌, ◌^◌, drop};
+ghost use Rattle.std.specs.Prelude.{◌≡◌, ◌≤◌, ◌^◌};
 ghost use Rattle.bc_words.specs.Outcome.{Changes, GivesExactly, checked_add};
 ghost use Rattle.spec_blocks.specs.InitiateValidatorExit.{initiate_validator_exit, exit_queue_epoch, exit_queue_churn};
 ghost use Rattle.exit_queue.specs.inside.Queue.{queue_end, later};
@@ -24,57 +24,37 @@ fn later(exit_epoch: u64, epoch: u64) -> u64
     epoch.max(exit_epoch)
 }
 
-/// The end of the queue, where the validator with an index stands in it too.
-#[tactic(auto, using(crate::proofs::Queue::end_with, crate::proofs::Queue::end_without))]
-fn queue_end_with(state: &State, index: u64, epoch: u64) -> u64
-    ensures { queue_end (drop (index + 1) state.now.validators) result ≡ queue_end (drop index state.now.validators) epoch }
-{
-    match validator_at(state, index) {
-        Ok(validator) => later(validator.exit_epoch, epoch),
-        Err(_) => epoch,
-    }
-}
-
 /// The greatest of all exit epochs that are set, and this one.
-#[tactic(auto, using(crate::proofs::Queue::end_begins, crate::proofs::Queue::end_of_none))]
+#[tactic(auto, using(crate::proofs::Queue::ending))]
 pub fn queue_end(state: &State, earliest: u64) -> u64
     ensures { result ≡ queue_end state.now.validators earliest }
 {
     let mut epoch = earliest;
-    for index in 0..state.validators_len() {
-        epoch = queue_end_with(state, index, epoch);
+    for validator in state.validator_list().iter() {
+        epoch = later(validator.exit_epoch, epoch);
     }
     epoch
 }
 
-/// How many leave at an epoch, where the validator with an index is counted too.
-#[tactic(auto, using(crate::proofs::Queue::one_leaves, crate::proofs::Queue::one_stays, crate::proofs::Queue::churn_without))]
-fn churn_with(state: &State, index: u64, epoch: u64, count: u64) -> u64
-    requires { count < 2 ^ 40 }
-    ensures exact { result + exit_queue_churn (drop (index + 1) state.now.validators) epoch ≡ count + exit_queue_churn (drop index state.now.validators) epoch }
-    ensures few { result ≤ count + 1 }
+/// The law that as many leave at an epoch as the registry has at most. It does nothing when it runs.
+fn churn_fits(state: &State, epoch: u64)
+    ensures { exit_queue_churn state.now.validators epoch ≤ 2 ^ 40 }
 {
-    match validator_at(state, index) {
-        Ok(validator) => {
-            if validator.exit_epoch == epoch {
-                count + 1
-            } else {
-                count
-            }
-        }
-        Err(_) => count,
-    }
+    state.preset().bounds();
+    let _count = state.validators_len();
 }
 
 /// How many validators leave at an epoch.
-#[tactic(auto, using(crate::proofs::Queue::churn_begins, crate::proofs::Queue::churn_of_none))]
+#[tactic(auto, using(crate::proofs::Queue::counting))]
 pub fn exit_queue_churn(state: &State, epoch: u64) -> u64
     ensures { result ≡ exit_queue_churn state.now.validators epoch }
 {
-    state.preset().bounds();
+    churn_fits(state, epoch);
     let mut count = 0;
-    for index in 0..state.validators_len() {
-        count = churn_with(state, index, epoch, count);
+    for validator in state.validator_list().iter() {
+        if validator.exit_epoch == epoch {
+            count += 1;
+        }
     }
     count
 }
@@ -104,7 +84,7 @@ pub fn withdrawable_epoch(exit_epoch: u64, config: &Config) -> Result<u64, Stop>
 /// behind it where that is full. Nothing changes where its exit epoch is set already.
 ///
 /// Refused as an overflow exactly where one of the two epochs doesn't fit, and for an index past the registry. After a stop
-/// the state is as before. The queue is read from the whole registry each time.
+/// the state is as before. The registry is walked for the queue each time.
 #[tactic(auto, unfolding(spec_blocks::specs::InitiateValidatorExit::initiate_validator_exit))]
 pub fn initiate_exit(state: &mut State, index: u64, config: &Config) -> Result<(), Stop>
     ensures { Changes result state.old state.new (initiate_validator_exit state.old index config.now) }

@@ -18,7 +18,7 @@ use Rattle.spec_blocks.proofs.Sound.{indices_of_changed}
 use Rattle.spec_epochs.specs.ProcessRegistryUpdates.{with_eligibility}
 use Rattle.exit_queue.specs.inside.Queue.{queue_end}
 use Rattle.registry_queue.specs.declared.ejections.ExitQueue.{ExitQueue}
-use Rattle.registry_queue.specs.inside.Exits.{earliest_exit, next_exit, lengthened, with_exit, IsExitQueue}
+use Rattle.registry_queue.specs.inside.Exits.{earliest_exit, next_exit, lengthened, with_exit, IsExitQueue, IsKept}
 
 abbrev validator_or : Validator → Option Validator → Validator
 validator_or v None = v
@@ -183,7 +183,7 @@ kept state config queue index old new at exit activation is = record {
 }
 
 -- one who begins to wait
-pub waited : (state : PlainState) (config : ConfigValues) (queue : ExitQueue) (index : ℕ) (v : Validator) → slice_get state.validators index ≡ Some v → IsExitQueue state config queue
+waited : (state : PlainState) (config : ConfigValues) (queue : ExitQueue) (index : ℕ) (v : Validator) → slice_get state.validators index ≡ Some v → IsExitQueue state config queue
     → IsExitQueue (with_eligibility state index v) config queue
 unfolding with_eligibility
 waited state config queue index v at is =
@@ -192,6 +192,10 @@ waited state config queue index v at is =
       | inl waits ↦ subst (λ (s : PlainState). IsExitQueue s config queue) waits.1 (kept state config queue index v waiting at refl refl is)
       | inr other ↦ subst (λ (s : PlainState). IsExitQueue s config queue) other.1 is
     ]
+
+pub kept_waited : (state : PlainState) (config : ConfigValues) (queue : Option ExitQueue) (index : ℕ) (v : Validator) → slice_get state.validators index ≡ Some v → IsKept state config queue → IsKept (with_eligibility state index v) config queue
+kept_waited state config None index v at is = tt
+kept_waited state config (Some queue) index v at is = waited state config queue index v at is
 
 -- ---- one who leaves
 

@@ -1,3 +1,4 @@
 pub mod Passes
 pub mod Exits
 pub mod Ranks
+pub mod Behind

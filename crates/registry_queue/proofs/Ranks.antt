@@ -7,7 +7,7 @@ use Rattle.std.specs.Ordering.{ordering_then, is_lt}
 use Rattle.std.proofs.lemmas.Bool.{eq-eqb, ne_eqb, ltb-true, ltb-false, leb-true, leb-false, lt-ltb, le-ltb, le-leb, lt-leb, cases_Bool, cases_order, false≢true}
 use Rattle.std.proofs.lemmas.List.{append-nil, drop_all, take_all}
 use Rattle.std.proofs.lemmas.List.Sums.{sum_by-cons}
-use Rattle.std.proofs.lemmas.List.Sorted.{sum_by-IsPermutation}
+use Rattle.std.proofs.lemmas.List.Sorted.{sum_by-IsPermutation, length_permutation}
 use Rattle.bc_preset.specs.declared.configuration.ConfigValues.{ConfigValues}
 use Rattle.beacon_types.specs.declared.validator.Validator.{Validator}
 use Rattle.spec_state.specs.declared.plain.PlainState.{PlainState}
@@ -358,3 +358,37 @@ all_dequeued state config bar epoch is =
     (λ k v here. let place : 0 + k ≡ k = zero-add k in
     ap (λ (b : Bool). if b then record v { activation_epoch = epoch } else v)
     (ap (λ (i : ℕ). is_let_in state bar (i, v)) place ∙ (sym (is k v here) ∙ ap (λ (i : ℕ). is_dequeued state config (i, v)) (sym place)))))
+
+-- ---- where nobody waits
+
+stays_as_it_is : (state : PlainState) (bar : Option (ℕ × ℕ)) (epoch index : ℕ) (v : Validator) → is_eligible_for_activation state v ≡ false → activated state bar epoch (index, v) ≡ v
+unfolding activated is_let_in
+stays_as_it_is state bar epoch index v waits = ap (λ (a : Bool). if a && before_bar bar (rank_of (index, v)) then record v { activation_epoch = epoch } else v) waits
+
+nobody_in : (state : PlainState) (bar : Option (ℕ × ℕ)) (epoch : ℕ) (vs : List Validator) (index : ℕ) → ranks_from state index vs ≡ [] → map (activated state bar epoch) (enumerate_from index vs) ≡ vs
+nobody_in state bar epoch [] index none = refl
+nobody_in state bar epoch (v ∷ vs) index none =
+    let rank : ℕ × ℕ = (v.activation_eligibility_epoch, index) in
+    let others = ranks_from state (index + 1) vs in
+    elim (cases_Bool (is_eligible_for_activation state v)) [
+      | inl waits ↦
+          let some : rank ∷ others ≡ [] = sym (opens state index v vs ∙ ap (λ (b : Bool). cond b (rank ∷ others) others) waits) ∙ none in
+          absurd cc
+      | inr waits ↦
+          let rest : others ≡ [] = sym (opens state index v vs ∙ ap (λ (b : Bool). cond b (rank ∷ others) others) waits) ∙ none in
+          ap₂ (λ (w : Validator) (ws : List Validator). w ∷ ws) (stays_as_it_is state bar epoch index v waits) (nobody_in state bar epoch vs (index + 1) rest)
+    ]
+
+let_in_none : (state : PlainState) (bar : Option (ℕ × ℕ)) (epoch : ℕ) → ranks_from state 0 state.validators ≡ [] → let_in_from state bar epoch 0 ≡ state
+unfolding let_in_from
+let_in_none state bar epoch none = ap (λ (vs : List Validator). record state { validators = vs }) (nobody_in state bar epoch state.validators 0 none)
+
+without_items : {A : Type 0} (items : List A) → length items ≡ 0 → items ≡ []
+without_items [] none = refl
+without_items (x ∷ items) none = absurd (omega (arith, none))
+
+pub none_dequeued : (state : PlainState) (config : ConfigValues) (ranks : List (ℕ × ℕ)) (epoch : ℕ) → IsQueue state ranks → length ranks ≡ 0 → state ≡ record state { validators = with_activations state config epoch }
+none_dequeued state config ranks epoch queue none =
+    let bar = slice_get ranks (get_validator_churn_limit state config) in
+    let before = without_items (ranks_from state 0 state.validators) (sym (length_permutation (ranks_from state 0 state.validators) ranks queue.0) ∙ none) in
+    sym (let_in_none state bar epoch before) ∙ all_dequeued state config bar epoch (bar_of state config ranks queue)

@@ -1,7 +1,8 @@
 //! Those who are let in.
 //!
 //! A rank is the epoch since which a validator waits, and its index. The ranks of all who wait are collected in one pass and
-//! sorted; the first behind as many as the churn limit is the bar, and a second pass lets in all who rank before it.
+//! sorted; the first behind as many as the churn limit is the bar, and a second pass lets in all who rank before it. Where
+//! nobody waits there is no second pass.
 
 ghost use Rattle.std.specs.Prelude.{◌≡◌, ◌++◌, ◌+◌, ◌<◌, ◌∷◌, [], ℕ, IfOk, OnOk, Some, drop, slice_get};
 ghost use Rattle.spec_state.specs.Predicates.{is_eligible_for_activation};
@@ -74,11 +75,11 @@ fn rank_at(ranks: &[(u64, u64)], place: u64) -> Option<(u64, u64)>
 
 /// The rank before which all are let in, or None where all are.
 #[tactic(auto, using(crate::proofs::Ranks::bar_of))]
-fn bar(alloc: Global, state: &State, config: &Config) -> Result<Option<(u64, u64)>, NoMemory>
-    ensures { IfOk result (λ bar. IsBar state.now config.now bar) }
+fn bar(state: &State, config: &Config, queue: &[(u64, u64)]) -> Option<(u64, u64)>
+    requires { IsQueue state.now queue.now }
+    ensures { IsBar state.now config.now result }
 {
-    let queue = activation_queue(alloc, state)?;
-    Ok(rank_at(&queue, churn_limit(state, config)))
+    rank_at(queue, churn_limit(state, config))
 }
 
 /// Whether a rank comes before another.
@@ -138,13 +139,17 @@ fn let_all_in(state: &mut State, bar: Option<(u64, u64)>, epoch: u64) -> Result<
     Ok(())
 }
 
-/// As many of those who wait as the churn limit are let in, by the epoch since which they wait and then by index. It leaves
-/// anything in the state where memory is refused.
-#[tactic(auto, using(crate::proofs::Ranks::all_dequeued))]
+/// As many of those who wait as the churn limit are let in, by the epoch since which they wait and then by index. Where nobody
+/// waits nothing is counted. It leaves anything in the state where memory is refused.
+#[tactic(auto, using(crate::proofs::Ranks::all_dequeued, crate::proofs::Ranks::none_dequeued))]
 pub(crate) fn activate(alloc: Global, state: &mut State, config: &Config) -> Result<(), NoMemory>
     ensures { OnOk result (state.new ≡ record state.old { validators = with_activations state.old config.now (earliest_exit state.old) }) }
 {
+    let queue = activation_queue(alloc, state)?;
+    if queue.is_empty() {
+        return Ok(());
+    }
+    let bar = bar(state, config, &queue);
     let epoch = earliest_exit(state);
-    let bar = bar(alloc, state, config)?;
     let_all_in(state, bar, epoch)
 }

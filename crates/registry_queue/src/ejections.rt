@@ -1,7 +1,7 @@
 //! Those who begin to wait for their activation, and those who are ejected.
 //!
-//! The registry is gone through once. Where the exit queue ends, and how many leave there, is counted before and kept on the
-//! way, so that an ejection reads no other validator.
+//! The registry is walked once, and only one who leaves is looked up. Where the exit queue ends, and how many leave there, is
+//! counted for the first who leaves and kept on the way, so that no other ejection reads the registry.
 
 ghost use Rattle.std.specs.Prelude.{◌≡◌, ◌<◌, ◌^◌, ◌&&◌, OnOk, Some, leb, slice_get};
 ghost use Rattle.bc_words.specs.Outcome.{Becomes, GivesExactly, Moves, done};
@@ -12,7 +12,7 @@ ghost use Rattle.spec_blocks.specs.Checks.{each_of};
 ghost use Rattle.spec_blocks.specs.InitiateValidatorExit.{initiate_validator_exit};
 ghost use Rattle.spec_epochs.specs.Each.{validator_indices};
 ghost use Rattle.spec_epochs.specs.ProcessRegistryUpdates.{with_eligibility, eligibility_and_ejection};
-ghost use Rattle.registry_queue.specs.inside.Exits.{earliest_exit, next_exit, with_exit, IsExitQueue};
+ghost use Rattle.registry_queue.specs.inside.Exits.{earliest_exit, next_exit, with_exit, IsExitQueue, IsKept};
 
 use balance_totals::{current_epoch, is_active_validator, validator_at};
 use bc_preset::constants::FAR_FUTURE_EPOCH;
@@ -55,6 +55,17 @@ fn exit_queue_of(state: &State, config: &Config) -> ExitQueue
     }
 }
 
+/// The exit queue of a state, counted where it isn't kept yet.
+fn kept_or_counted(kept: Option<ExitQueue>, state: &State, config: &Config) -> ExitQueue
+    requires { IsKept state.now config.now kept }
+    ensures { IsExitQueue state.now config.now result }
+{
+    match kept {
+        Some(queue) => queue,
+        None => exit_queue_of(state, config),
+    }
+}
+
 /// The epoch that the next one leaves at. Refused as an overflow exactly where it doesn't fit.
 #[tactic(auto, unfolding(crate::specs::inside::Exits::next_exit))]
 fn next_exit(queue: ExitQueue) -> Result<u64, Stop>
@@ -88,17 +99,17 @@ fn with_exit(queue: ExitQueue, exit_epoch: u64) -> ExitQueue
     }
 }
 
-/// The validator leaves, as `exit_queue::initiate_exit` has it, where the queue is known.
+/// The validator leaves, as `exit_queue::initiate_exit` has it, and the queue is kept.
 #[tactic(auto, unfolding(spec_blocks::specs::InitiateValidatorExit::initiate_validator_exit), using(crate::proofs::Exits::next_is, crate::proofs::Exits::churn_few, crate::proofs::Exits::exited, spec_blocks::proofs::Done::item_is))]
 fn initiate_exit(
     state: &mut State,
-    queue: &mut ExitQueue,
+    kept: &mut Option<ExitQueue>,
     index: u64,
     config: &Config,
 ) -> Result<(), Stop>
-    requires { IsExitQueue state.old config.now queue.old }
+    requires { IsKept state.old config.now kept.old }
     ensures exact { Moves result state.new (initiate_validator_exit state.old index config.now) }
-    ensures queue { OnOk result (IsExitQueue state.new config.now queue.new) }
+    ensures kept { OnOk result (IsKept state.new config.now kept.new) }
 {
     state.preset().bounds();
     let _count = state.validators_len();
@@ -106,7 +117,8 @@ fn initiate_exit(
     if validator.exit_epoch != FAR_FUTURE_EPOCH {
         return Ok(());
     }
-    let exit_epoch = next_exit(*queue)?;
+    let queue = kept_or_counted(*kept, state, config);
+    let exit_epoch = next_exit(queue)?;
     let withdrawable_epoch = withdrawable_epoch(exit_epoch, config)?;
     let leaving = Validator {
         exit_epoch,
@@ -114,7 +126,7 @@ fn initiate_exit(
         ..validator
     };
     state.set_validators_at(index, leaving)?;
-    *queue = with_exit(*queue, exit_epoch);
+    *kept = Some(with_exit(queue, exit_epoch));
     Ok(())
 }
 
@@ -154,35 +166,39 @@ fn is_ejected(validator: &Validator, epoch: u64, config: &Config) -> bool
 }
 
 /// The validator waits where it may, and leaves where it is ejected.
-#[tactic(auto, unfolding(spec_epochs::specs::ProcessRegistryUpdates::eligibility_and_ejection), using(crate::proofs::Exits::waited, spec_blocks::proofs::Done::item_is))]
+#[tactic(auto, unfolding(spec_epochs::specs::ProcessRegistryUpdates::eligibility_and_ejection), using(crate::proofs::Exits::kept_waited))]
 fn eligibility_and_ejection(
     state: &mut State,
-    queue: &mut ExitQueue,
+    kept: &mut Option<ExitQueue>,
     index: u64,
+    validator: &Validator,
     config: &Config,
 ) -> Result<(), Stop>
-    requires { IsExitQueue state.old config.now queue.old }
+    requires kept { IsKept state.old config.now kept.old }
+    requires validator { slice_get state.old.validators index ≡ Some validator.now }
     ensures exact { Moves result state.new (eligibility_and_ejection config.now state.old index) }
-    ensures queue { OnOk result (IsExitQueue state.new config.now queue.new) }
+    ensures kept { OnOk result (IsKept state.new config.now kept.new) }
 {
-    let validator = validator_at(state, index)?;
-    let ejected = is_ejected(&validator, current_epoch(state), config);
-    wait(state, index, validator)?;
+    let ejected = is_ejected(validator, current_epoch(state), config);
+    wait(state, index, *validator)?;
     if ejected {
-        initiate_exit(state, queue, index, config)?;
+        initiate_exit(state, kept, index, config)?;
     }
     Ok(())
 }
 
-/// Each validator waits where it may, and leaves where it is active with too low an effective balance, in order of index.
-/// It leaves anything in the state after a stop.
-#[tactic(auto, using(crate::proofs::Passes::steps_begin, crate::proofs::Passes::step_done, crate::proofs::Passes::step_stops, crate::proofs::Passes::steps_end))]
+/// Each validator waits where it may, and leaves where it is active with too low an effective balance, in order of index. The
+/// registry is walked as it was before, which none who waits or leaves changes for those behind. It leaves anything in the state
+/// after a stop.
+#[tactic(auto, using(crate::proofs::Passes::steps_begin))]
 pub(crate) fn eligibility_and_ejections(state: &mut State, config: &Config) -> Result<(), Stop>
     ensures { Moves result state.new (each_of (eligibility_and_ejection config.now) state.old (validator_indices state.old)) }
 {
-    let mut queue = exit_queue_of(state, config);
-    for index in 0..state.validators_len() {
-        eligibility_and_ejection(state, &mut queue, index, config)?;
+    let mut kept = None;
+    let registry = state.validator_list().share()?;
+    let validators = registry.iter();
+    for (index, validator) in validators.enumerate() {
+        eligibility_and_ejection(state, &mut kept, index as u64, validator, config)?;
     }
     Ok(())
 }

@@ -1,5 +1,5 @@
 -- The queue of those who leave, as it is kept while the registry is gone through.
-use Rattle.std.specs.Prelude.{◌≡◌, ℕ, ◌+◌, nat_lt, ◌==◌, if◌then◌else◌}
+use Rattle.std.specs.Prelude.{◌≡◌, ℕ, ◌+◌, nat_lt, ◌==◌, if◌then◌else◌, Option, Some, None}
 use Rattle.bc_words.specs.Outcome.{Outcome, done, checked_add}
 use Rattle.bc_preset.specs.declared.configuration.ConfigValues.{ConfigValues}
 use Rattle.spec_state.specs.declared.plain.PlainState.{PlainState}
@@ -32,3 +32,8 @@ pub record IsExitQueue (state : PlainState) (config : ConfigValues) (queue : Exi
   pub epoch : queue.epoch ≡ queue_end state.validators (earliest_exit state)
   pub churn : queue.churn ≡ exit_queue_churn state.validators queue.epoch
   pub limit : queue.limit ≡ get_validator_churn_limit state config
+
+-- the queue that is kept, where one is, is that of a state
+abbrev pub IsKept : PlainState → ConfigValues → Option ExitQueue → Type 0
+IsKept state config None = Unit {0}
+IsKept state config (Some queue) = IsExitQueue state config queue

@@ -1,6 +1,6 @@
-use Rattle.std.proofs.Common.{◌≡◌, drop}
+use Rattle.std.proofs.Common.{◌≡◌}
 use Rattle.exit_queue.specs.inside.Queue.{queue_end}
 use Rattle.exit_queue.proofs.initiate_validator_exit.queue_end.Given as goal
 
-abbrev pub invariant-loop-index : goal.invariant-loop-index
-invariant-loop-index l = queue_end (drop l.index l.state.validators) l.epoch ≡ queue_end l.state.validators l.earliest
+abbrev pub invariant-loop-validator : goal.invariant-loop-validator
+invariant-loop-validator l = queue_end l.validator-iterator l.epoch ≡ queue_end l.state.validators l.earliest

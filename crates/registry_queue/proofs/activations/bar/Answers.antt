@@ -7,6 +7,6 @@ use Rattle.registry_queue.proofs.activations.bar.Goals as goal
 pub returns : goal.returns
 returns c =
     let state = c.args.state.now in
-    let ranks = c.in_ok-queue.queue.items in
-    let read = c.rank_at.ensures ∙ (ap (λ r. slice_get r c.churn_limit.result) c.deref.ensures.value ∙ ap (slice_get ranks) c.churn_limit.ensures) in
-    subst (IsBar state c.args.config.now) (sym read) (bar_of state c.args.config.now ranks c.in_ok-queue.ensures)
+    let queue = c.args.queue.now in
+    let read = c.rank_at.ensures ∙ ap (slice_get queue) c.churn_limit.ensures in
+    subst (IsBar state c.args.config.now) (sym read) (bar_of state c.args.config.now queue c.requires)

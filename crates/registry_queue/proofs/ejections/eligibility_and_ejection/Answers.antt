@@ -1,15 +1,14 @@
 use Rattle.std.proofs.Common.{sym, subst}
-use Rattle.spec_blocks.proofs.Done.{item_is}
-use Rattle.registry_queue.specs.inside.Exits.{IsExitQueue}
-use Rattle.registry_queue.proofs.Exits.{waited}
+use Rattle.registry_queue.specs.inside.Exits.{IsKept}
+use Rattle.registry_queue.proofs.Exits.{kept_waited}
 use Rattle.registry_queue.proofs.ejections.eligibility_and_ejection.Goals as goal
 
 pub initiate_exit-requires : goal.initiate_exit-requires
 initiate_exit-requires c =
-    subst (λ s. IsExitQueue s c.args.config.now c.args.queue.now) (sym c.in_ok-wait.ensures)
-    (waited c.args.state.now c.args.config.now c.args.queue.now c.args.index c.in_ok-validator.validator (item_is c.args.state.now.validators c.args.index c.in_ok-validator.validator c.in_ok-validator.ensures.exact) c.requires)
+    subst (λ s. IsKept s c.args.config.now c.args.kept.now) (sym c.in_ok-wait.ensures)
+    (kept_waited c.args.state.now c.args.config.now c.args.kept.now c.args.index c.args.validator.now c.requires.validator c.requires.kept)
 
-pub returns-else-ejected-clause-queue : goal.returns-else-ejected-clause-queue
-returns-else-ejected-clause-queue c =
-    subst (λ s. IsExitQueue s c.args.config.now c.args.queue.now) (sym c.in_ok-wait.ensures)
-    (waited c.args.state.now c.args.config.now c.args.queue.now c.args.index c.in_ok-validator.validator (item_is c.args.state.now.validators c.args.index c.in_ok-validator.validator c.in_ok-validator.ensures.exact) c.requires)
+pub returns-else-ejected-clause-kept : goal.returns-else-ejected-clause-kept
+returns-else-ejected-clause-kept c =
+    subst (λ s. IsKept s c.args.config.now c.args.kept.now) (sym c.in_ok-wait.ensures)
+    (kept_waited c.args.state.now c.args.config.now c.args.kept.now c.args.index c.args.validator.now c.requires.validator c.requires.kept)
