@@ -221,7 +221,7 @@ fn push_votes(
 }
 
 /// The record of these events.
-pub fn record(alloc: Global, events: &[Event]) -> Result<Vec<u8>> {
+pub fn record_bytes(alloc: Global, events: &[Event]) -> Result<Vec<u8>> {
     let mut record = Vec::from_slice(alloc, b"BCR1")?;
     for event in events {
         let length = u32::try_from(event.payload.len())?;

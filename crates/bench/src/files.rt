@@ -1,6 +1,6 @@
 //! The files of a chain in which all vote, by which two programs can be measured beside each other.
 
-use crate::chain::{chain, record};
+use crate::chain::{chain, record_bytes};
 use crate::genesis::{Network, read_genesis};
 use anyhow::{Result, bail};
 use std::alloc::Global;
@@ -38,7 +38,7 @@ fn read_words(words: &[String]) -> Result<Asked> {
 fn record_of(alloc: Global, asked: &Asked) -> Result<Vec<u8>> {
     let genesis = read_genesis(alloc, &asked.network)?;
     match chain(alloc, &genesis, asked.slots) {
-        Ok(events) => record(alloc, &events),
+        Ok(events) => record_bytes(alloc, &events),
         Err(error) => Err(error),
     }
 }
