@@ -1,4 +1,4 @@
-//! A book that takes the blocks of two chains, each on the end of its chain: for tests and measurements of the book.
+//! A book that takes the blocks of two chains, each on the end of its chain: for tests of the book.
 //!
 //! Blocks come from recorded or made chains, and each goes through the state transition here.
 #![tactic(auto)]
