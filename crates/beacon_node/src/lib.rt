@@ -27,7 +27,6 @@ mod status;
 mod tell_duties;
 mod top;
 
-pub use feed::{MadeFeed, StoreSource};
 pub use law::{
     findings_are_of_the_records, made_genesis_is_replayed, runs_in_memory, soundness_is_tested,
     versions_run_alike,
