@@ -1,12 +1,12 @@
 -- Changes from one list to another of the same length, found place by place.
-use Rattle.std.proofs.Common.{◌≡◌, ℕ, ◌+◌, ◌<◌, ◌≤◌, List, [], ◌∷◌, ◌++◌, length, take, get_or, slice_get, slice_set, Some, refl, sym, subst, ap, ◌∙◌, arith}
+use Rattle.std.proofs.Common.{◌≡◌, ℕ, ◌+◌, ◌<◌, ◌≤◌, List, [], ◌∷◌, ◌++◌, length, take, get_or, slice_get, slice_set, Some, refl, sym, subst, ap, ◌∙◌, inl, inr, arith}
 use Rattle.std.proofs.lemmas.List.{take_more, take_all, append_assoc, append-nil, length-take}
 use Rattle.std.proofs.lemmas.Option.{slice_get_within, get_or_from_slice_get, slice_get-get_or}
 use Rattle.std.proofs.Math.Seq.{set-append_seam}
 use Rattle.tree_nodes.specs.Changes.{AreChanges, changed}
 use Rattle.tree_nodes.proofs.Changes.{changed_last}
 use Rattle.tree_nodes.proofs.Many.{more_places, wider}
-use Rattle.state_parts.specs.inside.Differences.{AreDifferences}
+use Rattle.state_parts.specs.inside.Differences.{AreDifferences, IsCompared}
 
 front_more : {A : Type 0} (xs rest : List A) (i : ℕ) (x : A) → slice_get xs i ≡ Some x → take (i + 1) xs ++ rest ≡ take i xs ++ x ∷ rest
 front_more xs rest i x is =
@@ -15,19 +15,18 @@ front_more xs rest i x is =
 length_front : {A : Type 0} (xs : List A) (i : ℕ) → i < length xs → length (take i xs) ≡ i
 length_front xs i h = omega (arith, length-take i xs)
 
-pub no_differences : {A : Type 0} (old new : List A) → AreDifferences old new 0 []
+pub no_differences : {A : Type 0} (old new : List A) (i : ℕ) (changes : List (ℕ × A)) → i ≡ 0 → changes ≡ [] → AreDifferences old new i changes
 unfolding changed
-no_differences old new = record { places = tt; made = λ rest. refl }
+no_differences old new i changes first none =
+    let begun : AreDifferences old new 0 [] = record { places = tt; made = λ rest. refl } in
+    subst (λ (k : ℕ). AreDifferences old new k changes) (sym first) (subst (AreDifferences old new 0) (sym none) begun)
 
 -- the same item at this place
-pub same_item : {A : Type 0} (old new : List A) (i : ℕ) (changes : List (ℕ × A)) (x : A) → i < length new → x ≡ get_or new i x → slice_get old i ≡ Some x
-    → AreDifferences old new i changes → AreDifferences old new (i + 1) changes
-same_item old new i changes x h at is d =
-    let becomes = slice_get-get_or new i x h ∙ ap Some (sym at) in
-    record {
-      places = wider 0 i (i + 1) changes (omega arith) d.places;
-      made = λ rest. ap (λ (xs : List _). changed xs changes) (front_more old rest i x is) ∙ d.made (x ∷ rest) ∙ sym (front_more new rest i x becomes);
-    }
+same_item : {A : Type 0} (old new : List A) (i : ℕ) (changes : List (ℕ × A)) (x : A) → slice_get old i ≡ Some x → slice_get new i ≡ Some x → AreDifferences old new i changes → AreDifferences old new (i + 1) changes
+same_item old new i changes x is becomes d = record {
+  places = wider 0 i (i + 1) changes (omega arith) d.places;
+  made = λ rest. ap (λ (xs : List _). changed xs changes) (front_more old rest i x is) ∙ d.made (x ∷ rest) ∙ sym (front_more new rest i x becomes);
+}
 
 -- another one
 put_at_place : {A : Type 0} (old new : List A) (i : ℕ) (changes : List (ℕ × A)) (x v : A) → slice_get old i ≡ Some x → slice_get new i ≡ Some v
@@ -44,11 +43,13 @@ put_at_place old new i changes x v is becomes d = record {
       ∙ d.made (v ∷ rest) ∙ sym (front_more new rest i v becomes);
 }
 
-pub another_item : {A : Type 0} (old new : List A) (i : ℕ) (changes : List (ℕ × A)) (v copy : A) → i < length old → i < length new → v ≡ get_or new i v → copy ≡ v
-    → AreDifferences old new i changes → AreDifferences old new (i + 1) (changes ++ (i, copy) ∷ [])
-another_item old new i changes v copy h k at same d =
-    subst (λ w. AreDifferences old new (i + 1) (changes ++ (i, w) ∷ [])) (sym same)
-    (put_at_place old new i changes (get_or old i v) v (slice_get-get_or old i v h) (slice_get-get_or new i v k ∙ ap Some (sym at)) d)
+-- an item that was compared
+pub compared_more : {A : Type 0} (old new : List A) (i : ℕ) (changes more : List (ℕ × A)) (kept value : A) → slice_get old i ≡ Some kept → slice_get new i ≡ Some value → IsCompared kept value i changes more → AreDifferences old new i changes
+    → AreDifferences old new (i + 1) more
+compared_more old new i changes more kept value is becomes compared d = elim compared [
+  | inl same ↦ subst (AreDifferences old new (i + 1)) (sym same.1) (same_item old new i changes kept is (becomes ∙ ap Some (sym same.0)) d)
+  | inr other ↦ subst (AreDifferences old new (i + 1)) (sym other) (put_at_place old new i changes kept value is becomes d)
+]
 
 -- at the end
 pub all_places : {A : Type 0} (old new : List A) (i : ℕ) (changes : List (ℕ × A)) → i ≤ length old → AreDifferences old new i changes → AreChanges 0 (length old) changes

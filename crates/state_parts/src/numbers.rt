@@ -61,17 +61,15 @@ fn push_number<L: Ledger>(list: &mut PackedList, number: u64, blank: Blank) -> R
 }
 
 /// Whether the list has just these numbers.
-#[tactic(auto, using(crate::proofs::Within::same_more, crate::proofs::Within::all_same))]
+#[tactic(auto, using(crate::proofs::Within::same_more, crate::proofs::Within::all_same, crate::proofs::Walked::first_there, crate::proofs::Walked::others_there, crate::proofs::Walked::none_there))]
 fn has_numbers(list: &PackedList, numbers: &[u64]) -> bool
     ensures { IsTrue result → list.now.items ≡ numbers.now }
 {
     if list.len() != numbers.len() as u64 {
         return false;
     }
-    for i in 0..numbers.len() {
-        let Some(number) = list.get(i as u64) else {
-            return false;
-        };
+    let kept_numbers = list.iter();
+    for (i, number) in kept_numbers.enumerate() {
         if number != numbers[i] {
             return false;
         }
