@@ -2,6 +2,7 @@
 use Rattle.std.proofs.Common.{◌≡◌, ℕ, zero, suc, ◌+◌, ◌<◌, ◌≤◌, List, [], ◌∷◌, ◌++◌, length, take, get_or, slice_get, slice_set, Some, sym, ap, ◌∙◌, subst}
 use Rattle.std.specs.List.{AllByRecursion}
 use Rattle.shared_tree.specs.Lists.{Limited}
+use Rattle.tree_nodes.specs.Changes.{changed}
 use Rattle.std.proofs.lemmas.List.{take_more, take_all}
 use Rattle.std.proofs.lemmas.Option.{slice_get_within, get_or_from_slice_get}
 
@@ -13,6 +14,12 @@ pub all_set : {A : Type 0} (P : A → Type 0) (xs : List A) (i : ℕ) (x : A) �
 all_set P [] i x all is = all
 all_set P (y ∷ ys) zero x all is = (is, all.1)
 all_set P (y ∷ ys) (suc i) x all is = (all.0, all_set P ys i x all.1 is)
+
+-- the values of changes that are made
+pub all_changed : {A : Type 0} (P : A → Type 0) (xs : List A) (changes : List (ℕ × A)) → AllByRecursion P xs → AllByRecursion (λ (c : ℕ × A). P c.1) changes → AllByRecursion P (changed xs changes)
+unfolding changed
+all_changed P xs [] all are = all
+all_changed P xs (c ∷ cs) all are = all_set P (changed xs cs) c.0 c.1 (all_changed P xs cs all are.1) are.0
 
 pub all_none_taken : {A : Type 0} (P : A → Type 0) (xs : List A) → AllByRecursion P (take 0 xs)
 all_none_taken P [] = tt
