@@ -166,7 +166,6 @@ impl<T: InRange> Values<T> {
     }
 
     /// Writes other values at many places. Only the paths to them are made anew. Where memory is refused, they are as before.
-    #[tactic(auto, using(crate::proofs::Within::all_changed))]
     pub fn set_many(&mut self, changes: Vec<(u64, T)>) -> Result<(), NoMemory>
         requires { AreChanges 0 (length self.old.items) changes.items }
         ensures { Becomes result self.old self.new (record self.old { items = changed self.old.items changes.items }) }

@@ -12,5 +12,5 @@ invariant-loop-index l = record {
   beside : l.balances ≡ drop l.index-iterator.count l.state.balances;
   places : AreChanges 0 l.index-iterator.count l.changes.items;
   made : made_from (updated_validator l.state) (length l.state.validators) l.index-iterator.count (take l.index-iterator.count (changed l.state.validators l.changes.items))
-  ≡ checked_map (updated_validator l.state) (validator_indices l.state);
+      ≡ checked_map (updated_validator l.state) (validator_indices l.state);
 }
