@@ -36,7 +36,7 @@ loop-index-preserved c =
     let step = c.in-Some.ensures.steps in
     let before = c.loop-index.changes.items in
     let after = c.note.new.changes.items in
-    let another = c.in_ok-updated.field-0 in
+    let another = c.in_ok-another.another in
     let here : x ∷ left ≡ drop i state.validators = sym step.0 ∙ c.loop-index.invariant.at in
     let first = first_left state.validators i x left here in
     let inside = slice_get_within state.validators i x first in
@@ -47,19 +47,19 @@ loop-index-preserved c =
       beside = c.next_balance-balance.ensures.others ∙ rest_left state.balances i c.loop-index.balances c.loop-index.invariant.beside ∙ ap (λ k. drop k state.balances) (sym step.2);
       places = subst (λ k. AreChanges 0 k after) (sym step.2) more.0;
       made =
-          left_made (updated_validator state) state.validators i (take i (changed state.validators before)) x left c.in-Some.index c.next.new.self.count (unwrap_or another x) (take c.next.new.self.count (changed state.validators after)) here step.1 step.2 c.in_ok-updated.ensures
+          left_made (updated_validator state) state.validators i (take i (changed state.validators before)) x left c.in-Some.index c.next.new.self.count (unwrap_or another x) (take c.next.new.self.count (changed state.validators after)) here step.1 step.2 c.in_ok-another.ensures
           (ap (λ k. take k (changed state.validators after)) step.2 ∙ more.1)
           ∙ c.loop-index.invariant.made;
     }
 
-pub returns-in_err-updated-clause-exact : goal.returns-in_err-updated-clause-exact
-returns-in_err-updated-clause-exact c =
+pub returns-in_err-another-clause-exact : goal.returns-in_err-another-clause-exact
+returns-in_err-another-clause-exact c =
     let state = c.args.state.now in
-    let stop = c.in_err-updated.field-0.0 in
+    let stop = c.in_err-another.field-0.0 in
     let step = c.in-Some.ensures.steps in
     let all : Stops stop (checked_map (updated_validator state) (validator_indices state)) =
     subst (Stops stop) c.loop-index.invariant.made
-    (left_stops (updated_validator state) state.validators c.loop-index.index-iterator.count (take c.loop-index.index-iterator.count (changed state.validators c.loop-index.changes.items)) c.in-Some.validator.now c.next.new.self.iter c.in-Some.index stop (sym step.0 ∙ c.loop-index.invariant.at) step.1 c.in_err-updated.ensures) in
+    (left_stops (updated_validator state) state.validators c.loop-index.index-iterator.count (take c.loop-index.index-iterator.count (changed state.validators c.loop-index.changes.items)) c.in-Some.validator.now c.next.new.self.iter c.in-Some.index stop (sym step.0 ∙ c.loop-index.invariant.at) step.1 c.in_err-another.ensures) in
     search (rules, all)
 
 pub returns-clause-exact : goal.returns-clause-exact

@@ -20,18 +20,18 @@ loop-index-preserved c =
       at = others_left state.validators i x left here ∙ ap (λ k. drop k state.validators) (sym step.2);
       beside = c.next_balance-balance.ensures.others ∙ rest_left state.balances i c.loop-index.balances c.loop-index.invariant.beside ∙ ap (λ k. drop k state.balances) (sym step.2);
       made =
-          left_made _ state.validators i c.loop-index.all.items x left c.in-Some.index c.next.new.self.count c.in_ok-penalized_balance.field-0 c.push.new.self.items here step.1 step.2 c.in_ok-penalized_balance.ensures c.in_ok-push.ensures.items
+          left_made _ state.validators i c.loop-index.all.items x left c.in-Some.index c.next.new.self.count c.in_ok-penalized.penalized c.push.new.self.items here step.1 step.2 c.in_ok-penalized.ensures c.in_ok-push.ensures.items
           ∙ c.loop-index.invariant.made;
     }
 
-pub returns-in_err-penalized_balance-clause-exact : goal.returns-in_err-penalized_balance-clause-exact
-returns-in_err-penalized_balance-clause-exact c =
+pub returns-in_err-penalized-clause-exact : goal.returns-in_err-penalized-clause-exact
+returns-in_err-penalized-clause-exact c =
     let state = c.args.state.now in
-    let stop = c.in_err-penalized_balance.field-0.0 in
+    let stop = c.in_err-penalized.field-0.0 in
     let step = c.in-Some.ensures.steps in
     let all : Stops stop (checked_map (penalized_balance state c.args.slashed.now.adjusted c.args.slashed.now.total) (validator_indices state)) =
     subst (Stops stop) c.loop-index.invariant.made
-    (left_stops _ state.validators c.loop-index.index-iterator.count c.loop-index.all.items c.in-Some.validator.now c.next.new.self.iter c.in-Some.index stop (sym step.0 ∙ c.loop-index.invariant.at) step.1 c.in_err-penalized_balance.ensures) in
+    (left_stops _ state.validators c.loop-index.index-iterator.count c.loop-index.all.items c.in-Some.validator.now c.next.new.self.iter c.in-Some.index stop (sym step.0 ∙ c.loop-index.invariant.at) step.1 c.in_err-penalized.ensures) in
     search (rules, all)
 
 pub returns-clause-exact : goal.returns-clause-exact
