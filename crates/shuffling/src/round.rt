@@ -20,7 +20,7 @@ fn round_hash(seed: &Root, round: u8) -> [u8; 32]
 }
 
 /// The number that the first eight bytes write.
-fn first_number(bytes: &[u8; 32]) -> u64
+pub fn first_number(bytes: &[u8; 32]) -> u64
     ensures { result ≡ from_le_bytes w64 (take 8 bytes.now) }
 {
     u64::from_le_bytes([
