@@ -9,13 +9,7 @@ use hash_tree::Root;
 use pair_lanes::Seed;
 
 /// The source of the page of a position below `count`: the first page's where there is no other.
-fn source_in(
-    seed: &Root,
-    round: u8,
-    count: u64,
-    first_page: &[u8; 32],
-    position: u64,
-) -> [u8; 32]
+fn source_in(seed: &Root, round: u8, count: u64, first_page: &[u8; 32], position: u64) -> [u8; 32]
     requires in_range { position < count }
     requires count_fits { count ≤ 2 ^ 40 }
     requires first_page { count ≤ 256 → first_page.now ≡ source_of seed.now round 0 }
@@ -93,12 +87,12 @@ pub fn shuffled_index(index: u64, count: u64, seed: &Root, rounds: u32) -> u64
     ensures in_range { result < count }
     ensures one_to_one { (other : ℕ) → other < count → compute_shuffled_index rounds other count seed.now ≡ result → other ≡ index }
 {
-    let seed = Seed::new(seed);
+    let prepared = Seed::new(seed);
     let mut place = index;
     let mut round = 0;
     while round < rounds {
         let eight = (rounds - round).min(8);
-        place = after_rounds(place, count, &seed, round as u8, eight as usize);
+        place = after_rounds(place, count, &prepared, round as u8, eight as usize);
         round += eight;
     }
     place
