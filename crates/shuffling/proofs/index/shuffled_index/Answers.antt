@@ -1,4 +1,4 @@
-use Rattle.std.proofs.Common.{◌≡◌, ℕ, List, sym, ap, ◌∙◌, arith}
+use Rattle.std.proofs.Common.{ℕ, List, sym, ap, ◌∙◌, arith}
 use Rattle.shuffling.specs.Shuffling.{compute_shuffled_index}
 use Rattle.shuffling.proofs.index.shuffled_index.Goals as goal
 
@@ -9,7 +9,7 @@ loop-round-preserved c =
     let seed = c.new-prepared.ensures in
     record {
       fits = omega arith;
-      eights = λ more. omega arith;
-      place = c.after_rounds.ensures.after c.args.index (loop.invariant.place ∙ ap (place loop.round) (sym seed)) ∙ ap (place _) seed;
-      below = c.after_rounds.ensures.in_range;
+      eights = λ more. omega (arith, loop.invariant.eights (omega arith));
+      place = c.after_rounds-place.ensures.after c.args.index (loop.invariant.place ∙ ap (place loop.round) (sym seed)) ∙ ap (place _) seed;
+      below = c.after_rounds-place.ensures.in_range;
     }

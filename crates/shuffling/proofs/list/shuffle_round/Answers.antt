@@ -1,4 +1,4 @@
-use Rattle.std.proofs.Common.{◌≡◌, ◌+◌, length, slice_index, inl, inr, ap, ◌∙◌, arith}
+use Rattle.std.proofs.Common.{◌+◌, length, slice_index, inl, inr, ap, ◌∙◌, arith}
 use Rattle.std.proofs.lemmas.Bool.{cases_lt}
 use Rattle.shuffling.specs.Shuffling.{after_round}
 use Rattle.shuffling.proofs.Rounds.{after_above}

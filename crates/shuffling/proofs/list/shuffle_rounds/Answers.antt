@@ -22,14 +22,14 @@ loop-round-preserved c =
           ∙ c.loop-round.invariant.shuffled index below;
     }
 
-pub shuffle_round-requires-pivot : goal.shuffle_round-requires-pivot
-shuffle_round-requires-pivot c =
+pub shuffle_round-requires-clause-pivot : goal.shuffle_round-requires-clause-pivot
+shuffle_round-requires-clause-pivot c =
     c.turn_pivots.ensures (c.loop-round.round - 1) (omega arith)
-    ∙ ap (pivot_of c.args.seed.now (c.loop-round.round - 1)) (c.len.ensures ∙ sym c.loop-round.invariant.long)
+    ∙ ap (pivot_of c.args.seed.now (c.loop-round.round - 1)) (c.len-count.ensures ∙ sym c.loop-round.invariant.long)
 
-pub shuffle_round-requires-below : goal.shuffle_round-requires-below
-shuffle_round-requires-below c =
-    omega (arith, c.turn_pivots.ensures (c.loop-round.round - 1) (omega arith), pivot_below c.args.seed.now (c.loop-round.round - 1) c.len.result (omega arith), c.len.ensures, c.loop-round.invariant.long)
+pub shuffle_round-requires-clause-below : goal.shuffle_round-requires-clause-below
+shuffle_round-requires-clause-below c =
+    omega (arith, c.turn_pivots.ensures (c.loop-round.round - 1) (omega arith), pivot_below c.args.seed.now (c.loop-round.round - 1) c.len-count.result (omega arith), c.len-count.ensures, c.loop-round.invariant.long)
 
 -- no round moves anything where there is nothing
 pub returns-then-count-eq0 : goal.returns-then-count-eq0
