@@ -36,8 +36,6 @@ mod spans;
 #[cfg(test)]
 mod ssz;
 #[cfg(test)]
-mod texts;
-#[cfg(test)]
 mod totals;
 #[cfg(test)]
 mod trees;

@@ -71,8 +71,8 @@ fn share_keeps(state: &State) -> bool {
 }
 
 /// Whether the shared committees are so many a slot.
-fn shared_are(alloc: Global, state: &State, epoch: u64, per_slot: u64) -> bool {
-    match shared_committees(alloc, state, epoch) {
+fn shared_are(alloc: Global, state: &State, epoch: u32, per_slot: u64) -> bool {
+    match shared_committees(alloc, state, u64::from(epoch)) {
         Ok(committees) => committees.per_slot() == per_slot,
         Err(_stop) => false,
     }

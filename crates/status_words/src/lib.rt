@@ -2,5 +2,7 @@
 #![tactic(auto)]
 
 mod explanation;
+#[cfg(test)]
+mod tests;
 
 pub use explanation::{Cause, Explanation};

@@ -1,5 +1,6 @@
 //! What the statuses say.
 
+use crate::explanation::{Cause, Explanation};
 use bc_preset::{ConfigFault, Key};
 use bc_words::{ClashKind, Limit, Refusal};
 use beacon_node::Status;
@@ -9,7 +10,6 @@ use record_file::RecordFault;
 use spec_fork_choice::AnchorFault;
 use spec_genesis::DepositsFault;
 use spec_state::GenesisFault;
-use status_words::{Cause, Explanation};
 use std::alloc::{AllocError, Global};
 use std::io::{Error, ErrorKind};
 use std::test::Fail;
@@ -190,52 +190,32 @@ const DRILL: &[Row] = &[
     ),
 ];
 
-/// How many bytes a file of deposits has, and the rows of `genesis c d`.
-const DEPOSITS: &[(usize, &[Row])] = &[
+/// The statuses of `genesis c d` where the file of deposits has so many bytes, and what each says.
+const DEPOSITS: &[(Status, usize, &str)] = &[
     (
+        Status::Deposits(DepositsFault::TooLong),
         1_073_741_825,
-        &[(
-            Status::Deposits(DepositsFault::TooLong),
-            None,
-            None,
-            "Deposits: \"d\": the file has more than 1073741824 bytes",
-        )],
+        "Deposits: \"d\": the file has more than 1073741824 bytes",
     ),
     (
+        Status::Deposits(DepositsFault::BadMagic),
         2,
-        &[(
-            Status::Deposits(DepositsFault::BadMagic),
-            None,
-            None,
-            "Deposits: \"d\": the file does not begin with BCD1",
-        )],
+        "Deposits: \"d\": the file does not begin with BCD1",
     ),
     (
+        Status::Deposits(DepositsFault::Torn),
         16,
-        &[(
-            Status::Deposits(DepositsFault::Torn),
-            None,
-            None,
-            "Deposits: \"d\": the file ends within its head or within a deposit: it has 16 bytes, and its head has 48",
-        )],
+        "Deposits: \"d\": the file ends within its head or within a deposit: it has 16 bytes, and its head has 48",
     ),
     (
+        Status::Deposits(DepositsFault::Torn),
         415,
-        &[(
-            Status::Deposits(DepositsFault::Torn),
-            None,
-            None,
-            "Deposits: \"d\": the file ends within its head or within a deposit: it has 415 bytes, the last 183 of which are of deposit 1, and a deposit has 184",
-        )],
+        "Deposits: \"d\": the file ends within its head or within a deposit: it has 415 bytes, the last 183 of which are of deposit 1, and a deposit has 184",
     ),
     (
+        Status::Deposits(DepositsFault::Overflow(1)),
         416,
-        &[(
-            Status::Deposits(DepositsFault::Overflow(1)),
-            None,
-            None,
-            "Deposits: \"d\": the amount of deposit 1 does not fit into the balance of its key: the deposit stands behind the file's first 232 bytes",
-        )],
+        "Deposits: \"d\": the amount of deposit 1 does not fit into the balance of its key: the deposit stands behind the file's first 232 bytes",
     ),
 ];
 
@@ -431,12 +411,11 @@ fn cause_of<'a>(cause: Option<Option<&'a str>>, error: &'a Error) -> Option<Caus
     }
 }
 
-/// Whether these rows say what they have to, for this command, whose second file has so many bytes, where what failed was not found.
+/// Whether these rows say what they have to, for this command, whose second file has 7056 bytes, where what failed was not found.
 fn rows_hold<'a, 'b>(
     alloc: Global,
     rows: &'a [(Status, Option<Option<&'b str>>, Option<u64>, &'a str)],
     command: Command<'a>,
-    len: usize,
     error: &'b Error,
 ) -> bool {
     let mut all = true;
@@ -447,46 +426,97 @@ fn rows_hold<'a, 'b>(
             wrong: None,
             cause: cause_of(*cause, error),
             event: *event,
-            genesis_len: Some(len),
+            genesis_len: Some(7056),
         };
         all &= says(alloc, &explanation, text);
     }
     all
 }
 
-/// The same of the command that these words are.
-fn words_hold<'a>(alloc: Global, words: &'a [String], len: usize, rows: &'a [Row]) -> bool {
-    let error = Error::from(ErrorKind::NotFound);
-    match read_command(alloc, words) {
-        Ok(command) => rows_hold(alloc, rows, command, len, &error),
-        Err(_stop) => false,
+/// Whether the rows of deposits say what they have to, for this command.
+fn deposits_hold(alloc: Global, command: Command<'_>) -> bool {
+    let mut all = true;
+    for (status, len, text) in DEPOSITS.iter() {
+        let explanation = Explanation {
+            status,
+            command: Some(command),
+            wrong: None,
+            cause: None,
+            event: None,
+            genesis_len: Some(*len),
+        };
+        all &= says(alloc, &explanation, text);
     }
-}
-
-/// The same of a line of words.
-fn line_holds(
-    alloc: Global,
-    line: &str,
-    len: usize,
-    rows: &'static [Row],
-) -> Result<bool, AllocError> {
-    let words = words_of(alloc, line)?;
-    Ok(words_hold(alloc, &words, len, rows))
+    all
 }
 
 #[test]
-fn statuses_say_what_they_mean(rt: HostRuntime) -> Result<(), Fail> {
-    for (line, rows) in [
-        ("replay c g r", REPLAY),
-        ("drill 0 c", DRILL),
-        ("duties c s 7", DUTIES),
-        ("anchor c s b r", ANCHOR),
-        ("forensic c g a b", FORENSIC),
-    ] {
-        assert!(rt; line_holds(rt.alloc(), line, 7056, rows)?);
-    }
-    for (len, rows) in DEPOSITS.iter() {
-        assert!(rt; line_holds(rt.alloc(), "genesis c d", *len, *rows)?);
-    }
+fn replay_statuses(rt: HostRuntime) -> Result<(), Fail> {
+    let words = words_of(rt.alloc(), "replay c g r")?;
+    let error = Error::from(ErrorKind::NotFound);
+    let command = read_command(rt.alloc(), &words)
+        .ok()
+        .expect(&rt, "a command");
+    let holds = rows_hold(rt.alloc(), REPLAY, command, &error);
+    assert!(rt; holds);
+    Ok(())
+}
+
+#[test]
+fn drill_statuses(rt: HostRuntime) -> Result<(), Fail> {
+    let words = words_of(rt.alloc(), "drill 0 c")?;
+    let error = Error::from(ErrorKind::NotFound);
+    let command = read_command(rt.alloc(), &words)
+        .ok()
+        .expect(&rt, "a command");
+    let holds = rows_hold(rt.alloc(), DRILL, command, &error);
+    assert!(rt; holds);
+    Ok(())
+}
+
+#[test]
+fn duties_statuses(rt: HostRuntime) -> Result<(), Fail> {
+    let words = words_of(rt.alloc(), "duties c s 7")?;
+    let error = Error::from(ErrorKind::NotFound);
+    let command = read_command(rt.alloc(), &words)
+        .ok()
+        .expect(&rt, "a command");
+    let holds = rows_hold(rt.alloc(), DUTIES, command, &error);
+    assert!(rt; holds);
+    Ok(())
+}
+
+#[test]
+fn anchor_statuses(rt: HostRuntime) -> Result<(), Fail> {
+    let words = words_of(rt.alloc(), "anchor c s b r")?;
+    let error = Error::from(ErrorKind::NotFound);
+    let command = read_command(rt.alloc(), &words)
+        .ok()
+        .expect(&rt, "a command");
+    let holds = rows_hold(rt.alloc(), ANCHOR, command, &error);
+    assert!(rt; holds);
+    Ok(())
+}
+
+#[test]
+fn forensic_statuses(rt: HostRuntime) -> Result<(), Fail> {
+    let words = words_of(rt.alloc(), "forensic c g a b")?;
+    let error = Error::from(ErrorKind::NotFound);
+    let command = read_command(rt.alloc(), &words)
+        .ok()
+        .expect(&rt, "a command");
+    let holds = rows_hold(rt.alloc(), FORENSIC, command, &error);
+    assert!(rt; holds);
+    Ok(())
+}
+
+#[test]
+fn deposits_statuses(rt: HostRuntime) -> Result<(), Fail> {
+    let words = words_of(rt.alloc(), "genesis c d")?;
+    let command = read_command(rt.alloc(), &words)
+        .ok()
+        .expect(&rt, "a command");
+    let holds = deposits_hold(rt.alloc(), command);
+    assert!(rt; holds);
     Ok(())
 }
