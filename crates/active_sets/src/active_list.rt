@@ -1,6 +1,8 @@
 //! The list of an epoch's active validators, which states share.
 
-ghost use Rattle.std.specs.Prelude.{◌≡◌, ◌<◌, ◌++◌, ◌∷◌, [], length, slice_set, IfOk, IfSome, IsTrue, None};
+ghost use Rattle.std.specs.Prelude.{◌≡◌, ◌<◌, ◌++◌, ◌∷◌, [], List, length, slice_get, slice_set, IfOk, IfSome, IsTrue, None};
+ghost use Rattle.tree_nodes.specs.Changes.{AreChanges, changed};
+ghost use Rattle.beacon_types.specs.declared.validator.Validator.{Validator};
 ghost use Rattle.spec_state.specs.Predicates.{is_active_validator};
 ghost use Rattle.active_sets.specs.inside.Active.{IsActiveIn};
 
@@ -108,7 +110,7 @@ fn changed_at(
     requires place { i < length validators.now.items }
     requires active { IsActiveIn validators.now.items list }
     ensures before { IfSome result (IsActiveIn validators.now.items) }
-    ensures behind { IfSome result (IsActiveIn (slice_set validators.now.items i validator.now)) }
+    ensures behind { (registry : List Validator) → slice_get registry i ≡ slice_get validators.now.items i → IsActiveIn registry list → IfSome result (IsActiveIn (slice_set registry i validator.now)) }
 {
     let mut list = list;
     let Some(before) = validators.get(i) else {
@@ -141,7 +143,8 @@ fn pushed_behind(
     Some(list)
 }
 
-/// Gives a kept list up so far as it isn't true of the registry any longer once a validator takes a place.
+/// Gives a kept list up so far as it isn't true any longer once a validator takes a place of the registry, or of one that has the
+/// same validator there.
 pub(crate) fn follow_set(
     kept: &mut Option<ActiveList>,
     validators: &SharedList<Validator>,
@@ -151,10 +154,26 @@ pub(crate) fn follow_set(
     requires place { i < length validators.now.items }
     requires active { IfSome kept.old (IsActiveIn validators.now.items) }
     ensures before { IfSome kept.new (IsActiveIn validators.now.items) }
-    ensures behind { IfSome kept.new (IsActiveIn (slice_set validators.now.items i validator.now)) }
+    ensures behind { (registry : List Validator) → slice_get registry i ≡ slice_get validators.now.items i → IfSome kept.old (IsActiveIn registry) → IfSome kept.new (IsActiveIn (slice_set registry i validator.now)) }
 {
     if let Some(list) = kept.take() {
         *kept = changed_at(list, validators, i, validator);
+    }
+}
+
+/// Gives a kept list up so far as it isn't true of the registry any longer once validators take many places.
+pub(crate) fn follow_many(
+    kept: &mut Option<ActiveList>,
+    validators: &SharedList<Validator>,
+    changes: &[(u64, Validator)],
+)
+    requires places { AreChanges 0 (length validators.now.items) changes.now }
+    requires active { IfSome kept.old (IsActiveIn validators.now.items) }
+    ensures before { IfSome kept.new (IsActiveIn validators.now.items) }
+    ensures behind { IfSome kept.new (IsActiveIn (changed validators.now.items changes.now)) }
+{
+    for change in changes {
+        follow_set(kept, validators, change.0, &change.1);
     }
 }
 

@@ -3,10 +3,11 @@
 ghost use Rattle.std.specs.Prelude.{◌≡◌, ◌<◌, ◌++◌, ◌∷◌, [], List, length, slice_set, IfOk, IfSome, Some};
 ghost use Rattle.beacon_types.specs.declared.validator.Validator.{Validator};
 ghost use Rattle.bc_words.specs.Outcome.{done};
+ghost use Rattle.tree_nodes.specs.Changes.{AreChanges, changed};
 ghost use Rattle.active_sets.specs.inside.Active.{active_in, balance_in, IsActiveIn};
 ghost use Rattle.active_sets.specs.inside.Kept.{AreActiveIn};
 
-use crate::active_list::{ActiveList, follow_push, follow_set};
+use crate::active_list::{ActiveList, follow_many, follow_push, follow_set};
 use bc_words::NoMemory;
 use beacon_types::Validator;
 use shared_tree::SharedList;
@@ -155,6 +156,17 @@ impl ActiveLists {
     {
         follow_set(&mut self.latest, validators, i, validator);
         follow_set(&mut self.earlier, validators, i, validator);
+    }
+
+    /// Gives up what isn't true of the registry any longer once validators take many places.
+    pub fn follow_many(&mut self, validators: &SharedList<Validator>, changes: &[(u64, Validator)])
+        requires places { AreChanges 0 (length validators.now.items) changes.now }
+        requires active { AreActiveIn validators.now.items self.old }
+        ensures before { AreActiveIn validators.now.items self.new }
+        ensures behind { AreActiveIn (changed validators.now.items changes.now) self.new }
+    {
+        follow_many(&mut self.latest, validators, changes);
+        follow_many(&mut self.earlier, validators, changes);
     }
 
     /// Gives up what isn't true of the registry any longer once a validator is put behind the others.

@@ -5,6 +5,7 @@ use Rattle.bc_words.specs.declared.refusal.Refusal.TheVariants.{ListFull}
 use Rattle.bc_words.specs.declared.stop.NoMemory.{NoMemory}
 use Rattle.bc_words.specs.declared.stop.PushStop.{PushStop}
 use Rattle.shared_tree.specs.Lists.{Limited}
+use Rattle.tree_nodes.specs.Changes.{changed}
 use Rattle.beacon_types.specs.declared.validator.Validator.{Validator}
 use Rattle.active_sets.specs.declared.active_lists.ActiveLists.{ActiveLists}
 use Rattle.active_sets.specs.inside.Kept.{AreActiveIn}
@@ -24,3 +25,8 @@ pub active_set : {U : Type 0} (result : Result U NoMemory) (old new : Limited Va
     → Becomes result old new (record old { items = slice_set old.items i v }) → AreActiveIn old.items lists → AreActiveIn (slice_set old.items i v) lists → AreActiveIn new.items lists
 active_set (Ok x) old new i v lists is before behind = subst (λ (validators : Limited Validator). AreActiveIn validators.items lists) (sym is) behind
 active_set (Err stop) old new i v lists is before behind = subst (λ (validators : Limited Validator). AreActiveIn validators.items lists) (sym is) before
+
+pub active_made : {U : Type 0} (result : Result U NoMemory) (old new : Limited Validator) (changes : List (ℕ × Validator)) (lists : ActiveLists)
+    → Becomes result old new (record old { items = changed old.items changes }) → AreActiveIn old.items lists → AreActiveIn (changed old.items changes) lists → AreActiveIn new.items lists
+active_made (Ok x) old new changes lists is before behind = subst (λ (validators : Limited Validator). AreActiveIn validators.items lists) (sym is) behind
+active_made (Err stop) old new changes lists is before behind = subst (λ (validators : Limited Validator). AreActiveIn validators.items lists) (sym is) before

@@ -1,1 +1,2 @@
 pub mod MadeLeft
+pub mod Updating

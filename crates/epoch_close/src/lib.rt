@@ -5,7 +5,6 @@
 #![tactic(auto)]
 
 mod balances;
-mod each_validator;
 pub mod process_effective_balance_updates;
 pub mod process_eth1_data_reset;
 pub mod process_historical_roots_update;

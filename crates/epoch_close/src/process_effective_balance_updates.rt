@@ -1,13 +1,16 @@
 //! Effective balances that follow the balances (beacon-chain.md, "process_effective_balance_updates").
 
-ghost use Rattle.std.specs.Prelude.{◌≡◌};
-ghost use Rattle.bc_words.specs.Outcome.{Changes, GivesExactly};
+ghost use Rattle.std.specs.Prelude.{◌≡◌, length, slice_get, Some, IfOk, OnOk};
+ghost use Rattle.bc_words.specs.Outcome.{Changes, GivesBy, GivesExactly};
 ghost use Rattle.bc_preset.specs.Presets.{IsPreset};
+ghost use Rattle.tree_nodes.specs.Changes.{AreChanges, changed};
+ghost use Rattle.spec_epochs.specs.Each.{checked_map, validator_indices};
 ghost use Rattle.spec_epochs.specs.ProcessEffectiveBalanceUpdates.{process_effective_balance_updates, updated_validator, is_out_of_bounds};
+ghost use Rattle.epoch_close.specs.inside.Updates.{GivesAnother, IsNoted};
 
-use crate::each_validator::{EachValidator, made_of_each};
+use crate::balances::next_balance;
 use bc_preset::Preset;
-use bc_words::{Refusal, Stop, checked_add};
+use bc_words::{NoMemory, Refusal, Stop, checked_add};
 use beacon_state::State;
 use beacon_types::Validator;
 use std::alloc::Global;
@@ -28,45 +31,75 @@ fn is_out_of_bounds(preset: &Preset, balance: u64, effective: u64) -> Result<boo
     Ok(with_upward < balance)
 }
 
-/// Validators with their new effective balances.
-#[derive(Clone, Copy)]
-struct Updated;
+/// The validator with its new effective balance, where that is another one than it has. Its balance stands at its index, where there
+/// is one.
+#[tactic(auto, unfolding(spec_epochs::specs::ProcessEffectiveBalanceUpdates::updated_validator), using(bc_preset::proofs::Bounds::preset_bounds, crate::proofs::Updating::same_balance))]
+fn updated(
+    state: &State,
+    index: u64,
+    validator: &Validator,
+    balance: Option<u64>,
+) -> Result<Option<Validator>, Stop>
+    requires validator { slice_get state.now.validators index ≡ Some validator.now }
+    requires balance { slice_get state.now.balances index ≡ balance }
+    ensures { GivesAnother validator.now result (updated_validator state.now index) }
+{
+    let Some(balance) = balance else {
+        return Err(Stop::Refused(Refusal::IndexRange));
+    };
+    let preset = state.preset();
+    if !is_out_of_bounds(preset, balance, validator.effective_balance)? {
+        return Ok(None);
+    }
+    let whole = balance - balance % preset.effective_balance_increment;
+    let effective_balance = whole.min(preset.max_effective_balance);
+    if effective_balance == validator.effective_balance {
+        return Ok(None);
+    }
+    let mut another = *validator;
+    another.effective_balance = effective_balance;
+    Ok(Some(another))
+}
 
-impl EachValidator for Updated {
-    type Made = Validator;
-
-    ghost is_fit = { λ _. Unit {0} };
-
-    ghost made_of = { λ _ state. updated_validator state };
-
-    #[tactic(auto, unfolding(spec_epochs::specs::ProcessEffectiveBalanceUpdates::updated_validator), using(bc_preset::proofs::Bounds::preset_bounds))]
-    fn make(
-        &self,
-        state: &State,
-        index: u64,
-        validator: &Validator,
-        balance: Option<u64>,
-    ) -> Result<Validator, Stop> {
-        let mut updated = *validator;
-        let Some(balance) = balance else {
-            return Err(Stop::Refused(Refusal::IndexRange));
-        };
-        let preset = state.preset();
-        if is_out_of_bounds(preset, balance, validator.effective_balance)? {
-            let whole = balance - balance % preset.effective_balance_increment;
-            updated.effective_balance = whole.min(preset.max_effective_balance);
-        }
-        Ok(updated)
+/// Puts a validator among the changes of the registry, where there is another one for its place.
+fn note(
+    index: u64,
+    another: Option<Validator>,
+    changes: &mut Vec<(u64, Validator)>,
+) -> Result<(), NoMemory>
+    ensures { OnOk result (IsNoted another index changes.old.items changes.new.items) }
+{
+    match another {
+        Some(validator) => Ok(changes.push((index, validator))?),
+        None => Ok(()),
     }
 }
 
+/// The validators whose effective balance changes, with their new one, at their places in the registry.
+#[tactic(auto, unfolding(spec_epochs::specs::Each::validator_indices), using(crate::proofs::MadeLeft::making, balance_totals::proofs::LeftOf::first_left))]
+fn all_updated(alloc: Global, state: &State) -> Result<Vec<(u64, Validator)>, Stop>
+    ensures exact { GivesBy (λ changes. changed state.now.validators changes.items) result (checked_map (updated_validator state.now) (validator_indices state.now)) }
+    ensures places { IfOk result (λ changes. AreChanges 0 (length state.now.validators) changes.items) }
+{
+    let mut changes = Vec::new(alloc);
+    let mut balances = state.balance_list().iter();
+    let validators = state.validator_list().iter();
+    for (index, validator) in validators.enumerate() {
+        let balance = next_balance(&mut balances);
+        let another = updated(state, index as u64, validator, balance)?;
+        note(index as u64, another, &mut changes)?;
+    }
+    Ok(changes)
+}
+
 /// Each validator's effective balance follows its balance where this is far below or above it (beacon-chain.md,
-/// `process_effective_balance_updates`). Refused as an overflow exactly where a bound that is needed does not fit.
+/// `process_effective_balance_updates`). Only those are written whose effective balance changes. Refused as an overflow exactly
+/// where a bound that is needed does not fit.
 #[tactic(auto, unfolding(spec_epochs::specs::ProcessEffectiveBalanceUpdates::process_effective_balance_updates), using(bc_preset::proofs::Bounds::preset_bounds))]
 pub fn process_effective_balances(alloc: Global, state: &mut State) -> Result<(), Stop>
     ensures { Changes result state.old state.new (process_effective_balance_updates state.old) }
 {
-    let validators = made_of_each(alloc, state, &Updated)?;
-    state.set_validators(validators)?;
+    let changes = all_updated(alloc, state)?;
+    state.set_many_validators(changes)?;
     Ok(())
 }

@@ -1,11 +1,12 @@
 //! The penalties of the slashed (beacon-chain.md, "process_slashings").
 
-ghost use Rattle.std.specs.Prelude.{◌≡◌, ◌≤◌, ◌+◌, ◌/◌, ◌==◌, ◌&&◌, slice_index};
-ghost use Rattle.bc_words.specs.Outcome.{Changes, GivesExactly, checked_mul, checked_sum};
+ghost use Rattle.std.specs.Prelude.{◌≡◌, ◌≤◌, ◌+◌, ◌/◌, ◌==◌, ◌&&◌, length, slice_get, slice_index, Some, IfOk};
+ghost use Rattle.bc_words.specs.Outcome.{Changes, GivesBy, GivesExactly, checked_mul, checked_sum};
 ghost use Rattle.spec_state.specs.Accessors.{get_current_epoch};
+ghost use Rattle.spec_epochs.specs.Each.{checked_map, validator_indices};
 ghost use Rattle.spec_epochs.specs.ProcessSlashings.{process_slashings, penalized_balance};
 
-use crate::each_validator::{EachValidator, made_of_each};
+use crate::balances::next_balance;
 use balance_totals::{current_epoch, total_active};
 use bc_words::{Refusal, Stop, checked_add, checked_mul};
 use beacon_state::State;
@@ -49,39 +50,55 @@ fn whole_penalty(numerator: u64, total: u64, increment: u64) -> Result<u64, Stop
     checked_mul(numerator / total, increment)
 }
 
-/// Balances without their penalties, in Gwei: what was slashed lately, at most the total, and the total active balance.
+/// What penalties are reckoned by, in Gwei: what was slashed lately, multiplied and at most the total, and the total active balance.
 #[derive(Clone, Copy)]
-struct Penalized {
-    slashed: u64,
+struct Slashed {
+    adjusted: u64,
     total: u64,
 }
 
-impl EachValidator for Penalized {
-    type Made = u64;
-
-    ghost is_fit = { λ kept. 1 ≤ kept.total };
-
-    ghost made_of = { λ kept state. penalized_balance state kept.slashed kept.total };
-
-    #[tactic(auto, unfolding(spec_epochs::specs::ProcessSlashings::penalized_balance), using(bc_preset::proofs::Bounds::preset_bounds))]
-    fn make(
-        &self,
-        state: &State,
-        _index: u64,
-        validator: &Validator,
-        balance: Option<u64>,
-    ) -> Result<u64, Stop> {
-        let Some(balance) = balance else {
-            return Err(Stop::Refused(Refusal::IndexRange));
-        };
-        if !pays(state, validator) {
-            return Ok(balance);
-        }
-        let increment = state.preset().effective_balance_increment;
-        let numerator = checked_mul(validator.effective_balance / increment, self.slashed)?;
-        let penalty = whole_penalty(numerator, self.total, increment)?;
-        Ok(balance.saturating_sub(penalty))
+/// The balance of a validator without its penalty, in Gwei. Its balance stands at its index, where there is one.
+#[tactic(auto, unfolding(spec_epochs::specs::ProcessSlashings::penalized_balance), using(bc_preset::proofs::Bounds::preset_bounds))]
+fn penalized_balance(
+    state: &State,
+    slashed: &Slashed,
+    index: u64,
+    validator: &Validator,
+    balance: Option<u64>,
+) -> Result<u64, Stop>
+    requires total { 1 ≤ slashed.now.total }
+    requires validator { slice_get state.now.validators index ≡ Some validator.now }
+    requires balance { slice_get state.now.balances index ≡ balance }
+    ensures { GivesExactly result (penalized_balance state.now slashed.now.adjusted slashed.now.total index) }
+{
+    let Some(balance) = balance else {
+        return Err(Stop::Refused(Refusal::IndexRange));
+    };
+    if !pays(state, validator) {
+        return Ok(balance);
     }
+    let increment = state.preset().effective_balance_increment;
+    let numerator = checked_mul(validator.effective_balance / increment, slashed.adjusted)?;
+    let penalty = whole_penalty(numerator, slashed.total, increment)?;
+    Ok(balance.saturating_sub(penalty))
+}
+
+/// The balances of all validators without their penalties, in Gwei, in order of index.
+#[tactic(auto, unfolding(spec_epochs::specs::Each::validator_indices), using(crate::proofs::MadeLeft::making, balance_totals::proofs::LeftOf::first_left))]
+fn penalized_balances(alloc: Global, state: &State, slashed: &Slashed) -> Result<Vec<u64>, Stop>
+    requires { 1 ≤ slashed.now.total }
+    ensures exact { GivesBy (λ all. all.items) result (checked_map (penalized_balance state.now slashed.now.adjusted slashed.now.total) (validator_indices state.now)) }
+    ensures few { IfOk result (λ all. length all.items ≤ state.now.preset.validator_registry_limit) }
+{
+    let mut all = Vec::with_capacity(alloc, state.validators_len() as usize)?;
+    let mut balances = state.balance_list().iter();
+    let validators = state.validator_list().iter();
+    for (index, validator) in validators.enumerate() {
+        let balance = next_balance(&mut balances);
+        let penalized = penalized_balance(state, slashed, index as u64, validator, balance)?;
+        all.push(penalized)?;
+    }
+    Ok(all)
 }
 
 /// Takes from each slashed validator that is half way to its withdrawal its part of what was slashed lately
@@ -93,11 +110,8 @@ pub fn process_slashings(alloc: Global, state: &mut State) -> Result<(), Stop>
     let total = total_active(state, current_epoch(state))?;
     let slashed = slashed_lately(state)?;
     let multiplied = checked_mul(slashed, state.preset().proportional_slashing_multiplier)?;
-    let penalized = Penalized {
-        slashed: multiplied.min(total),
-        total,
-    };
-    let balances = made_of_each(alloc, state, &penalized)?;
+    let adjusted = multiplied.min(total);
+    let balances = penalized_balances(alloc, state, &Slashed { adjusted, total })?;
     state.set_balances(balances)?;
     Ok(())
 }

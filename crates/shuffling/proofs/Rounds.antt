@@ -1,6 +1,6 @@
 -- Each round takes an index below count to one below count, and is its own inverse there. So the shuffled places of
 -- all indices are all different, and each index is the shuffled place of one.
-use Rattle.std.proofs.Common.{◌≡◌, ℕ, zero, suc, ◌+◌, ◌-◌, ◌%◌, ◌<◌, ◌≤◌, max, List, eqb, Bool, true, false, cond, refl, sym, ap, ◌∙◌, arith, inl, inr}
+use Rattle.std.proofs.Common.{◌≡◌, ℕ, zero, suc, ◌+◌, ◌-◌, ◌%◌, ◌<◌, ◌≤◌, max, List, eqb, Bool, true, false, cond, refl, sym, ap, ◌∙◌, add-one, arith, inl, inr}
 use Rattle.std.proofs.Math.Nat.{mod-eq_of_lt, add-mod_right, mod-lt}
 use Rattle.std.proofs.lemmas.Bool.{cases_lt}
 use Rattle.shuffling.specs.Shuffling.{pivot_of, bit_of, after_round, compute_shuffled_index}
@@ -105,6 +105,10 @@ module _ (seed : List ℕ) (count : ℕ) where
   unfolding compute_shuffled_index
   place_next zero index some = absurd (omega arith)
   place_next (suc round) index some = let e : suc round - 1 ≡ round = omega arith in rw e refl
+
+  pub place_after : (round index place : ℕ) → place ≡ compute_shuffled_index round index count seed → after_round seed round count place ≡ compute_shuffled_index (round + 1) index count seed
+  unfolding compute_shuffled_index
+  place_after round index place is = rw (add-one, is) refl
 
   pub place_first : (round index : ℕ) → round ≡ 0 → compute_shuffled_index round index count seed ≡ index
   unfolding compute_shuffled_index

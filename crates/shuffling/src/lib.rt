@@ -4,6 +4,7 @@
 //! Seeds come from the committees above, and indices and shuffled lists go back to them.
 #![tactic(auto)]
 
+mod eights;
 mod index;
 mod items;
 mod lanes;

@@ -4,9 +4,9 @@
 ghost use Rattle.std.specs.Prelude.{◌≡◌, ℕ, ◌+◌, ◌-◌, ◌/◌, ◌%◌, ◌<◌, ◌≤◌, ◌^◌, length, slice_index, IsOk, IfOk};
 ghost use Rattle.shuffling.specs.Shuffling.{after_round, pivot_of, shuffled_list};
 
+use crate::eights::turn_pivots;
 use crate::items::Items;
 use crate::pages::turn_pages;
-use crate::round::pivot_at;
 use bc_words::NoMemory;
 use hash_tree::Root;
 use pair_lanes::{Seed, schedule_room};
@@ -37,19 +37,19 @@ fn swap_mirror_images(list: &mut Items, start: usize, end: usize, seed: &Seed, r
     }
 }
 
-/// One round over the whole list: each place takes the item at its index after the round.
-fn shuffle_round(list: &mut Items, seed: &Seed, round: u8)
+/// One round over the whole list, from its pivot: each place takes the item at its index after the round.
+fn shuffle_round(list: &mut Items, seed: &Seed, round: u8, pivot: u64)
     requires fits { length list.old ≤ 2 ^ 40 }
+    requires pivot { pivot ≡ pivot_of seed.now round (length list.old) }
+    requires below { pivot < length list.old }
     ensures shuffled { (place : ℕ) → place < length list.old
         → slice_index list.new place ≡ slice_index list.old (after_round seed.now round (length list.old) place) }
     ensures length { length list.new ≡ length list.old }
 {
     let count = list.len();
-    if count > 0 {
-        let pivot = pivot_at(seed.bytes(), round, count as u64) as usize;
-        swap_mirror_images(list, 0, pivot + 1, seed, round);
-        swap_mirror_images(list, pivot + 1, count, seed, round);
-    }
+    let middle = pivot as usize + 1;
+    swap_mirror_images(list, 0, middle, seed, round);
+    swap_mirror_images(list, middle, count, seed, round);
 }
 
 /// All rounds over the whole list, the last one first.
@@ -58,10 +58,16 @@ fn shuffle_rounds(list: &mut Items, seed: &Seed, rounds: u32)
     requires rounds_fit { rounds ≤ 256 }
     ensures { list.new ≡ shuffled_list seed.now rounds list.old }
 {
+    let count = list.len() as u64;
+    if count == 0 {
+        return;
+    }
+    let mut pivots = [0; 8];
     let mut round = rounds;
     while round > 0 {
         round -= 1;
-        shuffle_round(list, seed, round as u8);
+        turn_pivots(&mut pivots, seed, count, rounds, round);
+        shuffle_round(list, seed, round as u8, pivots[round as usize % 8]);
     }
 }
 

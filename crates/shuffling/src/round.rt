@@ -1,23 +1,12 @@
 //! What one round of the shuffle takes from the seed: its pivot, and a bit for each position.
 
-ghost use Rattle.std.specs.Prelude.{◌≡◌, ℕ, ◌+◌, ◌<◌, ◌/◌, ◌%◌, ◌^◌, [], ◌∷◌, ◌++◌, take};
+ghost use Rattle.std.specs.Prelude.{◌≡◌, ℕ, ◌+◌, ◌<◌, ◌/◌, ◌%◌, ◌^◌, List, [], ◌∷◌, ◌++◌, take};
 ghost use Rattle.std.specs.Int.{bit_at, from_le_bytes, w64};
 ghost use Rattle.hash_tree.specs.Merkle.{hash};
 ghost use Rattle.shuffling.specs.Shuffling.{pivot_of, source_of, bit_in};
 
 use hash_tree::Root;
 use sha2::{Digest, Sha256};
-
-/// The hash of the seed and a round's number.
-#[tactic(auto, unfolding(hash_tree::specs::Merkle::hash))]
-fn round_hash(seed: &Root, round: u8) -> [u8; 32]
-    ensures { result ≡ hash (seed.now ++ round ∷ []) }
-{
-    let mut hasher = Sha256::new();
-    hasher.update(seed);
-    hasher.update(&[round]);
-    hasher.finalize()
-}
 
 /// The number that the first eight bytes write.
 fn first_number(bytes: &[u8; 32]) -> u64
@@ -28,14 +17,13 @@ fn first_number(bytes: &[u8; 32]) -> u64
     ])
 }
 
-/// The pivot of a round, below `count`.
-pub fn pivot_at(seed: &Root, round: u8, count: u64) -> u64
+/// The pivot of a round, below `count`, from the hash of the seed and the round's number.
+pub fn pivot_in(round_hash: &[u8; 32], count: u64) -> u64
     requires { 0 < count }
-    ensures pivot { result ≡ pivot_of seed.now round count }
+    ensures pivot { (seed : List ℕ) (round : ℕ) → round_hash.now ≡ hash (seed ++ round ∷ []) → result ≡ pivot_of seed round count }
     ensures below { result < count }
 {
-    let number = first_number(&round_hash(seed, round));
-    number % count
+    first_number(round_hash) % count
 }
 
 /// The bits of the page of 256 positions in which `position` is.

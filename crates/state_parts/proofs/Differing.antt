@@ -1,59 +1,63 @@
 -- Changes from one list to another of the same length, found place by place.
-use Rattle.std.proofs.Common.{◌≡◌, ℕ, ◌+◌, ◌<◌, ◌≤◌, List, [], ◌∷◌, ◌++◌, length, take, get_or, slice_get, slice_set, Some, refl, sym, subst, ap, ◌∙◌, arith}
-use Rattle.std.proofs.lemmas.List.{take_more, take_all, append_assoc, append-nil, length-take}
-use Rattle.std.proofs.lemmas.Option.{slice_get_within, get_or_from_slice_get, slice_get-get_or}
-use Rattle.std.proofs.Math.Seq.{set-append_seam}
+use Rattle.std.proofs.Common.{◌≡◌, ℕ, ◌+◌, ◌≤◌, List, [], ◌∷◌, ◌++◌, length, take, slice_get, Some, refl, sym, subst, ap, ◌∙◌, inl, inr, arith}
+use Rattle.std.proofs.lemmas.List.{take_more, take_more_set, take_all}
+use Rattle.std.proofs.lemmas.Option.{slice_get_within, get_or_from_slice_get}
 use Rattle.tree_nodes.specs.Changes.{AreChanges, changed}
-use Rattle.tree_nodes.proofs.Changes.{changed_last}
+use Rattle.tree_nodes.proofs.Changes.{length_changed}
 use Rattle.tree_nodes.proofs.Many.{more_places, wider}
-use Rattle.state_parts.specs.inside.Differences.{AreDifferences}
+use Rattle.shared_tree.proofs.ChunkChanges.{changed_push, untouched}
+use Rattle.state_parts.specs.inside.Differences.{AreDifferences, IsCompared}
 
-front_more : {A : Type 0} (xs rest : List A) (i : ℕ) (x : A) → slice_get xs i ≡ Some x → take (i + 1) xs ++ rest ≡ take i xs ++ x ∷ rest
-front_more xs rest i x is =
-    ap (λ (front : List _). front ++ rest) (take_more xs i x (slice_get_within xs i x is) ∙ ap (λ y. take i xs ++ y ∷ []) (get_or_from_slice_get xs i x x is)) ∙ append_assoc (take i xs) (x ∷ []) rest
+pub none_taken : {A : Type 0} (xs : List A) → take 0 xs ≡ []
+none_taken [] = refl
+none_taken (x ∷ xs) = refl
 
-length_front : {A : Type 0} (xs : List A) (i : ℕ) → i < length xs → length (take i xs) ≡ i
-length_front xs i h = omega (arith, length-take i xs)
+front_more : {A : Type 0} (xs : List A) (i : ℕ) (x : A) → slice_get xs i ≡ Some x → take (i + 1) xs ≡ take i xs ++ x ∷ []
+front_more xs i x is = take_more xs i x (slice_get_within xs i x is) ∙ ap (λ y. take i xs ++ y ∷ []) (get_or_from_slice_get xs i x x is)
 
-pub no_differences : {A : Type 0} (old new : List A) → AreDifferences old new 0 []
-unfolding changed
-no_differences old new = record { places = tt; made = λ rest. refl }
+module _ {A : Type 0} (old : List A) (i : ℕ) (before : List (ℕ × A)) (places : AreChanges 0 i before) where
+  -- no change at this place
+  kept_more : (x : A) → slice_get old i ≡ Some x → take (i + 1) (changed old before) ≡ take i (changed old before) ++ x ∷ []
+  kept_more x is = front_more (changed old before) i x (untouched old 0 i before places ∙ is)
 
--- the same item at this place
-pub same_item : {A : Type 0} (old new : List A) (i : ℕ) (changes : List (ℕ × A)) (x : A) → i < length new → x ≡ get_or new i x → slice_get old i ≡ Some x
-    → AreDifferences old new i changes → AreDifferences old new (i + 1) changes
-same_item old new i changes x h at is d =
-    let becomes = slice_get-get_or new i x h ∙ ap Some (sym at) in
-    record {
-      places = wider 0 i (i + 1) changes (omega arith) d.places;
-      made = λ rest. ap (λ (xs : List _). changed xs changes) (front_more old rest i x is) ∙ d.made (x ∷ rest) ∙ sym (front_more new rest i x becomes);
-    }
+  -- one change more
+  put_more : (x v : A) → slice_get old i ≡ Some x → take (i + 1) (changed old (before ++ (i, v) ∷ [])) ≡ take i (changed old before) ++ v ∷ []
+  put_more x v is =
+      let inside = slice_get_within old i x is in
+      ap (λ (xs : List A). take (i + 1) xs) (changed_push old 0 i before v places)
+      ∙ take_more_set (changed old before) i v (omega (arith, length_changed old before, inside))
 
--- another one
-put_at_place : {A : Type 0} (old new : List A) (i : ℕ) (changes : List (ℕ × A)) (x v : A) → slice_get old i ≡ Some x → slice_get new i ≡ Some v
-    → AreDifferences old new i changes → AreDifferences old new (i + 1) (changes ++ (i, v) ∷ [])
-put_at_place old new i changes x v is becomes d = record {
-  places = more_places 0 i changes v (omega arith) d.places;
-  made = λ rest.
-      let there = length_front old i (slice_get_within old i x is) in
-      changed_last (take (i + 1) old ++ rest) changes (i, v)
-      ∙ ap (λ (xs : List _). changed xs changes) (
-      ap (λ (xs : List _). slice_set xs i v) (front_more old rest i x is)
-      ∙ subst (λ n. slice_set (take i old ++ x ∷ rest) n v ≡ take i old ++ v ∷ rest) there (set-append_seam (take i old) x rest v)
-      )
-      ∙ d.made (v ∷ rest) ∙ sym (front_more new rest i v becomes);
-}
+  -- a value that was compared is the next one
+  pub compared_more : (after : List (ℕ × A)) (kept value : A) → slice_get old i ≡ Some kept → IsCompared kept value i before after
+      → AreChanges 0 (i + 1) after × (take (i + 1) (changed old after) ≡ take i (changed old before) ++ value ∷ [])
+  compared_more after kept value is compared = elim compared [
+    | inl same ↦
+        subst (λ (cs : List (ℕ × A)). AreChanges 0 (i + 1) cs × (take (i + 1) (changed old cs) ≡ take i (changed old before) ++ value ∷ [])) (sym same.1)
+        (wider 0 i (i + 1) before (omega arith) places, kept_more value (is ∙ ap (λ (x : A). Some x) same.0))
+    | inr other ↦
+        subst (λ (cs : List (ℕ × A)). AreChanges 0 (i + 1) cs × (take (i + 1) (changed old cs) ≡ take i (changed old before) ++ value ∷ [])) (sym other)
+        (more_places 0 i before value (omega arith) places, put_more kept value is)
+  ]
 
-pub another_item : {A : Type 0} (old new : List A) (i : ℕ) (changes : List (ℕ × A)) (v copy : A) → i < length old → i < length new → v ≡ get_or new i v → copy ≡ v
-    → AreDifferences old new i changes → AreDifferences old new (i + 1) (changes ++ (i, copy) ∷ [])
-another_item old new i changes v copy h k at same d =
-    subst (λ w. AreDifferences old new (i + 1) (changes ++ (i, w) ∷ [])) (sym same)
-    (put_at_place old new i changes (get_or old i v) v (slice_get-get_or old i v h) (slice_get-get_or new i v k ∙ ap Some (sym at)) d)
+module _ {A : Type 0} (old new : List A) where
+  pub no_differences : (i : ℕ) (changes : List (ℕ × A)) → i ≡ 0 → changes ≡ [] → AreDifferences old new i changes
+  no_differences i changes first none =
+      let begun : AreDifferences old new 0 [] = record { places = tt; made = none_taken (changed old []) ∙ sym (none_taken new) } in
+      subst (λ (k : ℕ). AreDifferences old new k changes) (sym first) (subst (AreDifferences old new 0) (sym none) begun)
 
--- at the end
-pub all_places : {A : Type 0} (old new : List A) (i : ℕ) (changes : List (ℕ × A)) → i ≤ length old → AreDifferences old new i changes → AreChanges 0 (length old) changes
-all_places old new i changes h d = wider 0 i (length old) changes h d.places
+  -- a place that was compared
+  pub place_compared : (i : ℕ) (before after : List (ℕ × A)) (kept value : A) → slice_get old i ≡ Some kept → slice_get new i ≡ Some value → IsCompared kept value i before after
+      → AreDifferences old new i before → AreDifferences old new (i + 1) after
+  place_compared i before after kept value is becomes compared d =
+      let more = compared_more old i before d.places after kept value is compared in
+      record {
+        places = more.0;
+        made = more.1 ∙ ap (λ (front : List A). front ++ value ∷ []) d.made ∙ sym (front_more new i value becomes);
+      }
 
-pub all_made : {A : Type 0} (old new : List A) (i : ℕ) (changes : List (ℕ × A)) → length old ≤ i → length new ≤ i → AreDifferences old new i changes → changed old changes ≡ new
-all_made old new i changes h k d =
-    ap (λ (xs : List _). changed xs changes) (sym (append-nil (take i old) ∙ take_all i old h)) ∙ d.made [] ∙ append-nil (take i new) ∙ take_all i new k
+  -- at the end
+  pub all_places : (i : ℕ) (changes : List (ℕ × A)) → i ≤ length old → AreDifferences old new i changes → AreChanges 0 (length old) changes
+  all_places i changes h d = wider 0 i (length old) changes h d.places
+
+  pub all_made : (i : ℕ) (changes : List (ℕ × A)) → length old ≤ i → length new ≤ i → AreDifferences old new i changes → changed old changes ≡ new
+  all_made i changes h k d = sym (take_all i (changed old changes) (omega (arith, length_changed old changes, h))) ∙ d.made ∙ take_all i new k

@@ -2,3 +2,4 @@ pub mod Regrouped
 pub mod PartsOfGroups
 pub mod Within
 pub mod Differing
+pub mod LeftOf

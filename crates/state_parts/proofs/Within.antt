@@ -1,7 +1,10 @@
 -- A list whose values are all within a codec's limits, and a change of it.
-use Rattle.std.proofs.Common.{◌≡◌, ℕ, zero, suc, ◌+◌, ◌<◌, ◌≤◌, List, [], ◌∷◌, ◌++◌, length, take, get_or, slice_get, slice_set, Some, sym, ap, ◌∙◌, subst}
+use Rattle.std.proofs.Common.{◌≡◌, ℕ, zero, suc, ◌+◌, ◌<◌, ◌≤◌, List, [], ◌∷◌, ◌++◌, length, take, get_or, slice_get, slice_set, Some, Result, Ok, Err, sym, ap, ◌∙◌, subst}
 use Rattle.std.specs.List.{AllByRecursion}
+use Rattle.bc_words.specs.Outcome.{Becomes}
+use Rattle.bc_words.specs.declared.stop.NoMemory.{NoMemory}
 use Rattle.shared_tree.specs.Lists.{Limited}
+use Rattle.tree_nodes.specs.Changes.{changed}
 use Rattle.std.proofs.lemmas.List.{take_more, take_all}
 use Rattle.std.proofs.lemmas.Option.{slice_get_within, get_or_from_slice_get}
 
@@ -13,6 +16,18 @@ pub all_set : {A : Type 0} (P : A → Type 0) (xs : List A) (i : ℕ) (x : A) �
 all_set P [] i x all is = all
 all_set P (y ∷ ys) zero x all is = (is, all.1)
 all_set P (y ∷ ys) (suc i) x all is = (all.0, all_set P ys i x all.1 is)
+
+-- the values of changes that are made
+all_changed : {A : Type 0} (P : A → Type 0) (xs : List A) (changes : List (ℕ × A)) → AllByRecursion P xs → AllByRecursion (λ (c : ℕ × A). P c.1) changes → AllByRecursion P (changed xs changes)
+unfolding changed
+all_changed P xs [] all are = all
+all_changed P xs (c ∷ cs) all are = all_set P (changed xs cs) c.0 c.1 (all_changed P xs cs all are.1) are.0
+
+-- a list that changes were made in, or that is as before
+pub all_become : {U A : Type 0} (P : A → Type 0) (result : Result U NoMemory) (old new : Limited A) (changes : List (ℕ × A)) → Becomes result old new (record old { items = changed old.items changes })
+    → AllByRecursion P old.items → AllByRecursion (λ (c : ℕ × A). P c.1) changes → AllByRecursion P new.items
+all_become P (Ok x) old new changes is all are = subst (λ (list : Limited _). AllByRecursion P list.items) (sym is) (all_changed P old.items changes all are)
+all_become P (Err stop) old new changes is all are = subst (λ (list : Limited _). AllByRecursion P list.items) (sym is) all
 
 pub all_none_taken : {A : Type 0} (P : A → Type 0) (xs : List A) → AllByRecursion P (take 0 xs)
 all_none_taken P [] = tt

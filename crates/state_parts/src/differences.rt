@@ -2,39 +2,28 @@
 //!
 //! New values come from who writes a whole list, and the changes go to the list's tree.
 
-ghost use Rattle.std.specs.Prelude.{◌≡◌, ◌+◌, ◌<◌, length, slice_get, Some, IfOk, OnOk, IsTrue};
+ghost use Rattle.std.specs.Prelude.{◌≡◌, length, IfOk, IfSome, OnOk};
 ghost use Rattle.tree_nodes.specs.Changes.{AreChanges, changed};
-ghost use Rattle.state_parts.specs.inside.Differences.{AreDifferences};
+ghost use Rattle.state_parts.specs.inside.Differences.{IsCompared};
 
 use crate::in_range::InRange;
 use bc_words::NoMemory;
-use shared_tree::SharedList;
+use shared_tree::{PackedList, SharedList};
 use std::alloc::Global;
 
-/// Whether the list has this value at a place.
-fn has<T: InRange>(list: &SharedList<T>, i: u64, value: &T) -> bool
-    ensures { IsTrue result → slice_get list.now.items i ≡ Some value.now }
-{
-    match list.get(i) {
-        Some(kept) => kept.same(value),
-        None => false,
-    }
-}
+/// Of so many numbers one may differ, and else they are no longer few: the tree of most of them is sooner built anew than changed.
+const FEW: usize = 8;
 
-/// Puts the value of a place among the changes, where the list has another one there.
+/// Puts a value among the changes, where another one is kept at its place.
 fn compare<T: InRange>(
-    list: &SharedList<T>,
-    values: &[T],
+    kept: &T,
+    value: &T,
     i: u64,
     changes: &mut Vec<(u64, T)>,
 ) -> Result<(), NoMemory>
-    requires len { length values.now ≡ length list.now.items }
-    requires place { i < length values.now }
-    requires before { AreDifferences list.now.items values.now i changes.old.items }
-    ensures { OnOk result (AreDifferences list.now.items values.now (i + 1) changes.new.items) }
+    ensures { OnOk result (IsCompared kept.now value.now i changes.old.items changes.new.items) }
 {
-    let value = &values[i as usize];
-    if has(list, i, value) {
+    if kept.same(value) {
         return Ok(());
     }
     let copy = value.copied()?;
@@ -42,8 +31,8 @@ fn compare<T: InRange>(
     Ok(())
 }
 
-/// The places at which the list has another value than these, of which there are as many, and that value.
-#[tactic(auto, using(crate::proofs::Differing::all_places))]
+/// The places at which the list has another value than these, of which there are as many, and that value. The list is walked.
+#[tactic(auto, using(crate::proofs::LeftOf::first_left))]
 pub(crate) fn differences<T: InRange>(
     alloc: Global,
     list: &SharedList<T>,
@@ -54,8 +43,49 @@ pub(crate) fn differences<T: InRange>(
     ensures made { IfOk result (λ changes. changed list.now.items changes.items ≡ values.now) }
 {
     let mut changes = Vec::new(alloc);
-    for i in 0..values.len() as u64 {
-        compare(list, values, i, &mut changes)?;
+    let kept_values = list.iter();
+    for (i, kept) in kept_values.enumerate() {
+        compare(kept, &values[i], i as u64, &mut changes)?;
     }
     Ok(changes)
+}
+
+/// Puts a number among the changes, where another one is kept at its place.
+fn compare_number(
+    kept: u64,
+    number: u64,
+    i: u64,
+    changes: &mut Vec<(u64, u64)>,
+) -> Result<(), NoMemory>
+    ensures { OnOk result (IsCompared kept number i changes.old.items changes.new.items) }
+{
+    if kept == number {
+        return Ok(());
+    }
+    changes.push((i, number))?;
+    Ok(())
+}
+
+/// The places at which the list has another number than these, of which there are as many, and that number; or None, where they are
+/// not few. The list is walked up to there.
+#[tactic(auto, using(crate::proofs::LeftOf::first_left))]
+pub(crate) fn few_differences(
+    alloc: Global,
+    list: &PackedList,
+    numbers: &[u64],
+) -> Result<Option<Vec<(u64, u64)>>, NoMemory>
+    requires { length numbers.now ≡ length list.now.items }
+    ensures places { IfOk result (λ few. IfSome few (λ changes. AreChanges 0 (length list.now.items) changes.items)) }
+    ensures made { IfOk result (λ few. IfSome few (λ changes. changed list.now.items changes.items ≡ numbers.now)) }
+{
+    let most = numbers.len() / FEW;
+    let mut changes = Vec::new(alloc);
+    let kept_numbers = list.iter();
+    for (i, kept) in kept_numbers.enumerate() {
+        compare_number(kept, numbers[i], i as u64, &mut changes)?;
+        if changes.len() > most {
+            return Ok(None);
+        }
+    }
+    Ok(Some(changes))
 }

@@ -2,12 +2,14 @@
 //!
 //! Numbers come from reading and from those who change the state, and go to getters, writing and roots.
 
-ghost use Rattle.std.specs.Prelude.{◌≡◌, ◌<◌, ◌≤◌, ◌^◌, length, slice_get, slice_set, IfOk, IsTrue};
+ghost use Rattle.std.specs.Prelude.{◌≡◌, ◌<◌, ◌≤◌, ◌^◌, length, slice_get, slice_set, IfOk};
 ghost use Rattle.std.specs.List.{AllByRecursion};
 ghost use Rattle.bc_words.specs.Outcome.{Pushes, Becomes, checked_push};
 ghost use Rattle.ssz_codec.specs.Basic.{uint64};
 ghost use Rattle.ssz_codec.specs.Lists.{vector_codec, list_codec};
+ghost use Rattle.tree_nodes.specs.Changes.{AreChanges, changed};
 
+use crate::differences::few_differences;
 use bc_words::{NoMemory, PushStop, Steps};
 use hash_tree::Root;
 use shared_tree::PackedList;
@@ -60,23 +62,37 @@ fn push_number<L: Ledger>(list: &mut PackedList, number: u64, blank: Blank) -> R
     list.push(number, &mut steps)
 }
 
-/// Whether the list has just these numbers.
-#[tactic(auto, using(crate::proofs::Within::same_more, crate::proofs::Within::all_same))]
-fn has_numbers(list: &PackedList, numbers: &[u64]) -> bool
-    ensures { IsTrue result → list.now.items ≡ numbers.now }
+/// Sets many numbers of a list, with a counter of its own.
+fn set_numbers<L: Ledger>(
+    list: &mut PackedList,
+    changes: Vec<(u64, u64)>,
+    blank: Blank,
+) -> Result<(), NoMemory>
+    requires name { blank.name ≡ L.name }
+    requires parts { blank.parts ≡ L.parts }
+    requires some { 0 < blank.parts }
+    requires places { AreChanges 0 (length list.old.items) changes.items }
+    ensures { Becomes result list.old list.new (record list.old { items = changed list.old.items changes.items }) }
 {
-    if list.len() != numbers.len() as u64 {
-        return false;
-    }
-    for i in 0..numbers.len() {
-        let Some(number) = list.get(i as u64) else {
-            return false;
-        };
-        if number != numbers[i] {
-            return false;
+    let mut steps = Steps::<L>::new(blank);
+    list.set_many(changes, &mut steps)
+}
+
+/// Makes a list of these numbers. Where there are as many as before and few differ, the nodes over those that are the same are
+/// kept, and else the tree is built anew.
+fn replace_numbers(list: &mut PackedList, numbers: Vec<u64>) -> Result<(), NoMemory>
+    requires { length numbers.items ≤ list.old.limit }
+    ensures { Becomes result list.old list.new (record list.old { items = numbers.items }) }
+{
+    if numbers.len() as u64 == list.len() {
+        let few = few_differences(*numbers.allocator(), list, &numbers)?;
+        if let Some(changes) = few {
+            return set_numbers::<Brand>(list, changes, Blank::new(1));
         }
     }
-    true
+    let limit = list.limit();
+    *list = PackedList::from_vec(numbers, limit)?;
+    Ok(())
 }
 
 impl Numbers {
@@ -131,18 +147,21 @@ impl Numbers {
         pushed
     }
 
-    /// Writes other numbers in the place of all of them. Where they are the same, no node is made anew. Where memory is
-    /// refused, they are as before.
+    /// Writes other numbers at many places. Only the paths to them are made anew. Where memory is refused, they are as before.
+    pub fn set_many(&mut self, changes: Vec<(u64, u64)>) -> Result<(), NoMemory>
+        requires { AreChanges 0 (length self.old.items) changes.items }
+        ensures { Becomes result self.old self.new (record self.old { items = changed self.old.items changes.items }) }
+    {
+        set_numbers::<Brand>(&mut self.list, changes, Blank::new(1))
+    }
+
+    /// Writes other numbers in the place of all of them. Where there are as many and few differ, only the paths to those are made
+    /// anew. Where memory is refused, they are as before.
     pub fn replace(&mut self, numbers: Vec<u64>) -> Result<(), NoMemory>
         requires { length numbers.items ≤ self.old.limit }
         ensures { Becomes result self.old self.new (record self.old { items = numbers.items }) }
     {
-        if has_numbers(&self.list, &numbers) {
-            return Ok(());
-        }
-        let limit = self.list.limit();
-        self.list = PackedList::from_vec(numbers, limit)?;
-        Ok(())
+        replace_numbers(&mut self.list, numbers)
     }
 
     /// The same numbers, in the same nodes.

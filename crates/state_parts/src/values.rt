@@ -165,6 +165,17 @@ impl<T: InRange> Values<T> {
         pushed
     }
 
+    /// Writes other values at many places. Only the paths to them are made anew. Where memory is refused, they are as before.
+    pub fn set_many(&mut self, changes: Vec<(u64, T)>) -> Result<(), NoMemory>
+        requires { AreChanges 0 (length self.old.items) changes.items }
+        ensures { Becomes result self.old self.new (record self.old { items = changed self.old.items changes.items }) }
+    {
+        for change in &changes {
+            change.1.in_range();
+        }
+        set_items::<T, Brand>(&mut self.list, changes, Blank::new(1))
+    }
+
     /// Writes other values in the place of all of them. Where there are as many, only the paths to those that differ are made
     /// anew. Where memory is refused, they are as before.
     pub fn replace(&mut self, values: Vec<T>) -> Result<(), NoMemory>

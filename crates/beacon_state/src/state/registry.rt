@@ -2,6 +2,7 @@
 
 ghost use Rattle.std.specs.Prelude.{◌≡◌, ◌<◌, ◌≤◌, length, slice_set};
 ghost use Rattle.bc_words.specs.Outcome.{Pushes, Becomes, checked_push};
+ghost use Rattle.tree_nodes.specs.Changes.{AreChanges, changed};
 ghost use Rattle.active_sets.specs.inside.Kept.{AreActiveIn};
 
 use active_sets::ActiveLists;
@@ -24,6 +25,22 @@ pub(crate) fn set(
 {
     lists.follow_set(validators.list(), i, &validator);
     validators.set(i, validator)
+}
+
+/// Writes other validators at many places. Where memory is refused, the registry is as before.
+#[tactic(auto, using(crate::proofs::Followed::active_made))]
+pub(crate) fn set_many(
+    validators: &mut Values<Validator>,
+    lists: &mut ActiveLists,
+    changes: Vec<(u64, Validator)>,
+) -> Result<(), NoMemory>
+    requires places { AreChanges 0 (length validators.old.items) changes.items }
+    requires active { AreActiveIn validators.old.items lists.old }
+    ensures set { Becomes result validators.old validators.new (record validators.old { items = changed validators.old.items changes.items }) }
+    ensures active { AreActiveIn validators.new.items lists.new }
+{
+    lists.follow_many(validators.list(), &changes);
+    validators.set_many(changes)
 }
 
 /// Appends one more validator. On an error the registry is as before.

@@ -1,4 +1,4 @@
-//! What is of a whole list or of the whole state: all values of a list written at once, the roots of the vectors of roots, and the
+//! What is of a whole list or of the whole state: all values of a list written at once or many of them, the roots of the vectors of roots, and the
 //! state's root where it is kept.
 
 ghost use Rattle.std.specs.Prelude.{◌≡◌, ◌≤◌, length};
@@ -7,8 +7,9 @@ ghost use Rattle.bc_words.specs.Outcome.{Becomes};
 ghost use Rattle.ssz_codec.specs.Basic.{bytes32};
 ghost use Rattle.ssz_codec.specs.Lists.{vector_codec};
 ghost use Rattle.spec_state.specs.States.{state_codec};
+ghost use Rattle.tree_nodes.specs.Changes.{AreChanges, changed};
 
-use super::State;
+use super::{State, registry};
 use active_sets::ActiveLists;
 use bc_words::NoMemory;
 use beacon_types::Validator;
@@ -23,6 +24,15 @@ impl State {
         self.kept_root = None;
         self.active_lists = ActiveLists::none();
         self.validators.replace(validators)
+    }
+
+    /// Writes other validators at many places. Where memory is refused, the state is as before.
+    pub fn set_many_validators(&mut self, changes: Vec<(u64, Validator)>) -> Result<(), NoMemory>
+        requires { AreChanges 0 (length self.old.validators) changes.items }
+        ensures { Becomes result self.old self.new (record self.old { validators = changed self.old.validators changes.items }) }
+    {
+        self.kept_root = None;
+        registry::set_many(&mut self.validators, &mut self.active_lists, changes)
     }
 
     /// Writes all balances, in Gwei. Where memory is refused, the state is as before.

@@ -21,13 +21,21 @@ variables j v =
 unfoldable pub padding_block : List ℕ
 padding_block = padding 64
 
--- the block that a seed, a round and a page's number fill with their padding
-unfoldable pub source_block : List ℕ → ℕ → ℕ → List ℕ
-source_block seed round page = (seed ++ round ∷ to_le_bytes w32 page) ++ padding 37
+-- what stands behind a seed in the block that a seed, a round and a page's number fill with their padding
+unfoldable pub source_tail : ℕ → ℕ → List ℕ
+source_tail round page = (round ∷ to_le_bytes w32 page) ++ padding 37
 
--- the variables behind the first eight rounds of any source of a seed
+-- that block
+abbrev pub source_block : List ℕ → ℕ → ℕ → List ℕ
+source_block seed round page = seed ++ source_tail round page
+
+-- what stands behind a seed in the block that a seed and a round fill with their padding
+unfoldable pub round_tail : ℕ → List ℕ
+round_tail round = (round ∷ []) ++ padding 33
+
+-- the variables behind the first eight rounds of any block that begins with a seed
 abbrev pub Begun : List ℕ → List ℕ → Type 0
-Begun seed v = (round page : ℕ) → v ≡ rounds initial_hash_256 (schedule (source_block seed round page) 48) 8
+Begun seed v = (tail : List ℕ) → v ≡ rounds initial_hash_256 (schedule (seed ++ tail) 48) 8
 
 -- the words before place 23 of the schedule of any source of a seed whose page is below 2 ^ 24, but for the one that holds the
 -- round and the page

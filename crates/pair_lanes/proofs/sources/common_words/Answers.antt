@@ -3,5 +3,5 @@ use Rattle.std.proofs.lemmas.Simd.{get_or-replicate}
 use Rattle.pair_lanes.proofs.sources.common_words.Goals as goal
 
 pub returns : goal.returns
-returns c round page j near less =
-    get_or-replicate 8 j _ 0 less ∙ c.requires.common round page c.args.place near c.requires.place c.requires.no_round
+returns c j round page seed less near common =
+    get_or-replicate 8 j _ 0 less ∙ common round page c.args.place near c.requires.place c.requires.no_round

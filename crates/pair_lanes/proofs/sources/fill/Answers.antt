@@ -1,8 +1,6 @@
-use Rattle.std.proofs.Common.{◌+◌, arith}
-use Rattle.pair_lanes.specs.inside.Lanes.{source_block}
+use Rattle.std.proofs.Common.{◌++◌, arith}
 use Rattle.pair_lanes.proofs.sources.fill.Goals as goal
 
 pub returns : goal.returns
-returns c j k less below =
-    c.expand.ensures j (source_block c.args.seed.now c.args.round (c.args.first + j)) less
-    (λ i before. c.load.invariant.so_far j i less (omega arith)) k below
+returns c j tail less tails =
+    c.expand.ensures j (c.args.seed.now ++ tail) less (λ k before. c.load.invariant.so_far j tail less tails k (omega arith))

@@ -1,11 +1,11 @@
--- The words written so far are those of each page's message.
-use Rattle.std.proofs.Common.{◌≡◌, ℕ, ◌+◌, ◌*◌, ◌<◌, length}
+-- The words written so far are those of each block.
+use Rattle.std.proofs.Common.{◌≡◌, ℕ, ◌*◌, ◌<◌, List, ◌++◌, length}
 use Rattle.sha2.specs.Sha256.{word_at}
-use Rattle.pair_lanes.specs.inside.Lanes.{lane_at, source_block}
+use Rattle.pair_lanes.specs.inside.Lanes.{lane_at}
 use Rattle.pair_lanes.proofs.sources.fill.Given as goal
 
 abbrev pub invariant-load : goal.invariant-load
 invariant-load l = record {
   room : length l.w ≡ 64;
-  so_far : (j k : ℕ) → j < 8 → k < l.k → lane_at l.w k j ≡ word_at (source_block l.seed l.round (l.first + j)) (4 * k);
+  so_far : (j : ℕ) (tail : List ℕ) → j < 8 → ((i : ℕ) → i < 8 → lane_at l.tails i j ≡ word_at tail (4 * i)) → (k : ℕ) → k < l.k → lane_at l.w k j ≡ word_at (l.seed ++ tail) (4 * k);
 }

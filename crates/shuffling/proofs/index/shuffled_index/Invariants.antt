@@ -1,6 +1,14 @@
-use Rattle.std.proofs.Common.{◌≡◌, ◌<◌}
+use Rattle.std.proofs.Common.{◌≡◌, ◌-◌, ◌%◌, ◌<◌, ◌≤◌}
 use Rattle.shuffling.specs.Shuffling.{compute_shuffled_index}
 use Rattle.shuffling.proofs.index.shuffled_index.Given as goal
 
 abbrev pub invariant-loop-round : goal.invariant-loop-round
-invariant-loop-round l = (l.place ≡ compute_shuffled_index l.round l.index l.count l.seed) × (l.place < l.count)
+invariant-loop-round l = record {
+  fits : l.round ≤ l.rounds;
+  eights : l.round < l.rounds → l.round % 8 ≡ 0;
+  place : l.place ≡ compute_shuffled_index l.round l.index l.count l.seed;
+  below : l.place < l.count;
+}
+
+abbrev pub decreases-loop-round : goal.decreases-loop-round
+decreases-loop-round l = l.rounds - l.round

@@ -1,5 +1,10 @@
+use Rattle.std.proofs.Common.{◌≡◌, ◌≤◌, length, drop}
 use Rattle.state_parts.specs.inside.Differences.{AreDifferences}
 use Rattle.state_parts.proofs.differences.differences.Given as goal
 
 abbrev pub invariant-loop-i : goal.invariant-loop-i
-invariant-loop-i g l = AreDifferences l.list.items l.values l.i l.changes.items
+invariant-loop-i g l = record {
+  at : l.i-iterator.iter ≡ drop l.i-iterator.count l.list.items;
+  within : l.i-iterator.count ≤ length l.list.items;
+  made : AreDifferences l.list.items l.values l.i-iterator.count l.changes.items;
+}

@@ -1,7 +1,7 @@
--- What eight lanes have behind the first rounds is what each source of the seed has there.
+-- What eight lanes have behind the first rounds is what each block of the seed has there.
 use Rattle.std.proofs.Common.{◌≢◌, ℕ, ◌+◌, ◌^◌, ◌<◌, List, ap, ap₂, ◌∙◌, arith}
 use Rattle.sha2.specs.Sha256.{add32, initial_hash_256, rounds, schedule, small_sigma0}
-use Rattle.pair_lanes.specs.inside.Lanes.{source_block}
+use Rattle.pair_lanes.specs.inside.Lanes.{source_block, source_tail}
 use Rattle.pair_lanes.proofs.SourceBlocks.{begun_alike, common_alike}
 use Rattle.pair_lanes.proofs.sources.Seed.new.Goals as goal
 
@@ -9,13 +9,14 @@ pub invariant_of-result : goal.invariant_of-result
 invariant_of-result c =
     let seed = c.args.bytes.now in
     let less : 0 < 8 = omega arith in
+    let filled = c.fill.ensures 0 (source_tail 0 0) less (λ i low. c.source_tails.ensures i low 0 less) in
     let same = λ (round page k : ℕ) (near : page < 2 ^ 24) (below : k < 23) (other : k ≢ 8).
-    c.fill.ensures 0 k less (omega arith) ∙ common_alike seed 0 0 round page c.told-bytes (omega arith) near k below other in (
-      λ round page.
+    filled k (omega arith) ∙ common_alike seed 0 0 round page c.told-bytes (omega arith) near k below other in (
+      λ tail.
           c.turned-begun.ensures
-          ∙ c.eight_steps.ensures 0 (source_block seed 0 0) less (λ k below. c.fill.ensures 0 k less below)
+          ∙ c.eight_steps.ensures 0 (source_block seed 0 0) less filled
           ∙ ap (λ (h : List ℕ). rounds h (schedule (source_block seed 0 0) 48) 8) (c.initial.ensures 0 less)
-          ∙ begun_alike seed initial_hash_256 0 0 round page c.told-bytes,
+          ∙ begun_alike seed (source_tail 0 0) tail initial_hash_256 c.told-bytes,
       (
         λ round page k near below other.
             c.first_words-common.ensures k below ∙ same round page k near below other,

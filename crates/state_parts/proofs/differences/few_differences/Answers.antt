@@ -1,0 +1,34 @@
+-- One number more was compared, or all of them were.
+use Rattle.std.proofs.Common.{◌≡◌, ◌∷◌, ◌+◌, ◌<◌, length, drop, slice_get, arith, sym, subst, ap, ◌∙◌}
+use Rattle.std.proofs.lemmas.Option.{slice_get_within, slice_get-get_or}
+use Rattle.state_parts.specs.inside.Differences.{AreDifferences}
+use Rattle.state_parts.proofs.Differing.{place_compared, all_made}
+use Rattle.state_parts.proofs.LeftOf.{first_left, others_left, nothing_left}
+use Rattle.state_parts.proofs.differences.few_differences.Goals as goal
+
+pub loop-i-preserved : goal.loop-i-preserved
+loop-i-preserved c =
+    let old = c.args.list.now.items in
+    let new = c.args.numbers.now in
+    let n = c.loop-i.i-iterator.count in
+    let x = c.in-Some.kept in
+    let left = c.next.new.self.iter in
+    let step = c.in-Some.ensures.steps in
+    let here : x ∷ left ≡ drop n old = sym step.0 ∙ c.loop-i.invariant.at in
+    let first = first_left old n x left here in
+    let inside = slice_get_within old n x first in
+    let less : c.in-Some.i < length new = omega (arith, inside, step.1, c.requires) in
+    let becomes = slice_get-get_or new c.in-Some.i 0 less in
+    let before = subst (λ k. AreDifferences old new k c.loop-i.changes.items) (sym step.1) c.loop-i.invariant.made in
+    let compared = place_compared old new c.in-Some.i c.loop-i.changes.items c.compare_number.new.changes.items x _ (ap (slice_get old) step.1 ∙ first) becomes c.in_ok-compare_number.ensures before in
+    record {
+      at = others_left old n x left here ∙ ap (λ k. drop k old) (sym step.2);
+      within = omega (arith, inside, step.2);
+      made = subst (λ k. AreDifferences old new k c.compare_number.new.changes.items) (ap (λ k. k + 1) step.1 ∙ sym step.2) compared;
+    }
+
+pub returns-clause-made : goal.returns-clause-made
+returns-clause-made c =
+    let old = c.args.list.now.items in
+    let over = nothing_left old c.loop-i.i-iterator.count (sym c.in-None.ensures.steps.0.0 ∙ c.loop-i.invariant.at) in
+    all_made old c.args.numbers.now c.loop-i.i-iterator.count c.loop-i.changes.items over (omega (arith, over, c.requires)) c.loop-i.invariant.made
