@@ -4,7 +4,6 @@ ghost use Rattle.std.specs.Prelude.{◌≡◌, ◌≤◌, ◌*◌, ◌^◌, leng
 ghost use Rattle.bc_words.specs.Outcome.{Changes};
 ghost use Rattle.spec_state.specs.States.{votes_limit};
 ghost use Rattle.spec_blocks.specs.ProcessEth1Data.{same_eth1_data, count_votes, process_eth1_data};
-ghost use Rattle.block_head.specs.inside.Votes.{is_for};
 
 use bc_words::Stop;
 use beacon_body::BeaconBlockBody;
@@ -20,16 +19,6 @@ fn same_eth1_data(a: &Eth1Data, b: &Eth1Data) -> bool
         && a.block_hash == b.block_hash
 }
 
-/// Whether the vote at a place is for the data. One that isn't there is for none.
-fn is_for(state: &State, i: u64, eth1_data: &Eth1Data) -> bool
-    ensures { result ≡ is_for eth1_data.now state.now.eth1_data_votes i }
-{
-    match state.eth1_data_votes_at(i) {
-        Some(vote) => same_eth1_data(vote, eth1_data),
-        None => false,
-    }
-}
-
 /// How many of the votes are for the data.
 #[tactic(auto, using(crate::proofs::Votes::counting))]
 fn count_votes(state: &State, eth1_data: &Eth1Data) -> u64
@@ -37,11 +26,10 @@ fn count_votes(state: &State, eth1_data: &Eth1Data) -> u64
     ensures few { result ≤ length state.now.eth1_data_votes }
 {
     let mut count = 0;
-    for i in 0..state.eth1_data_votes_len() {
-        if !is_for(state, i, eth1_data) {
-            continue;
+    for vote in state.eth1_data_vote_list().iter() {
+        if same_eth1_data(vote, eth1_data) {
+            count += 1;
         }
-        count += 1;
     }
     count
 }
@@ -57,12 +45,15 @@ fn votes_limit(state: &State) -> u64
     preset.epochs_per_eth1_voting_period * preset.slots_per_epoch
 }
 
-/// Whether more than half of a period's votes are for the data.
+/// Whether more than half of a period's votes are for the data. They are not where there are no more than half of them yet.
+#[tactic(auto, using(crate::proofs::Votes::votes_few))]
 fn has_won(state: &State, eth1_data: &Eth1Data) -> bool
     ensures { result ≡ nat_lt (votes_limit state.now.preset) (count_votes state.now.eth1_data_votes eth1_data.now * 2) }
 {
     let limit = votes_limit(state);
-    let _votes = state.eth1_data_votes_len();
+    if state.eth1_data_votes_len() * 2 <= limit {
+        return false;
+    }
     limit < count_votes(state, eth1_data) * 2
 }
 

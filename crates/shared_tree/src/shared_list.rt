@@ -3,7 +3,7 @@
 //! Items come from the state above. The tree of their roots is kept with them, so that the root of the list is there without
 //! work, and a change costs one path.
 
-ghost use Rattle.std.specs.Prelude.{◌≡◌, ◌+◌, ◌*◌, ◌<◌, ◌≤◌, ◌^◌, [], ◌∷◌, length, map, slice_get, slice_set, IfOk, OnOk};
+ghost use Rattle.std.specs.Prelude.{◌≡◌, ◌+◌, ◌*◌, ◌<◌, ◌≤◌, ◌^◌, [], ◌∷◌, length, map, replicate, slice_get, slice_set, IfOk, OnOk};
 ghost use Rattle.std.specs.Option.{option_map};
 ghost use Rattle.bc_words.specs.Outcome.{Pushes, Becomes, checked_push};
 ghost use Rattle.hash_tree.specs.Merkle.{merkleize, mix_in_length as mixed_in, depth_of as depth_for};
@@ -11,6 +11,7 @@ ghost use Rattle.tree_nodes.specs.Changes.{AreChanges, changed};
 
 use bc_words::{NoMemory, PushStop, Steps};
 use hash_tree::{Leaf, Root, depth_of, mix_in_length};
+use std::alloc::Global;
 use std::marker::Model;
 use std::sync::ledger::Ledger;
 use tree_nodes::{Iter, Tree, mix_step};
@@ -43,6 +44,17 @@ impl<T: Leaf + Drop> SharedList<T> {
         ensures { IfOk result (λ list. list ≡ record { limit = limit; items = items.items }) }
     {
         let tree = Tree::of(items, depth_of(limit))?;
+        let root = mix_in_length(&tree.top(), tree.len());
+        Ok(SharedList { tree, limit, root })
+    }
+
+    /// The list that is full of one item. Each level of its tree has one node.
+    pub fn full_of(item: T, limit: u64, alloc: Global) -> Result<SharedList<T>, NoMemory>
+        requires low { limit ≤ 2 ^ 40 }
+        requires whole { 2 ^ depth_for limit ≡ limit }
+        ensures { IfOk result (λ list. list ≡ record { limit = limit; items = replicate limit item }) }
+    {
+        let tree = Tree::repeated(item, depth_of(limit), alloc)?;
         let root = mix_in_length(&tree.top(), tree.len());
         Ok(SharedList { tree, limit, root })
     }

@@ -12,6 +12,7 @@ mod parts;
 mod reading;
 mod results;
 mod rooted;
+mod uniform;
 mod values;
 
 pub use building::{lists_built, pending_built, registry_built, vectors_built};

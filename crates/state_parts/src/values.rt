@@ -11,6 +11,7 @@ ghost use Rattle.ssz_codec.specs.Lists.{vector_codec, fixed_size_list, variable_
 ghost use Rattle.tree_nodes.specs.Changes.{AreChanges, changed};
 
 use crate::differences::differences;
+use crate::uniform::full_of_one;
 use crate::in_range::InRange;
 use bc_words::{NoMemory, PushStop, Steps};
 use hash_tree::{Leaf, Root};
@@ -106,8 +107,25 @@ fn replace_items<T: InRange>(
     Ok(())
 }
 
+/// The list of values that were read. Where it is full of one value, as the vectors of roots of a genesis are, the nodes of a level are one.
+fn list_of<T: InRange>(
+    values: Vec<T>,
+    limit: u64,
+    alloc: Global,
+) -> Result<SharedList<T>, NoMemory>
+    requires low { limit ≤ 2 ^ 40 }
+    requires fits { length values.items ≤ limit }
+    ensures { IfOk result (λ list. list ≡ record { limit = limit; items = values.items }) }
+{
+    if let Some(value) = full_of_one(&values, limit) {
+        let copy = value.copied()?;
+        return SharedList::full_of(copy, limit, alloc);
+    }
+    SharedList::from_vec(values, limit)
+}
+
 impl<T: InRange> Values<T> {
-    /// The values that were read, of which there may be so many. Each inner node of their tree is hashed once.
+    /// The values that were read, of which there may be so many. Each inner node of their tree is hashed once at most.
     pub fn from_items(items: Items<T>, limit: u64) -> Result<Values<T>, NoMemory>
         requires within { AllByRecursion T.Ssz.codec.Within items }
         requires low { limit ≤ 2 ^ 40 }
@@ -116,7 +134,7 @@ impl<T: InRange> Values<T> {
     {
         let values = items.into_vec();
         let alloc = *values.allocator();
-        let list = SharedList::from_vec(values, limit)?;
+        let list = list_of(values, limit, alloc)?;
         Ok(Values { list, alloc })
     }
 

@@ -8,3 +8,4 @@ pub mod Climbs
 pub mod Every
 pub mod Plans
 pub mod NewLeaves
+pub mod Doubled

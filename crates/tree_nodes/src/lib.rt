@@ -11,6 +11,7 @@ mod new_leaves;
 mod node;
 mod plan;
 mod put;
+mod repeated;
 mod several;
 mod taking;
 mod tree;

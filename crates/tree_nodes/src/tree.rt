@@ -4,19 +4,20 @@
 //! smallest tree that has room for the items, so that an item is found by few steps; the root of the whole tree, whose
 //! depth is that of the list's limit, is kept beside it.
 
-ghost use Rattle.std.specs.Prelude.{◌≡◌, ◌+◌, ◌*◌, ◌<◌, ◌≤◌, ◌^◌, [], ◌∷◌, length, map, slice_get, IfOk, OnOk};
+ghost use Rattle.std.specs.Prelude.{◌≡◌, ◌+◌, ◌*◌, ◌<◌, ◌≤◌, ◌^◌, [], ◌∷◌, length, map, replicate, slice_get, IfOk, OnOk};
 ghost use Rattle.std.specs.Option.{option_map};
 ghost use Rattle.bc_words.specs.Outcome.{Becomes};
 ghost use Rattle.hash_tree.specs.Merkle.{merkle_root};
 ghost use Rattle.tree_nodes.specs.Changes.{AreChanges, changed};
 ghost use Rattle.tree_nodes.specs.inside.Puts.{put_at};
 
-use crate::build::depth_over;
+use crate::build::{depth_over, leaves_of};
 use crate::find::find;
 use crate::iter::Iter;
 use crate::layers::{build, layered};
 use crate::node::Node;
 use crate::put::{depth_with, put_all, put_or_grow};
+use crate::repeated::repeat_item;
 use crate::work::{lift, lift_steps};
 use bc_words::{NoMemory, Steps};
 use hash_tree::{Leaf, Root};
@@ -78,6 +79,23 @@ impl<T: Leaf + Drop> Tree<T> {
             low,
             depth,
             len,
+            top,
+            alloc,
+        })
+    }
+
+    /// The tree of this depth in which each leaf is the item. A level has one node.
+    pub fn repeated(item: T, depth: u32, alloc: Global) -> Result<Tree<T>, NoMemory>
+        requires { depth ≤ 40 }
+        ensures { IfOk result (λ tree. tree ≡ (depth, replicate (2 ^ depth) item)) }
+    {
+        let node = repeat_item(item, depth, alloc)?;
+        let top = node.root();
+        Ok(Tree {
+            node,
+            low: depth,
+            depth,
+            len: leaves_of(depth),
             top,
             alloc,
         })

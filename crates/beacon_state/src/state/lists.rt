@@ -124,6 +124,14 @@ impl State {
         self.balances.list()
     }
 
+    /// The votes of the period for the data of the deposit contract. Their root is kept.
+    pub fn eth1_data_vote_list(&self) -> &SharedList<Eth1Data>
+        ensures items { result.now.items ≡ self.now.eth1_data_votes }
+        ensures limit { result.now.limit ≡ votes_limit self.now.preset }
+    {
+        self.eth1_data_votes.list()
+    }
+
     /// The law that a state is within the limits of its preset, and so is each value. It does nothing when it runs.
     pub fn in_range(&self)
         ensures state { IsState self.now }
