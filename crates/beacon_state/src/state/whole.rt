@@ -27,6 +27,7 @@ impl State {
     }
 
     /// Writes other validators at many places. Where memory is refused, the state is as before.
+    #[tactic(auto, using(tree_nodes::proofs::Changes::length_changed))]
     pub fn set_many_validators(&mut self, changes: Vec<(u64, Validator)>) -> Result<(), NoMemory>
         requires { AreChanges 0 (length self.old.validators) changes.items }
         ensures { Becomes result self.old self.new (record self.old { validators = changed self.old.validators changes.items }) }
