@@ -1,2 +1,3 @@
 pub mod MadeLeft
+pub mod Unpaid
 pub mod Updating

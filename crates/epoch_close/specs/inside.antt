@@ -1,1 +1,2 @@
+pub mod Penalties
 pub mod Updates

@@ -5,6 +5,7 @@ ghost use Rattle.bc_words.specs.Outcome.{Changes, GivesBy, GivesExactly, checked
 ghost use Rattle.spec_state.specs.Accessors.{get_current_epoch};
 ghost use Rattle.spec_epochs.specs.Each.{checked_map, validator_indices};
 ghost use Rattle.spec_epochs.specs.ProcessSlashings.{process_slashings, penalized_balance};
+ghost use Rattle.epoch_close.specs.inside.Penalties.{penalized};
 
 use crate::balances::next_balance;
 use balance_totals::{current_epoch, total_active};
@@ -101,9 +102,23 @@ fn penalized_balances(alloc: Global, state: &State, slashed: &Slashed) -> Result
     Ok(all)
 }
 
+/// Takes their penalties from the balances. Where nothing was slashed lately nobody pays, and none is looked at.
+#[tactic(auto, unfolding(crate::specs::inside::Penalties::penalized), using(crate::proofs::Unpaid::nothing_taken))]
+fn penalize(alloc: Global, state: &mut State, slashed: &Slashed) -> Result<(), Stop>
+    requires { 1 ≤ slashed.now.total }
+    ensures { Changes result state.old state.new (penalized state.old slashed.now.adjusted slashed.now.total) }
+{
+    if slashed.adjusted == 0 && state.validators_len() == state.balances_len() {
+        return Ok(());
+    }
+    let balances = penalized_balances(alloc, state, slashed)?;
+    state.set_balances(balances)?;
+    Ok(())
+}
+
 /// Takes from each slashed validator that is half way to its withdrawal its part of what was slashed lately
 /// (beacon-chain.md, `process_slashings`). Refused as an overflow exactly where a sum or product does not fit.
-#[tactic(auto, unfolding(spec_epochs::specs::ProcessSlashings::process_slashings), using(bc_preset::proofs::Bounds::preset_bounds, spec_epochs::proofs::Totals::least_total))]
+#[tactic(auto, unfolding(spec_epochs::specs::ProcessSlashings::process_slashings, crate::specs::inside::Penalties::penalized), using(bc_preset::proofs::Bounds::preset_bounds, spec_epochs::proofs::Totals::least_total))]
 pub fn process_slashings(alloc: Global, state: &mut State) -> Result<(), Stop>
     ensures { Changes result state.old state.new (process_slashings state.old) }
 {
@@ -111,7 +126,5 @@ pub fn process_slashings(alloc: Global, state: &mut State) -> Result<(), Stop>
     let slashed = slashed_lately(state)?;
     let multiplied = checked_mul(slashed, state.preset().proportional_slashing_multiplier)?;
     let adjusted = multiplied.min(total);
-    let balances = penalized_balances(alloc, state, &Slashed { adjusted, total })?;
-    state.set_balances(balances)?;
-    Ok(())
+    penalize(alloc, state, &Slashed { adjusted, total })
 }
