@@ -37,7 +37,13 @@ pub(crate) fn full_of_one<T: InRange>(values: &[T], limit: u64) -> Option<&T>
         return None;
     }
     match values.first() {
-        Some(first) => { if are_same(first, values) { Some(first) } else { None } }
+        Some(first) => {
+            if are_same(first, values) {
+                Some(first)
+            } else {
+                None
+            }
+        }
         None => None,
     }
 }

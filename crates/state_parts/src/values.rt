@@ -11,8 +11,8 @@ ghost use Rattle.ssz_codec.specs.Lists.{vector_codec, fixed_size_list, variable_
 ghost use Rattle.tree_nodes.specs.Changes.{AreChanges, changed};
 
 use crate::differences::differences;
-use crate::uniform::full_of_one;
 use crate::in_range::InRange;
+use crate::uniform::full_of_one;
 use bc_words::{NoMemory, PushStop, Steps};
 use hash_tree::{Leaf, Root};
 use shared_tree::SharedList;
@@ -108,11 +108,7 @@ fn replace_items<T: InRange>(
 }
 
 /// The list of values that were read. Where it is full of one value, as the vectors of roots of a genesis are, the nodes of a level are one.
-fn list_of<T: InRange>(
-    values: Vec<T>,
-    limit: u64,
-    alloc: Global,
-) -> Result<SharedList<T>, NoMemory>
+fn list_of<T: InRange>(values: Vec<T>, limit: u64, alloc: Global) -> Result<SharedList<T>, NoMemory>
     requires low { limit ≤ 2 ^ 40 }
     requires fits { length values.items ≤ limit }
     ensures { IfOk result (λ list. list ≡ record { limit = limit; items = values.items }) }

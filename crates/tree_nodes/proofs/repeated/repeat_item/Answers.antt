@@ -1,5 +1,5 @@
 -- A level more has twice as many leaves.
-use Rattle.std.proofs.Common.{◌≡◌, ◌+◌, ◌≤◌, arith}
+use Rattle.std.proofs.Common.{arith}
 use Rattle.tree_nodes.proofs.Doubled.{doubled}
 use Rattle.tree_nodes.proofs.repeated.repeat_item.Goals as goal
 
