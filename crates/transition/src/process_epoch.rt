@@ -111,22 +111,25 @@ fn close(alloc: Global, state: &mut State) -> Result<(), Stop>
     reset(state)
 }
 
-/// The parts of an epoch's end, one after another, on a sound state of which these tables are.
+/// The parts of an epoch's end, one after another, on a sound state of which these tables are. Each is given up where it was needed
+/// last, since it takes more than the balances.
 #[tactic(auto, using(crate::proofs::Epochs::justified_statuses), unfolding(spec_epochs::specs::ProcessEpoch::process_epoch, crate::specs::inside::Epochs::closing_parts, crate::specs::inside::Epochs::resets))]
 fn take_parts(
     alloc: Global,
     state: &mut State,
     config: &Config,
-    previous: &[Status],
-    current: &[Status],
+    previous: Vec<Status>,
+    current: Vec<Status>,
 ) -> Result<(), Stop>
     requires sound { IsSound state.old }
-    requires previous { previous.now ≡ statuses_of state.old (get_previous_epoch state.old) }
-    requires current { current.now ≡ statuses_of state.old (get_current_epoch state.old) }
+    requires previous { previous.items ≡ statuses_of state.old (get_previous_epoch state.old) }
+    requires current { current.items ≡ statuses_of state.old (get_current_epoch state.old) }
     ensures { Moves result state.new (process_epoch state.old config.now) }
 {
-    process_justification(state, previous, current)?;
-    process_rewards(alloc, state, previous)?;
+    process_justification(state, &previous, &current)?;
+    drop(current);
+    process_rewards(alloc, state, &previous)?;
+    drop(previous);
     process_registry(alloc, state, config)?;
     close(alloc, state)
 }
@@ -141,5 +144,5 @@ pub fn process_epoch(alloc: Global, state: &mut State, config: &Config) -> Resul
     ensures { Moves result state.new (process_epoch state.old config.now) }
 {
     let (previous, current) = tables(alloc, state)?;
-    take_parts(alloc, state, config, &previous, &current)
+    take_parts(alloc, state, config, previous, current)
 }
