@@ -2,7 +2,5 @@
 #![tactic(auto)]
 
 mod explanation;
-#[cfg(test)]
-mod tests;
 
 pub use explanation::{Cause, Explanation};
