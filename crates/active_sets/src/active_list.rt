@@ -92,6 +92,23 @@ impl ActiveList {
     }
 }
 
+impl ActiveList {
+    /// The same list, which shares the indices of another one where they are equal, as those of one epoch and the next mostly are.
+    pub(crate) fn beside(self, other: &ActiveList) -> Result<ActiveList, NoMemory>
+        ensures { IfOk result (λ list. list ≡ self) }
+    {
+        if self.indices() != other.indices() {
+            return Ok(self);
+        }
+        let indices = other.indices.clone()?;
+        Ok(ActiveList {
+            epoch: self.epoch,
+            indices,
+            balance: self.balance,
+        })
+    }
+}
+
 /// Whether a validator is active at an epoch exactly where the one is whose place it takes.
 fn is_active_alike(before: &Validator, after: &Validator, epoch: u64) -> bool
     ensures { IsTrue result → is_active_validator before.now epoch ≡ is_active_validator after.now epoch }

@@ -138,13 +138,23 @@ impl ActiveLists {
         note(&mut self.earlier, validators, epoch, balance);
     }
 
-    /// Keeps a list in the place of the one that is kept longest.
-    pub fn keep(&mut self, validators: &SharedList<Validator>, list: ActiveList)
+    /// Keeps a list in the place of the one that is kept longest. Equal indices are kept once. Where memory is refused the lists are as
+    /// before.
+    pub fn keep(
+        &mut self,
+        validators: &SharedList<Validator>,
+        list: ActiveList,
+    ) -> Result<(), NoMemory>
         requires lists { AreActiveIn validators.now.items self.old }
         requires list { IsActiveIn validators.now.items list }
         ensures { AreActiveIn validators.now.items self.new }
     {
+        let list = match &self.latest {
+            Some(latest) => list.beside(latest)?,
+            None => list,
+        };
         self.earlier = mem::replace(&mut self.latest, Some(list));
+        Ok(())
     }
 
     /// Gives up what isn't true of the registry any longer once a validator takes a place.

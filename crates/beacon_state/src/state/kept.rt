@@ -40,8 +40,7 @@ impl State {
         ensures { self.new ≡ self.old }
     {
         let list = ActiveList::new(alloc, epoch, indices)?;
-        self.active_lists.keep(self.validators.list(), list);
-        Ok(())
+        self.active_lists.keep(self.validators.list(), list)
     }
 
     /// The sum of the effective balances of the validators that are active at an epoch, in Gwei, where it was noted.
