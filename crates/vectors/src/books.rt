@@ -3,12 +3,12 @@
 //! A case is a folder of `data/books`: `config` and `genesis`, of the minimal preset, the records `a` and `b`, and the lines `offences`.
 //! Each block of a record is on the one before it.
 
+use crate::chain_book::ChainBook;
 use crate::offences::{offence_lines, tell};
 use anyhow::{Result, bail};
 use bc_preset::{Config, Preset};
 use beacon_body::SignedBeaconBlock;
 use beacon_state::State;
-use chain_book::ChainBook;
 use forensics::Watch;
 use ssz_codec::Ssz;
 use std::alloc::Global;

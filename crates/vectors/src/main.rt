@@ -6,9 +6,12 @@
 //! what is tried on a case, many times over.
 #![tactic(auto)]
 
+mod beginning;
 mod books;
 mod calls;
 mod case_files;
+mod chain_book;
+mod chain_stop;
 mod offences;
 mod runs;
 mod shared_weights;

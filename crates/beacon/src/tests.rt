@@ -1,5 +1,6 @@
 //! What the statuses say.
 
+use crate::explanation::{Cause, Explanation};
 use bc_preset::{ConfigFault, Key};
 use bc_words::{ClashKind, Limit, Refusal};
 use beacon_node::Status;
@@ -9,7 +10,6 @@ use record_file::RecordFault;
 use spec_fork_choice::AnchorFault;
 use spec_genesis::DepositsFault;
 use spec_state::GenesisFault;
-use status_words::{Cause, Explanation};
 use std::alloc::{AllocError, Global};
 use std::io::{Error, ErrorKind};
 use std::test::Fail;

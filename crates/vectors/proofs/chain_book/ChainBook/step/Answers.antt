@@ -1,5 +1,5 @@
-use Rattle.chain_book.proofs.Ends.{reached}
-use Rattle.chain_book.proofs.chain_book.ChainBook.step.Goals as goal
+use Rattle.vectors.proofs.Ends.{reached}
+use Rattle.vectors.proofs.chain_book.ChainBook.step.Goals as goal
 
 pub returns-clause-genesis : goal.returns-clause-genesis
 returns-clause-genesis c = (reached c.args.self.now (record { book = c.self.inside.book; which = c.self.inside.which; root = c.self.inside.root; state = c.self.inside.state }) c.args.block.now c.self.inside.config c.args.watch.now _ c.visit_transition.result c.self.view_is c.self.invariant.2 c.requires.fresh c.visit_transition.ensures.step).0

@@ -1,5 +1,5 @@
-use Rattle.chain_book.proofs.Ends.{turns}
-use Rattle.chain_book.proofs.chain_book.ChainBook.turn.Goals as goal
+use Rattle.vectors.proofs.Ends.{turns}
+use Rattle.vectors.proofs.chain_book.ChainBook.turn.Goals as goal
 
 pub invariant_of-self : goal.invariant_of-self
 invariant_of-self c = (

@@ -5,7 +5,7 @@ ghost use Rattle.bc_words.specs.Outcome.{done};
 ghost use Rattle.beacon_types.specs.Equality.{same_root};
 ghost use Rattle.spec_state.specs.Genesis.{zero_root, header_root_of};
 ghost use Rattle.spec_state.specs.States.{state_codec};
-ghost use Rattle.chain_book.specs.Chains.{HasTotal};
+ghost use Rattle.vectors.specs.Chains.{HasTotal};
 ghost use Rattle.forensics.specs.Books.{IsBeginning};
 
 use balance_totals::{current_epoch, total_active};

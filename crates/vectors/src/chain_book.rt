@@ -5,7 +5,7 @@ ghost use Rattle.bc_words.specs.Outcome.{done};
 ghost use Rattle.spec_state.specs.Soundness.{IsSound};
 ghost use Rattle.spec_state.specs.Genesis.{header_root_of};
 ghost use Rattle.spec_transition.specs.StateTransition.{state_transition};
-ghost use Rattle.chain_book.specs.Chains.{Reaches};
+ghost use Rattle.vectors.specs.Chains.{Reaches};
 ghost use Rattle.forensics.specs.Books.{begun, with_block};
 
 use crate::beginning::{is_beginning, is_same, is_set};
@@ -35,7 +35,7 @@ pub struct ChainBook {
 
 impl Model for ChainBook {
     ghost use Rattle.std.specs.Prelude.{◌≡◌, ◌+◌, length};
-    ghost use Rattle.chain_book.specs.Chains.{PlainChain, IsChain};
+    ghost use Rattle.vectors.specs.Chains.{PlainChain, IsChain};
 
     ghost Value = { PlainChain };
 

@@ -4,8 +4,8 @@ use Rattle.bc_words.specs.Outcome.{GivesExactly}
 use Rattle.bc_words.specs.declared.stop.Stop.{Stop}
 use Rattle.spec_state.specs.declared.plain.PlainState.{PlainState}
 use Rattle.spec_state.specs.Accessors.{get_active_validator_indices, get_total_balance, get_total_active_balance}
-use Rattle.chain_book.specs.Chains.{HasTotal}
-use Rattle.chain_book.proofs.beginning.total_fits.Goals as goal
+use Rattle.vectors.specs.Chains.{HasTotal}
+use Rattle.vectors.proofs.beginning.total_fits.Goals as goal
 
 total_of : (state : PlainState) (r : Result ℕ Stop) → GivesExactly r (get_total_active_balance state) → is_ok r ≡ true → HasTotal state
 total_of state (Ok n) gives ok = record { total = n; is = gives }

@@ -22,7 +22,7 @@ use Rattle.transition.proofs.Visits.{stops_shown}
 use Rattle.forensics.specs.Books.{PlainBook, begun, history_of, with_block}
 use Rattle.forensics.specs.Watches.{PlainWatch, with_entered}
 use Rattle.forensics.proofs.Watches.{watched}
-use Rattle.chain_book.specs.Chains.{PlainChain, IsChain, Reaches}
+use Rattle.vectors.specs.Chains.{PlainChain, IsChain, Reaches}
 
 -- the accepted block of a step
 abbrev pub accepted : ℕ → List ℕ → SignedBeaconBlock → Stepped → AcceptedBlock

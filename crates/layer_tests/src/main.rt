@@ -36,8 +36,6 @@ mod spans;
 #[cfg(test)]
 mod ssz;
 #[cfg(test)]
-mod statuses;
-#[cfg(test)]
 mod totals;
 #[cfg(test)]
 mod trees;
@@ -45,3 +43,5 @@ mod trees;
 mod votes;
 #[cfg(test)]
 mod words;
+
+fn main(_rt: HostRuntime) {}

@@ -3,8 +3,8 @@ use Rattle.beacon_types.specs.Equality.{same_root}
 use Rattle.spec_state.specs.Genesis.{zero_root}
 use Rattle.spec_state.specs.Soundness.{IsSound}
 use Rattle.spec_transition.specs.ProcessSlots.{Stepped}
-use Rattle.chain_book.proofs.Ends.{is_step, goes_on, next_of}
-use Rattle.chain_book.proofs.chain_book.ChainBook.add.Goals as goal
+use Rattle.vectors.proofs.Ends.{is_step, goes_on, next_of}
+use Rattle.vectors.proofs.chain_book.ChainBook.add.Goals as goal
 
 pub add-requires-clause-step : goal.add-requires-clause-step
 add-requires-clause-step c =

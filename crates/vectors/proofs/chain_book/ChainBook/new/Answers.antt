@@ -1,7 +1,7 @@
 use Rattle.std.proofs.Common.{◌∙◌, sym, ap, rules}
 use Rattle.forensics.specs.Books.{PlainBook, begun}
-use Rattle.chain_book.proofs.Ends.{begins, none_counted}
-use Rattle.chain_book.proofs.chain_book.ChainBook.new.Goals as goal
+use Rattle.vectors.proofs.Ends.{begins, none_counted}
+use Rattle.vectors.proofs.chain_book.ChainBook.new.Goals as goal
 
 pub invariant_of-result : goal.invariant_of-result
 unfolding begun
