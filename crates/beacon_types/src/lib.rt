@@ -11,6 +11,7 @@ mod deposit_data;
 mod eth1_data;
 mod fork;
 mod indexed_attestation;
+mod kept_roots;
 mod limits;
 mod pending_attestation;
 mod signed_exit;

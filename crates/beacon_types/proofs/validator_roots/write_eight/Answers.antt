@@ -1,10 +1,16 @@
--- Three layers over all chunks.
-use Rattle.std.proofs.Common.{◌∙◌, ap}
-use Rattle.pair_lanes.specs.Pairs.{parents}
-use Rattle.beacon_types.proofs.Lanes.{roots_of}
+-- What is kept of the first is that of all of them.
+use Rattle.std.proofs.Common.{rules, ◌≡◌, ◌∙◌, sym}
+use Rattle.std.proofs.lemmas.List.Elements.{All-weaker}
+use Rattle.beacon_types.specs.inside.ValidatorChunks.{IsAlike, status_root, epochs_root}
+use Rattle.beacon_types.proofs.Lanes.{status_of_alike, epochs_of_alike}
 use Rattle.beacon_types.proofs.validator_roots.write_eight.Goals as goal
 
-pub returns : goal.returns
-returns c =
-    c.hash_layer-3.ensures
-    ∙ (ap parents (c.hash_layer-2.ensures ∙ ap parents (c.hash_layer.ensures ∙ ap parents c.write_eight_chunks.ensures)) ∙ roots_of c.args.validators.now)
+pub write_alike-requires-clause-status : goal.write_alike-requires-clause-status
+write_alike-requires-clause-status c =
+    All-weaker (λ v. IsAlike v _) (λ v. status_root v ≡ c.kept_or_new-roots.result.status) (λ v alike. status_of_alike v _ alike ∙ sym c.kept_or_new-roots.ensures.status) c.args.validators.now
+    (c.are_alike.ensures (search rules))
+
+pub write_alike-requires-clause-epochs : goal.write_alike-requires-clause-epochs
+write_alike-requires-clause-epochs c =
+    All-weaker (λ v. IsAlike v _) (λ v. epochs_root v ≡ c.kept_or_new-roots.result.epochs) (λ v alike. epochs_of_alike v _ alike ∙ sym c.kept_or_new-roots.ensures.epochs) c.args.validators.now
+    (c.are_alike.ensures (search rules))

@@ -1,0 +1,12 @@
+-- What is kept is that of each validator that is alike.
+use Rattle.std.proofs.Common.{rules, ◌∙◌}
+use Rattle.beacon_types.proofs.Lanes.{status_of_alike, epochs_of_alike}
+use Rattle.beacon_types.proofs.kept_roots.kept_or_new.Goals as goal
+
+pub returns-then-is_alike-clause-status : goal.returns-then-is_alike-clause-status
+returns-then-is_alike-clause-status c =
+    c.in-Some.roots.status_is ∙ status_of_alike c.in-Some.roots.validator c.args.validator.now (c.is_alike.ensures.0 (search rules))
+
+pub returns-then-is_alike-clause-epochs : goal.returns-then-is_alike-clause-epochs
+returns-then-is_alike-clause-epochs c =
+    c.in-Some.roots.epochs_is ∙ epochs_of_alike c.in-Some.roots.validator c.args.validator.now (c.is_alike.ensures.0 (search rules))
