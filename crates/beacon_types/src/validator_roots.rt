@@ -4,7 +4,7 @@
 //! the key's is the root of two. Where eight are alike in all but their keys and withdrawal credentials, what is hashed of
 //! the rest is taken from `kept_roots`.
 
-ghost use Rattle.std.specs.Prelude.{◌≡◌, ◌<◌, ◌++◌, IsTrue, All, length, map};
+ghost use Rattle.std.specs.Prelude.{◌≡◌, ◌↔◌, ◌<◌, ◌++◌, IsTrue, All, length, map};
 ghost use Rattle.std.specs.List.{flat_map};
 ghost use Rattle.hash_tree.specs.Merkle.{hash};
 ghost use Rattle.beacon_types.specs.Containers.{validator_codec};
@@ -75,7 +75,7 @@ fn write_eight_chunks(validators: &[Validator], keys: &[Root], out: &mut [Root])
     }
 }
 
-/// Writes the roots of eight validators, whose keys have these roots.
+/// Writes the roots of eight validators, whose keys have these roots, by all that is below them.
 fn write_each(validators: &[Validator], keys: &[Root], out: &mut [Root])
     requires validators { length validators.now ≡ 8 }
     requires keys { keys.now ≡ map key_root validators.now }
@@ -144,9 +144,9 @@ fn write_alike(validators: &[Validator], keys: &[Root], kept: &KeptRoots, out: &
     hash_with(&halves, &kept.epochs, out);
 }
 
-/// Whether the validators are all alike the first.
+/// Whether all of the validators are alike the first.
 fn are_alike(validators: &[Validator], first: &Validator) -> bool
-    ensures { IsTrue result → All (λ v. IsAlike v first.now) validators.now }
+    ensures { IsTrue result ↔ All (λ v. IsAlike v first.now) validators.now }
 {
     'each: for i in 0..validators.len() {
         if !is_alike(&validators[i], first) {

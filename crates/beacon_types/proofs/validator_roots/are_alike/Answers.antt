@@ -12,4 +12,4 @@ each-preserved c =
 pub returns : goal.returns
 returns c =
     let all : take c.each.i c.args.validators.now ≡ c.args.validators.now = take_all c.each.i c.args.validators.now (omega arith) in
-    λ _. All-same (λ v. IsAlike v c.args.first.now) c.args.validators.now (take c.each.i c.args.validators.now) (sym all) c.each.invariant
+    (λ _. All-same (λ v. IsAlike v c.args.first.now) c.args.validators.now (take c.each.i c.args.validators.now) (sym all) c.each.invariant, λ _. search rules)

@@ -1,6 +1,6 @@
 -- All pairs are written.
-use Rattle.std.proofs.Common.{rules, ◌≡◌, ◌∙◌, ◌+◌, ℕ, List, [], ◌∷◌, ◌++◌, length, get_or, take, map, sym, ap, ap₂, arith}
-use Rattle.std.proofs.lemmas.List.{take_all, take_more, take_more_set, map-append}
+use Rattle.std.proofs.Common.{◌≡◌, ◌∙◌, ℕ, List, [], ◌∷◌, take, map, sym, ap, arith}
+use Rattle.std.proofs.lemmas.List.{take_all}
 use Rattle.pair_lanes.specs.Pairs.{hashes_of}
 use Rattle.beacon_types.proofs.Lanes.{hashes_with}
 use Rattle.beacon_types.proofs.validator_roots.hash_with.Goals as goal
