@@ -9,7 +9,8 @@ use Rattle.sha2.specs.Sha256.{sha256}
 use Rattle.hash_tree.specs.Merkle.{hash, merkle_root, merkleize, depth_of, depth_from, chunks_of}
 use Rattle.beacon_types.specs.declared.validator.Validator.{Validator}
 use Rattle.beacon_types.specs.Containers.{validator_codec}
-use Rattle.beacon_types.specs.inside.ValidatorChunks.{key_chunks, root_of_chunks, key_root, chunks_below, owner_chunks, owner_root, status_root, epochs_root, IsAlike}
+use Rattle.beacon_types.specs.inside.ValidatorChunks.{key_chunks, root_of_chunks, key_root, chunks_below}
+use Rattle.beacon_types.specs.inside.ValidatorChunks.{owner_chunks, owner_root, status_root, epochs_root, IsAlike}
 
 parents_joined : (k : ℕ) (xs ys : List (List ℕ)) → length xs ≡ 2 * k → parents (xs ++ ys) ≡ parents xs ++ parents ys
 unfolding parents
@@ -83,7 +84,9 @@ root_of_key v long = rw long refl
 -- the parents of all validators' first two chunks are the roots over them
 pub owners_of : (vs : List Validator) → parents (flat_map owner_chunks vs) ≡ map owner_root vs
 unfolding owner_chunks owner_root
-owners_of vs = parents_of_blocks 1 owner_chunks (λ v. refl) vs ∙ single_blocks (λ v. parents (owner_chunks v)) owner_root (λ v. two _ _) vs
+owners_of vs =
+    parents_of_blocks 1 owner_chunks (λ v. refl) vs
+    ∙ single_blocks (λ v. parents (owner_chunks v)) owner_root (λ v. two _ _) vs
 
 -- the hashes of nodes, each with the same node behind it
 pub hashes_with : (behind : List ℕ) (nodes : List (List ℕ)) → hashes_of (map (λ node. node ∷ behind ∷ []) nodes) ≡ map (λ node. hash (node ++ behind)) nodes
@@ -95,16 +98,22 @@ root_of_parts : (v : Validator) → hash (hash (owner_root v ++ status_root v) +
 unfolding owner_root owner_chunks status_root epochs_root key_root merkle_root merkleize depth_of depth_from
 root_of_parts v = refl
 
--- the roots of validators of which two of these are alike
+-- and where two of them are known
+root_of_known : (status epochs : List ℕ) (v : Validator) → status_root v ≡ status → epochs_root v ≡ epochs
+    → hash (hash (owner_root v ++ status) ++ epochs) ≡ validator_codec.hash_tree_root v
+root_of_known status epochs v s e = sym (ap₂ (λ (a b : List ℕ). hash (hash (owner_root v ++ a) ++ b)) s e) ∙ root_of_parts v
+
+-- the roots of validators that have these two alike
 pub roots_of_alike : (status epochs : List ℕ) (vs : List Validator) → All (λ v. status_root v ≡ status) vs → All (λ v. epochs_root v ≡ epochs) vs
     → map (λ node. hash (node ++ epochs)) (map (λ node. hash (node ++ status)) (map owner_root vs)) ≡ map validator_codec.hash_tree_root vs
 roots_of_alike status epochs [] s e = refl
 roots_of_alike status epochs (v ∷ vs) s e =
-    ap₂ (λ (x : List ℕ) (xs : List (List ℕ)). x ∷ xs)
-    (sym (ap₂ (λ (a b : List ℕ). hash (hash (owner_root v ++ a) ++ b)) (All-head (λ w. status_root w ≡ status) v vs s) (All-head (λ w. epochs_root w ≡ epochs) v vs e)) ∙ root_of_parts v)
-    (roots_of_alike status epochs vs (All-tail (λ w. status_root w ≡ status) v vs s) (All-tail (λ w. epochs_root w ≡ epochs) v vs e))
+    let same_status : Validator → Type 0 = λ w. status_root w ≡ status in
+    let same_epochs : Validator → Type 0 = λ w. epochs_root w ≡ epochs in
+    ap₂ (λ (x : List ℕ) (xs : List (List ℕ)). x ∷ xs) (root_of_known status epochs v (All-head same_status v vs s) (All-head same_epochs v vs e))
+    (roots_of_alike status epochs vs (All-tail same_status v vs s) (All-tail same_epochs v vs e))
 
--- validators that are alike have these two roots alike
+-- validators that are alike in all but their keys and withdrawal credentials have these two alike
 pub status_of_alike : (a b : Validator) → IsAlike a b → status_root a ≡ status_root b
 unfolding status_root
 status_of_alike a b h = rw (h.balance, h.slashed) refl

@@ -8,7 +8,8 @@ ghost use Rattle.std.specs.Prelude.{◌≡◌, ◌↔◌, ◌<◌, ◌++◌, IsT
 ghost use Rattle.std.specs.List.{flat_map};
 ghost use Rattle.hash_tree.specs.Merkle.{hash};
 ghost use Rattle.beacon_types.specs.Containers.{validator_codec};
-ghost use Rattle.beacon_types.specs.inside.ValidatorChunks.{key_chunks, root_of_chunks, key_root, chunks_below, owner_chunks, owner_root, IsAlike, status_root, epochs_root};
+ghost use Rattle.beacon_types.specs.inside.ValidatorChunks.{key_chunks, root_of_chunks, key_root, chunks_below};
+ghost use Rattle.beacon_types.specs.inside.ValidatorChunks.{owner_chunks, owner_root, IsAlike, status_root, epochs_root};
 
 use crate::kept_roots::{KeptRoots, is_alike, kept_or_new};
 use crate::validator::Validator;
