@@ -4,4 +4,5 @@ pub mod Divisor
 pub mod Components
 pub mod Inclusions
 pub mod Leak
+pub mod Standings
 pub mod Paid

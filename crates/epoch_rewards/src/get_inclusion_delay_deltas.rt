@@ -8,6 +8,7 @@ ghost use Rattle.participation.specs.inside.Marks.{flagged};
 ghost use Rattle.participation.specs.inside.Statuses.{flags_of, entries_of, statuses_of};
 ghost use Rattle.spec_epochs.specs.GetBaseReward.{get_base_reward};
 ghost use Rattle.epoch_rewards.specs.inside.Stakes.{stakes_of};
+ghost use Rattle.epoch_rewards.specs.inside.Standings.{IsStanding};
 ghost use Rattle.epoch_rewards.specs.inside.Inclusions.{entry_at, included, delayed_by, own_reward, joined_reward, all_gains, all_joined, joined_deltas};
 ghost use Rattle.spec_state.specs.Accessors.{get_previous_epoch};
 ghost use Rattle.spec_state.specs.Soundness.{IsSoundWithinEpoch};
@@ -15,11 +16,12 @@ ghost use Rattle.spec_epochs.specs.GetInclusionDelayDeltas.{get_inclusion_delay_
 ghost use Rattle.epoch_rewards.specs.inside.Divisor.{divisor_of};
 
 use crate::amounts::{Amounts, all_amounts};
-use crate::get_base_reward::{divisor, get_base_reward};
+use crate::get_base_reward::{base_reward_of, divisor, next_base_reward};
 use crate::get_eligible_validator_indices::{counted, is_attester};
 use crate::get_proposer_reward::get_proposer_reward;
 use crate::numbers::{number_at, zeros};
 use crate::stakes::{Stake, stakes};
+use crate::standing::Standing;
 use bc_words::{Stop, checked_add, checked_sub};
 use beacon_state::State;
 use participation::{Inclusion, Status, Vote, inclusion_at};
@@ -90,21 +92,14 @@ fn delayed_reward(
 
 /// What a validator gets as an attester, in Gwei, where it is one.
 #[tactic(auto, unfolding(crate::specs::inside::Inclusions::own_reward))]
-fn own_reward(
-    state: &State,
-    stakes: &[Stake],
-    base: Result<u64, Stop>,
-    statuses: &[Status],
-    index: u64,
-) -> Result<u64, Stop>
-    requires stakes { stakes.now ≡ stakes_of state.now }
-    requires base { GivesExactly base (get_base_reward state.now index) }
-    ensures { GivesExactly result (own_reward state.now (entries_of statuses.now) (flagged state.now (flags_of votes.Source statuses.now)) index) }
+fn own_reward(state: &State, statuses: &[Status], standing: &Standing) -> Result<u64, Stop>
+    requires { IsStanding state.now statuses.now standing.now }
+    ensures { GivesExactly result (own_reward state.now (entries_of statuses.now) (flagged state.now (flags_of votes.Source statuses.now)) standing.now.index) }
 {
-    if !is_attester(state, stakes, statuses, Vote::Source, index) {
+    if !is_attester(state, statuses, Vote::Source, standing) {
         return Ok(0);
     }
-    delayed_reward(state, base, index, inclusion_at(statuses, index))
+    delayed_reward(state, standing.base, standing.index, standing.inclusion)
 }
 
 /// Who attested, each one's inclusion, and the gains of proposers. The amounts are what each gets as a proposer and as an
@@ -120,19 +115,14 @@ pub struct Included<'a> {
 impl<'a> Amounts for Included<'a> {
     ghost are_of = { λ _ _. Unit {0} };
 
+    ghost table_of = { λ i. i.statuses.now };
+
     ghost amount_of = { λ i state. joined_reward state (entries_of i.statuses.now) (flagged state (flags_of votes.Source i.statuses.now)) i.gains.now };
 
     #[tactic(auto, unfolding(crate::specs::inside::Inclusions::joined_reward))]
-    fn amount(
-        &self,
-        state: &State,
-        stakes: &[Stake],
-        base: Result<u64, Stop>,
-        index: u64,
-        _balance: Option<u64>,
-    ) -> Result<u64, Stop> {
-        let own = own_reward(state, stakes, base, self.statuses, index)?;
-        checked_add(number_at(self.gains, index), own)
+    fn amount(&self, state: &State, standing: &Standing) -> Result<u64, Stop> {
+        let own = own_reward(state, self.statuses, standing)?;
+        checked_add(number_at(self.gains, standing.index), own)
     }
 }
 
@@ -150,11 +140,13 @@ pub(crate) fn proposer_gains(
     ensures { GivesBy (λ gains. gains.items) result (all_gains state.now (entries_of statuses.now) (flagged state.now (flags_of votes.Source statuses.now))) }
 {
     let mut gains = zeros(alloc, state)?;
+    let mut last = base_reward_of(state, divisor, state.preset().max_effective_balance);
     for index in 0..state.validators_len() {
+        let stake = stakes[index as usize];
+        last = next_base_reward(state, divisor, last, stake.effective_balance);
         match counted(state, stakes, statuses, Vote::Source, index) {
             Some(_) => {
-                let base = get_base_reward(state, stakes, divisor, index);
-                match include(&mut gains, state, base, statuses, index) {
+                match include(&mut gains, state, last.reward, statuses, index) {
                     Ok(()) => {}
                     Err(stop) => return Err(stop),
                 }
@@ -182,7 +174,7 @@ fn inclusion_rewards(
         statuses,
         gains: &gains,
     };
-    all_amounts(alloc, state, stakes, divisor, &included)
+    all_amounts(alloc, state, stakes, statuses, divisor, &included)
 }
 
 /// Rewards and penalties by those who attested, the slashed aside, and by their inclusions.

@@ -24,6 +24,7 @@ mod numbers;
 mod paid;
 mod process_rewards_and_penalties;
 mod stakes;
+mod standing;
 mod vote_deltas;
 
 pub use get_head_deltas::head_deltas;

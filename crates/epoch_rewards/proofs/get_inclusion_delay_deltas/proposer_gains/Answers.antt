@@ -3,23 +3,37 @@ use Rattle.std.proofs.Common.{sym, subst, ◌∙◌, arith}
 use Rattle.bc_words.specs.Outcome.{Stops}
 use Rattle.participation.specs.declared.matching.Vote.TheVariants.{Source}
 use Rattle.participation.specs.inside.Statuses.{flags_of, entries_of}
+use Rattle.epoch_rewards.proofs.Divisor.{base_taken}
+use Rattle.epoch_rewards.proofs.Gathered.{stake_there, within_stakes}
 use Rattle.epoch_rewards.proofs.Included.{included_more, included_stops, included_left, included_ends}
 use Rattle.epoch_rewards.proofs.get_inclusion_delay_deltas.proposer_gains.Goals as goal
 use Rattle.epoch_rewards.proofs.get_inclusion_delay_deltas.proposer_gains.Goals.{in-Some+in-Ok, in-None}
 
+pub index-stake-requires : goal.index-stake-requires
+index-stake-requires c = within_stakes c.args.state.now c.args.stakes.now c.loop-index.index c.requires.stakes (omega arith)
+
+pub include-requires : goal.include-requires
+include-requires c =
+    let s = c.index-stake.result.now in
+    let there = stake_there c.args.state.now c.args.stakes.now c.loop-index.index s c.requires.stakes (omega arith) c.index-stake.ensures in
+    base_taken c.args.state.now c.loop-index.index s c.next_base_reward-last.result there c.next_base_reward-last.ensures.is c.next_base_reward-last.ensures.of
+
 pub returns-in-Err : goal.returns-in-Err
 returns-in-Err c =
-    subst (Stops c.in-Err.stop) c.loop-index.invariant
+    subst (Stops c.in-Err.stop) c.loop-index.invariant.included
     (included_stops c.args.state.now (flags_of Source c.args.statuses.now) (entries_of c.args.statuses.now) c.loop-index.gains.items c.loop-index.index c.in-Err.stop c.in-Some.ensures.1 c.in-Err.ensures)
 
 pub loop-index-preserved : goal.loop-index-preserved
 loop-index-preserved c =
     let more = included_more c.args.state.now (flags_of Source c.args.statuses.now) (entries_of c.args.statuses.now) c.loop-index.gains.items in
     let left = included_left c.args.state.now (flags_of Source c.args.statuses.now) (entries_of c.args.statuses.now) c.loop-index.gains.items c.loop-index.index in
-    elim c.match-counted.branch [
-      | in-Some+in-Ok w ↦ rw w.gains-is (sym (more w.include.new.gains.items c.loop-index.index w.in-Some.ensures.1 w.in-Ok.ensures) ∙ c.loop-index.invariant)
-      | in-None w ↦ rw w.gains-is (sym (left w.in-None.ensures) ∙ c.loop-index.invariant)
-    ]
+    record {
+      last = c.next_base_reward-last.ensures.is;
+      included = elim c.match-counted.branch [
+        | in-Some+in-Ok w ↦ rw w.gains-is (sym (more w.include.new.gains.items c.loop-index.index w.in-Some.ensures.1 w.in-Ok.ensures) ∙ c.loop-index.invariant.included)
+        | in-None w ↦ rw w.gains-is (sym (left w.in-None.ensures) ∙ c.loop-index.invariant.included)
+      ];
+    }
 
 pub returns : goal.returns
-returns c = sym c.loop-index.invariant ∙ included_ends c.args.state.now (flags_of Source c.args.statuses.now) (entries_of c.args.statuses.now) c.loop-index.gains.items c.loop-index.index (omega arith)
+returns c = sym c.loop-index.invariant.included ∙ included_ends c.args.state.now (flags_of Source c.args.statuses.now) (entries_of c.args.statuses.now) c.loop-index.gains.items c.loop-index.index (omega arith)
