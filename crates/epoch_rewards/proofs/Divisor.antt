@@ -1,6 +1,6 @@
 -- The base reward by its divisor, which is at least 1.
-use Rattle.std.proofs.Common.{◌≡◌, ℕ, ◌/◌, ◌≤◌, ◌*◌, Some, slice_get, refl, sym, ap, subst, ◌∙◌, arith}
-use Rattle.bc_words.specs.Outcome.{Outcome, done, refused, limited, bind, checked_mul, GivesExactly}
+use Rattle.std.proofs.Common.{◌≡◌, ℕ, ◌/◌, ◌≤◌, ◌*◌, Some, slice_get, refl, sym, ap, ◌∙◌, arith}
+use Rattle.bc_words.specs.Outcome.{Outcome, done, refused, limited, bind, checked_mul}
 use Rattle.bc_words.specs.SquareRoot.{integer_squareroot}
 use Rattle.bc_words.proofs.Roots.{root_is_root}
 use Rattle.bc_preset.specs.Presets.{IsPreset}
@@ -12,8 +12,8 @@ use Rattle.spec_epochs.specs.GetBaseReward.{get_base_reward}
 use Rattle.spec_epochs.proofs.Each.{bound_done}
 use Rattle.spec_epochs.proofs.Totals.{least_total}
 use Rattle.epoch_rewards.specs.declared.stakes.Stake.{Stake}
-use Rattle.epoch_rewards.specs.declared.get_base_reward.BaseReward.{BaseReward}
-use Rattle.epoch_rewards.specs.inside.Divisor.{divisor_of, base_by_balance, IsBaseReward}
+use Rattle.epoch_rewards.specs.inside.Divisor.{divisor_of}
+use Rattle.epoch_rewards.specs.inside.Rates.{base_by_balance}
 use Rattle.epoch_rewards.specs.inside.Stakes.{stake_of, stakes_of}
 use Rattle.epoch_rewards.proofs.Gathered.{by_stake}
 
@@ -36,15 +36,11 @@ unfolding get_base_reward divisor_of over
 by_divisor state index = moved (get_total_active_balance state) (over state index) ∙ by_root state index (divisor_of state)
 
 -- the base reward of a validator is that of its effective balance
-base_here : (state : PlainState) (index : ℕ) (s : Stake) → slice_get (stakes_of state) index ≡ Some s → get_base_reward state index ≡ base_by_balance state s.effective_balance
+pub base_here : (state : PlainState) (index : ℕ) (s : Stake) → slice_get (stakes_of state) index ≡ Some s → get_base_reward state index ≡ base_by_balance state s.effective_balance
 unfolding base_by_balance
 base_here state index s at =
     by_divisor state index
     ∙ ap (λ o. bind (divisor_of state) (λ root. bind (found o) (λ s. bind (checked_mul s.effective_balance state.preset.base_reward_factor) (λ weighed. done (weighed / root / 4))))) at
-
-pub base_taken : (state : PlainState) (index : ℕ) (s : Stake) (base : BaseReward) → slice_get (stakes_of state) index ≡ Some s → IsBaseReward state base → base.effective_balance ≡ s.effective_balance
-    → GivesExactly base.reward (get_base_reward state index)
-base_taken state index s base at is of = subst (GivesExactly base.reward) (ap (base_by_balance state) of ∙ sym (base_here state index s at)) is
 
 pub divisor_is_some : (state : PlainState) (root : ℕ) → IsPreset state.preset → divisor_of state ≡ done root → 1 ≤ root
 unfolding divisor_of

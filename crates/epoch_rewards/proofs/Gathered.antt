@@ -1,20 +1,21 @@
 -- Gathering what is read of each validator, and what is found there.
-use Rattle.std.proofs.Common.{◌≡◌, ℕ, ◌+◌, ◌/◌, ◌<◌, Bool, true, false, not, ◌&&◌, List, [], ◌∷◌, ◌++◌, map, get_or, Option, Some, None, slice_get, length, refl, sym, ap, ◌∙◌, append_assoc, arith}
+use Rattle.std.proofs.Common.{◌≡◌, ℕ, ◌+◌, ◌<◌, Bool, true, false, not, ◌&&◌, List, [], ◌∷◌, ◌++◌, map, get_or, Option, Some, None, slice_get, length, refl, sym, ap, ◌∙◌, append_assoc, arith}
 use Rattle.std.specs.Option.{option_map}
 use Rattle.std.proofs.lemmas.List.{append-nil, length-map}
 use Rattle.std.proofs.lemmas.Option.{slice_get-map, slice_get_read}
-use Rattle.bc_words.specs.Outcome.{Outcome, done, bind, checked_mul}
+use Rattle.bc_words.specs.Outcome.{Outcome, bind}
 use Rattle.beacon_types.specs.declared.validator.Validator.{Validator}
 use Rattle.spec_state.specs.declared.plain.PlainState.{PlainState}
 use Rattle.spec_state.specs.Misc.{effective_balance}
 use Rattle.spec_state.specs.Accessors.{get_previous_epoch, indices_from}
 use Rattle.spec_blocks.specs.Checks.{item_at, found}
 use Rattle.spec_epochs.specs.Each.{is_among}
-use Rattle.spec_epochs.specs.RewardHelpers.{get_finality_delay, get_eligible_validator_indices}
+use Rattle.spec_epochs.specs.RewardHelpers.{get_eligible_validator_indices}
 use Rattle.spec_epochs.specs.GetInactivityPenaltyDeltas.{absence_penalty}
 use Rattle.participation.specs.inside.Marks.{flagged, flagged_from}
 use Rattle.participation.proofs.Weighed.{one_counts, one_slashed, one_absent, none_there, weight_read}
 use Rattle.epoch_rewards.specs.declared.stakes.Stake.{Stake}
+use Rattle.epoch_rewards.specs.inside.Rates.{absence_by_balance}
 use Rattle.epoch_rewards.specs.inside.Stakes.{is_reached, stake_of, stakes_of}
 use Rattle.epoch_rewards.proofs.Among.{found_passes, among_indices, among_filter}
 
@@ -54,11 +55,10 @@ by_stake state index next =
     ap (λ o. bind (found o) next) (slice_get-map (stake_of (get_previous_epoch state)) state.validators index)
     ∙ found_mapped (stake_of (get_previous_epoch state)) (slice_get state.validators index) next
 
-pub absence_here : (state : PlainState) (index : ℕ) (s : Stake) → slice_get (stakes_of state) index ≡ Some s
-    → absence_penalty state index ≡ bind (get_finality_delay state) (λ delay. bind (checked_mul s.effective_balance delay) (λ weighed. done (weighed / state.preset.inactivity_penalty_quotient)))
-unfolding absence_penalty stake_of
+pub absence_here : (state : PlainState) (index : ℕ) (s : Stake) → slice_get (stakes_of state) index ≡ Some s → absence_penalty state index ≡ absence_by_balance state s.effective_balance
+unfolding absence_penalty absence_by_balance stake_of
 absence_here state index s at =
-    let rest = λ (s : Stake). bind (get_finality_delay state) (λ delay. bind (checked_mul s.effective_balance delay) (λ weighed. done (weighed / state.preset.inactivity_penalty_quotient))) in
+    let rest = λ (s : Stake). absence_by_balance state s.effective_balance in
     sym (by_stake state index rest) ∙ ap (λ o. bind (found o) rest) at
 
 -- ---- who is eligible, and who attested, by its stake

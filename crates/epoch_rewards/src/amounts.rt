@@ -10,8 +10,8 @@ ghost use Rattle.epoch_rewards.specs.inside.Standings.{IsStanding};
 ghost use Rattle.spec_epochs.specs.Each.{validator_indices, checked_map};
 ghost use Rattle.epoch_rewards.specs.inside.Divisor.{divisor_of};
 
-use crate::get_base_reward::{base_reward_of, next_base_reward};
 use crate::numbers::push_made;
+use crate::rates::{follow, rates_of};
 use crate::stakes::Stake;
 use crate::standing::{Standing, standing_of};
 use bc_words::Stop;
@@ -38,7 +38,7 @@ pub trait Amounts {
 }
 
 /// The amounts of all validators, in order of index. The stakes and the divisor are the state's. Each validator is looked up once,
-/// and nearly all have the same effective balance, so that few base rewards are taken.
+/// and nearly all have the same effective balance, so that little is reckoned anew.
 #[tactic(auto, unfolding(spec_epochs::specs::Each::validator_indices), using(spec_epochs::proofs::Each::made_begins))]
 pub(crate) fn all_amounts<A: Amounts>(
     alloc: Global,
@@ -57,12 +57,12 @@ pub(crate) fn all_amounts<A: Amounts>(
 {
     let mut all = Vec::with_capacity(alloc, state.validators_len() as usize)?;
     let mut balances = state.balance_list().iter();
-    let mut last = base_reward_of(state, divisor, state.preset().max_effective_balance);
+    let mut rates = rates_of(state, divisor, state.preset().max_effective_balance);
     for index in 0..state.validators_len() {
         let stake = stakes[index as usize];
-        last = next_base_reward(state, divisor, last, stake.effective_balance);
+        follow(&mut rates, state, divisor, stake.effective_balance);
         let balance = balances.next();
-        let standing = standing_of(state, statuses, index, stake, last.reward, balance);
+        let standing = standing_of(state, statuses, index, stake, &rates, balance);
         let made = kept.amount(state, &standing);
         match push_made(&mut all, made) {
             Ok(()) => {}

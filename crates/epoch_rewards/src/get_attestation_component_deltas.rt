@@ -100,7 +100,7 @@ impl<'a> Amounts for Voters<'a> {
         if is_eligible(state, self.statuses, standing)
             && is_attester(state, self.statuses, self.vote, standing)
         {
-            return attester_reward(state, &self.weights, standing.base, standing.index);
+            return attester_reward(state, &self.weights, standing.rates.base, standing.index);
         }
         Ok(0)
     }
@@ -127,7 +127,7 @@ impl<'a> Amounts for Absence<'a> {
         if is_eligible(state, self.statuses, standing)
             && !is_attester(state, self.statuses, self.vote, standing)
         {
-            return standing.base;
+            return standing.rates.base;
         }
         Ok(0)
     }

@@ -1,6 +1,6 @@
 //! What a validator loses in the leak, and the penalties of all (beacon-chain.md, "get_inactivity_penalty_deltas").
 
-ghost use Rattle.std.specs.Prelude.{◌≡◌, Some, slice_get, if◌then◌else◌};
+ghost use Rattle.std.specs.Prelude.{◌≡◌, if◌then◌else◌};
 ghost use Rattle.bc_words.specs.Outcome.{GivesExactly, done, Gives, GivesBy};
 ghost use Rattle.spec_epochs.specs.Each.{is_among};
 ghost use Rattle.spec_epochs.specs.GetInactivityPenaltyDeltas.{absence_penalty, inactivity_penalty, get_inactivity_penalty_deltas};
@@ -8,6 +8,7 @@ ghost use Rattle.participation.specs.declared.matching.Vote.TheVariants as votes
 ghost use Rattle.participation.specs.inside.Marks.{flagged};
 ghost use Rattle.participation.specs.inside.Statuses.{flags_of, statuses_of};
 ghost use Rattle.epoch_rewards.specs.inside.Stakes.{stakes_of};
+ghost use Rattle.epoch_rewards.specs.inside.Rates.{absence_by_balance};
 ghost use Rattle.epoch_rewards.specs.inside.Standings.{IsStanding};
 ghost use Rattle.epoch_rewards.specs.inside.Leak.{leak_penalty, penalties_of, leak_deltas};
 ghost use Rattle.spec_state.specs.Accessors.{get_previous_epoch};
@@ -16,7 +17,6 @@ use crate::amounts::{Amounts, all_amounts};
 use crate::get_base_reward::divisor;
 use crate::get_eligible_validator_indices::{is_attester, is_eligible};
 use crate::get_finality_delay::get_finality_delay;
-use crate::get_proposer_reward::get_proposer_reward;
 use crate::is_in_inactivity_leak::is_in_inactivity_leak;
 use crate::numbers::zeros;
 use crate::stakes::{Stake, stakes};
@@ -28,14 +28,13 @@ use spec_epochs::Deltas;
 use ssz_codec::Items;
 use std::alloc::Global;
 
-/// What a validator that didn't attest to the target loses besides, in Gwei.
-#[tactic(auto, using(crate::proofs::Gathered::absence_here, bc_preset::proofs::Bounds::preset_bounds))]
-fn absence_penalty(state: &State, index: u64, stake: Stake) -> Result<u64, Stop>
-    requires { slice_get (stakes_of state.now) index ≡ Some stake }
-    ensures { GivesExactly result (absence_penalty state.now index) }
+/// What a validator that didn't attest to the target loses besides, in Gwei, by its effective balance.
+#[tactic(auto, unfolding(crate::specs::inside::Rates::absence_by_balance), using(bc_preset::proofs::Bounds::preset_bounds))]
+pub(crate) fn absence_penalty(state: &State, effective_balance: u64) -> Result<u64, Stop>
+    ensures { GivesExactly result (absence_by_balance state.now effective_balance) }
 {
     let delay = get_finality_delay(state)?;
-    let weighed = checked_mul(stake.effective_balance, delay)?;
+    let weighed = checked_mul(effective_balance, delay)?;
     Ok(weighed / state.preset().inactivity_penalty_quotient)
 }
 
@@ -47,7 +46,7 @@ fn absence(state: &State, statuses: &[Status], standing: &Standing) -> Result<u6
     if is_attester(state, statuses, Vote::Target, standing) {
         return Ok(0);
     }
-    absence_penalty(state, standing.index, standing.stake)
+    standing.rates.absence
 }
 
 /// What an eligible validator loses in the leak, in Gwei.
@@ -60,8 +59,8 @@ fn inactivity_penalty(
     requires { IsStanding state.now statuses.now standing.now }
     ensures { GivesExactly result (inactivity_penalty state.now (flagged state.now (flags_of votes.Target statuses.now)) standing.now.index) }
 {
-    let whole = standing.base?;
-    let proposer = get_proposer_reward(state, standing.base, standing.index)?;
+    let whole = standing.rates.base?;
+    let proposer = standing.rates.proposer?;
     let all = checked_mul(4, whole)?;
     let penalty = checked_sub(all, proposer)?;
     let more = absence(state, statuses, standing)?;

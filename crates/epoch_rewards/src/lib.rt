@@ -23,6 +23,7 @@ mod is_in_inactivity_leak;
 mod numbers;
 mod paid;
 mod process_rewards_and_penalties;
+mod rates;
 mod stakes;
 mod standing;
 mod vote_deltas;

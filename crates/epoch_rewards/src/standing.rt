@@ -2,14 +2,13 @@
 //! each, and every part reads it there.
 
 ghost use Rattle.std.specs.Prelude.{◌≡◌, Some, slice_get};
-ghost use Rattle.bc_words.specs.Outcome.{GivesExactly};
-ghost use Rattle.spec_epochs.specs.GetBaseReward.{get_base_reward};
 ghost use Rattle.epoch_rewards.specs.inside.Stakes.{stakes_of};
+ghost use Rattle.epoch_rewards.specs.inside.Rates.{AreRates};
 ghost use Rattle.epoch_rewards.specs.inside.Standings.{IsStanding};
 
 use crate::get_eligible_validator_indices::has_right;
+use crate::rates::Rates;
 use crate::stakes::Stake;
-use bc_words::Stop;
 use beacon_state::State;
 use participation::{Inclusion, Status, Vote, inclusion_at};
 
@@ -28,23 +27,24 @@ pub struct Standing {
     pub head: bool,
     /// How its attestation was included, where it has one.
     pub inclusion: Option<Inclusion>,
-    /// Its base reward, in Gwei, or why it has none.
-    pub base: Result<u64, Stop>,
+    /// What is reckoned of its effective balance.
+    pub rates: Rates,
     /// Its balance, in Gwei, where it has one.
     pub balance: Option<u64>,
 }
 
-/// How the validator with an index stands, of which this was read, with its base reward and its balance.
+/// How the validator with an index stands, of which this was read, with the rates of its effective balance and its balance.
 pub(crate) fn standing_of(
     state: &State,
     statuses: &[Status],
     index: u64,
     stake: Stake,
-    base: Result<u64, Stop>,
+    rates: &Rates,
     balance: Option<u64>,
 ) -> Standing
     requires stake { slice_get (stakes_of state.now) index ≡ Some stake }
-    requires base { GivesExactly base (get_base_reward state.now index) }
+    requires rates { AreRates state.now rates.now }
+    requires of { rates.now.effective_balance ≡ stake.effective_balance }
     requires balance { slice_get state.now.balances index ≡ balance }
     ensures is { IsStanding state.now statuses.now result }
     ensures at { result.index ≡ index }
@@ -56,7 +56,7 @@ pub(crate) fn standing_of(
         target: has_right(state, statuses, Vote::Target, index, stake),
         head: has_right(state, statuses, Vote::Head, index, stake),
         inclusion: inclusion_at(statuses, index),
-        base,
+        rates: *rates,
         balance,
     }
 }

@@ -5,7 +5,6 @@ use Rattle.spec_epochs.specs.Each.{validator_indices}
 use Rattle.spec_epochs.proofs.Each.{made_ends, made_few}
 use Rattle.epoch_rewards.specs.inside.Standings.{IsStanding}
 use Rattle.epoch_rewards.proofs.Beside.{next_here, next_left}
-use Rattle.epoch_rewards.proofs.Divisor.{base_taken}
 use Rattle.epoch_rewards.proofs.Gathered.{stake_there, within_stakes}
 use Rattle.epoch_rewards.proofs.Pushed.{pushed_more, pushed_stops}
 use Rattle.epoch_rewards.proofs.amounts.all_amounts.Goals as goal
@@ -15,12 +14,6 @@ index-stake-requires g c = within_stakes c.args.state.now c.args.stakes.now c.lo
 
 pub standing_of-standing-requires-clause-stake : goal.standing_of-standing-requires-clause-stake
 standing_of-standing-requires-clause-stake g c = stake_there c.args.state.now c.args.stakes.now c.loop-index.index c.index-stake.result.now c.requires.stakes (omega arith) c.index-stake.ensures
-
-pub standing_of-standing-requires-clause-base : goal.standing_of-standing-requires-clause-base
-standing_of-standing-requires-clause-base g c =
-    let s = c.index-stake.result.now in
-    let there = stake_there c.args.state.now c.args.stakes.now c.loop-index.index s c.requires.stakes (omega arith) c.index-stake.ensures in
-    base_taken c.args.state.now c.loop-index.index s c.next_base_reward-last.result there c.next_base_reward-last.ensures.is c.next_base_reward-last.ensures.of
 
 pub standing_of-standing-requires-clause-balance : goal.standing_of-standing-requires-clause-balance
 standing_of-standing-requires-clause-balance g c =
@@ -36,7 +29,7 @@ loop-index-preserved g c =
     let gives = subst (λ index. GivesExactly c.amount-made.result (amount index)) c.standing_of-standing.ensures.at c.amount-made.ensures in
     record {
       beside = next_left c.args.state.now.balances c.loop-index.index c.loop-index.balances c.next-balance.new.self c.next-balance.result c.loop-index.invariant.beside c.next-balance.ensures.steps;
-      last = c.next_base_reward-last.ensures.is;
+      rates = c.follow.ensures.are;
       made =
           pushed_more _ _ c.loop-index.index c.loop-index.all.items c.push_made.new.numbers.items c.amount-made.result (omega arith) gives c.in-Ok.ensures.pushed
           ∙ c.loop-index.invariant.made;

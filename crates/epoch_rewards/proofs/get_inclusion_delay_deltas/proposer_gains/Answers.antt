@@ -3,7 +3,7 @@ use Rattle.std.proofs.Common.{sym, subst, ◌∙◌, arith}
 use Rattle.bc_words.specs.Outcome.{Stops}
 use Rattle.participation.specs.declared.matching.Vote.TheVariants.{Source}
 use Rattle.participation.specs.inside.Statuses.{flags_of, entries_of}
-use Rattle.epoch_rewards.proofs.Divisor.{base_taken}
+use Rattle.epoch_rewards.proofs.Rated.{proposer_rated}
 use Rattle.epoch_rewards.proofs.Gathered.{stake_there, within_stakes}
 use Rattle.epoch_rewards.proofs.Included.{included_more, included_stops, included_left, included_ends}
 use Rattle.epoch_rewards.proofs.get_inclusion_delay_deltas.proposer_gains.Goals as goal
@@ -16,7 +16,7 @@ pub include-requires : goal.include-requires
 include-requires c =
     let s = c.index-stake.result.now in
     let there = stake_there c.args.state.now c.args.stakes.now c.loop-index.index s c.requires.stakes (omega arith) c.index-stake.ensures in
-    base_taken c.args.state.now c.loop-index.index s c.next_base_reward-last.result there c.next_base_reward-last.ensures.is c.next_base_reward-last.ensures.of
+    proposer_rated c.args.state.now c.loop-index.index s c.follow.new.rates there c.follow.ensures.are c.follow.ensures.of
 
 pub returns-in-Err : goal.returns-in-Err
 returns-in-Err c =
@@ -28,7 +28,7 @@ loop-index-preserved c =
     let more = included_more c.args.state.now (flags_of Source c.args.statuses.now) (entries_of c.args.statuses.now) c.loop-index.gains.items in
     let left = included_left c.args.state.now (flags_of Source c.args.statuses.now) (entries_of c.args.statuses.now) c.loop-index.gains.items c.loop-index.index in
     record {
-      last = c.next_base_reward-last.ensures.is;
+      rates = c.follow.ensures.are;
       included = elim c.match-counted.branch [
         | in-Some+in-Ok w ↦ rw w.gains-is (sym (more w.include.new.gains.items c.loop-index.index w.in-Some.ensures.1 w.in-Ok.ensures) ∙ c.loop-index.invariant.included)
         | in-None w ↦ rw w.gains-is (sym (left w.in-None.ensures) ∙ c.loop-index.invariant.included)
