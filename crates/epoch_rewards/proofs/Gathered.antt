@@ -2,7 +2,7 @@
 use Rattle.std.proofs.Common.{◌≡◌, ℕ, ◌+◌, ◌<◌, Bool, true, false, not, ◌&&◌, List, [], ◌∷◌, ◌++◌, map, get_or, Option, Some, None, slice_get, length, refl, sym, ap, ◌∙◌, append_assoc, arith}
 use Rattle.std.specs.Option.{option_map}
 use Rattle.std.proofs.lemmas.List.{append-nil, length-map}
-use Rattle.std.proofs.lemmas.Option.{slice_get-map, slice_get_read}
+use Rattle.std.proofs.lemmas.Option.{slice_get-map}
 use Rattle.bc_words.specs.Outcome.{Outcome, bind}
 use Rattle.beacon_types.specs.declared.validator.Validator.{Validator}
 use Rattle.spec_state.specs.declared.plain.PlainState.{PlainState}
@@ -42,11 +42,6 @@ stakes_count state = length-map state.validators (stake_of (get_previous_epoch s
 
 pub within_stakes : (state : PlainState) (stakes : List Stake) (index : ℕ) → stakes ≡ stakes_of state → index < length state.validators → index < length stakes
 within_stakes state stakes index all less = omega (arith, less, ap length all, stakes_count state)
-
--- what is read at a place is what was gathered of the validator there
-pub stake_there : (state : PlainState) (stakes : List Stake) (index : ℕ) (s : Stake) → stakes ≡ stakes_of state → index < length state.validators → s ≡ get_or stakes index s → slice_get (stakes_of state) index ≡ Some s
-stake_there state stakes index s all less read =
-    ap (λ ss. slice_get ss index) (sym all) ∙ slice_get_read stakes (length stakes) index s refl (within_stakes state stakes index all less) read
 
 -- what is made of a validator by its stake alone
 pub by_stake : {C : Type 0} (state : PlainState) (index : ℕ) (next : Stake → Outcome C) → bind (item_at (stakes_of state) index) next ≡ bind (item_at state.validators index) (λ v. next (stake_of (get_previous_epoch state) v))

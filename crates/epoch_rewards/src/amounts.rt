@@ -12,7 +12,7 @@ ghost use Rattle.epoch_rewards.specs.inside.Divisor.{divisor_of};
 
 use crate::numbers::push_made;
 use crate::rates::{follow, rates_of};
-use crate::stakes::Stake;
+use crate::stakes::{Stake, stake_at};
 use crate::standing::{Standing, standing_of};
 use bc_words::Stop;
 use beacon_state::State;
@@ -59,7 +59,7 @@ pub(crate) fn all_amounts<A: Amounts>(
     let mut balances = state.balance_list().iter();
     let mut rates = rates_of(state, divisor, state.preset().max_effective_balance);
     for index in 0..state.validators_len() {
-        let stake = stakes[index as usize];
+        let stake = stake_at(state, stakes, index);
         follow(&mut rates, state, divisor, stake.effective_balance);
         let balance = balances.next();
         let standing = standing_of(state, statuses, index, stake, &rates, balance);

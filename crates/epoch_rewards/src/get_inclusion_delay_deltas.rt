@@ -20,7 +20,7 @@ use crate::get_base_reward::divisor;
 use crate::get_eligible_validator_indices::{counted, is_attester};
 use crate::numbers::{number_at, zeros};
 use crate::rates::{follow, rates_of};
-use crate::stakes::{Stake, stakes};
+use crate::stakes::{Stake, stake_at, stakes};
 use crate::standing::Standing;
 use bc_words::{Stop, checked_add, checked_sub};
 use beacon_state::State;
@@ -141,7 +141,7 @@ pub(crate) fn proposer_gains(
     let mut gains = zeros(alloc, state)?;
     let mut rates = rates_of(state, divisor, state.preset().max_effective_balance);
     for index in 0..state.validators_len() {
-        let stake = stakes[index as usize];
+        let stake = stake_at(state, stakes, index);
         follow(&mut rates, state, divisor, stake.effective_balance);
         match counted(state, stakes, statuses, Vote::Source, index) {
             Some(_) => {

@@ -1,6 +1,6 @@
 //! What rewards read of each validator. One pass over the registry gathers it; all later passes read this list alone.
 
-ghost use Rattle.std.specs.Prelude.{◌≡◌, ◌+◌, ◌<◌, ◌^◌, slice_get, IfOk};
+ghost use Rattle.std.specs.Prelude.{◌≡◌, ◌+◌, ◌<◌, ◌^◌, Some, length, slice_get, IfOk};
 ghost use Rattle.epoch_rewards.specs.inside.Stakes.{is_reached, stake_of, stakes_of};
 
 use balance_totals::{is_active_validator, previous_epoch};
@@ -62,4 +62,13 @@ pub(crate) fn find_stake(stakes: &[Stake], index: u64) -> Option<Stake>
     ensures { result ≡ slice_get stakes.now index }
 {
     stakes.get(index as usize).copied()
+}
+
+/// What is read of the validator with an index.
+pub(crate) fn stake_at(state: &State, stakes: &[Stake], index: u64) -> Stake
+    requires stakes { stakes.now ≡ stakes_of state.now }
+    requires inside { index < length state.now.validators }
+    ensures { slice_get (stakes_of state.now) index ≡ Some result }
+{
+    stakes[index as usize]
 }

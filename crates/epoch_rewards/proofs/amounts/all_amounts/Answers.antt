@@ -5,15 +5,8 @@ use Rattle.spec_epochs.specs.Each.{validator_indices}
 use Rattle.spec_epochs.proofs.Each.{made_ends, made_few}
 use Rattle.epoch_rewards.specs.inside.Standings.{IsStanding}
 use Rattle.epoch_rewards.proofs.Beside.{next_here, next_left}
-use Rattle.epoch_rewards.proofs.Gathered.{stake_there, within_stakes}
 use Rattle.epoch_rewards.proofs.Pushed.{pushed_more, pushed_stops}
 use Rattle.epoch_rewards.proofs.amounts.all_amounts.Goals as goal
-
-pub index-stake-requires : goal.index-stake-requires
-index-stake-requires g c = within_stakes c.args.state.now c.args.stakes.now c.loop-index.index c.requires.stakes (omega arith)
-
-pub standing_of-standing-requires-clause-stake : goal.standing_of-standing-requires-clause-stake
-standing_of-standing-requires-clause-stake g c = stake_there c.args.state.now c.args.stakes.now c.loop-index.index c.index-stake.result.now c.requires.stakes (omega arith) c.index-stake.ensures
 
 pub standing_of-standing-requires-clause-balance : goal.standing_of-standing-requires-clause-balance
 standing_of-standing-requires-clause-balance g c =

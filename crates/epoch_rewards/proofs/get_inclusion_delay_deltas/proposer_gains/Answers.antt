@@ -4,19 +4,13 @@ use Rattle.bc_words.specs.Outcome.{Stops}
 use Rattle.participation.specs.declared.matching.Vote.TheVariants.{Source}
 use Rattle.participation.specs.inside.Statuses.{flags_of, entries_of}
 use Rattle.epoch_rewards.proofs.Rated.{proposer_rated}
-use Rattle.epoch_rewards.proofs.Gathered.{stake_there, within_stakes}
 use Rattle.epoch_rewards.proofs.Included.{included_more, included_stops, included_left, included_ends}
 use Rattle.epoch_rewards.proofs.get_inclusion_delay_deltas.proposer_gains.Goals as goal
 use Rattle.epoch_rewards.proofs.get_inclusion_delay_deltas.proposer_gains.Goals.{in-Some+in-Ok, in-None}
 
-pub index-stake-requires : goal.index-stake-requires
-index-stake-requires c = within_stakes c.args.state.now c.args.stakes.now c.loop-index.index c.requires.stakes (omega arith)
-
 pub include-requires : goal.include-requires
 include-requires c =
-    let s = c.index-stake.result.now in
-    let there = stake_there c.args.state.now c.args.stakes.now c.loop-index.index s c.requires.stakes (omega arith) c.index-stake.ensures in
-    proposer_rated c.args.state.now c.loop-index.index s c.follow.new.rates there c.follow.ensures.are c.follow.ensures.of
+    proposer_rated c.args.state.now c.loop-index.index c.stake_at-stake.result c.follow.new.rates c.stake_at-stake.ensures c.follow.ensures.are c.follow.ensures.of
 
 pub returns-in-Err : goal.returns-in-Err
 returns-in-Err c =
