@@ -51,11 +51,7 @@ fn absence(state: &State, statuses: &[Status], standing: &Standing) -> Result<u6
 
 /// What an eligible validator loses in the leak, in Gwei.
 #[tactic(auto, unfolding(spec_epochs::specs::GetInactivityPenaltyDeltas::inactivity_penalty))]
-fn inactivity_penalty(
-    state: &State,
-    statuses: &[Status],
-    standing: &Standing,
-) -> Result<u64, Stop>
+fn inactivity_penalty(state: &State, statuses: &[Status], standing: &Standing) -> Result<u64, Stop>
     requires { IsStanding state.now statuses.now standing.now }
     ensures { GivesExactly result (inactivity_penalty state.now (flagged state.now (flags_of votes.Target statuses.now)) standing.now.index) }
 {

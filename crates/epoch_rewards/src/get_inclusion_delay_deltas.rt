@@ -70,11 +70,7 @@ fn after_delay(most: u64, delay: u64) -> u64
 
 /// What an attester gets for its inclusion, in Gwei, after the delay.
 #[tactic(auto, unfolding(crate::specs::inside::Inclusions::delayed_by))]
-fn delayed_reward(
-    state: &State,
-    statuses: &[Status],
-    standing: &Standing,
-) -> Result<u64, Stop>
+fn delayed_reward(state: &State, statuses: &[Status], standing: &Standing) -> Result<u64, Stop>
     requires { IsStanding state.now statuses.now standing.now }
     ensures { GivesExactly result (delayed_by state.now standing.now.index standing.now.inclusion) }
 {

@@ -40,11 +40,7 @@ fn sum_of_four(a: u64, b: u64, c: u64, d: u64) -> Result<u64, Stop>
 
 /// What a validator gains and loses by a vote.
 #[tactic(auto, unfolding(crate::specs::inside::Paid::component_delta))]
-fn component_delta(
-    state: &State,
-    voters: &Voters<'_>,
-    standing: &Standing,
-) -> Result<Delta, Stop>
+fn component_delta(state: &State, voters: &Voters<'_>, standing: &Standing) -> Result<Delta, Stop>
     requires weights { AreWeights state.now voters.now.weights }
     requires standing { IsStanding state.now voters.now.statuses.now standing.now }
     ensures { GivesExactly result (component_delta state.now (flagged state.now (flags_of voters.now.vote voters.now.statuses.now)) voters.now.weights standing.now.index) }
@@ -153,6 +149,13 @@ impl<'a> Amounts for Paid<'a> {
         let head = component_delta(state, &heads, standing)?;
         let inclusion = included.amount(state, standing)?;
         let inactivity = leak_part(state, statuses, self.target.leak, standing)?;
-        summed(source, target, head, inclusion, inactivity, standing.balance)
+        summed(
+            source,
+            target,
+            head,
+            inclusion,
+            inactivity,
+            standing.balance,
+        )
     }
 }

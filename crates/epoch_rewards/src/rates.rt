@@ -26,11 +26,7 @@ pub struct Rates {
 }
 
 /// What is reckoned of an effective balance, where the divisor is the state's.
-pub(crate) fn rates_of(
-    state: &State,
-    divisor: Result<u64, Stop>,
-    effective_balance: u64,
-) -> Rates
+pub(crate) fn rates_of(state: &State, divisor: Result<u64, Stop>, effective_balance: u64) -> Rates
     requires { GivesExactly divisor (divisor_of state.now) }
     ensures are { AreRates state.now result }
     ensures of { result.effective_balance ≡ effective_balance }
