@@ -1,7 +1,6 @@
 //! The base reward of a validator (beacon-chain.md, "get_base_reward"). Beside the state's total it depends on the effective balance
 //! alone.
 
-ghost use Rattle.std.specs.Prelude.{◌≡◌};
 ghost use Rattle.bc_words.specs.Outcome.{GivesExactly};
 ghost use Rattle.epoch_rewards.specs.inside.Divisor.{divisor_of};
 ghost use Rattle.epoch_rewards.specs.inside.Rates.{base_by_balance};

@@ -24,7 +24,7 @@ use crate::stakes::{Stake, stake_at, stakes};
 use crate::standing::Standing;
 use bc_words::{Stop, checked_add, checked_sub};
 use beacon_state::State;
-use participation::{Inclusion, Status, Vote, inclusion_at};
+use participation::{Status, Vote, inclusion_at};
 use spec_epochs::Deltas;
 use ssz_codec::Items;
 use std::alloc::Global;

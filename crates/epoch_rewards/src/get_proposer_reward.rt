@@ -1,6 +1,5 @@
 //! What goes to the proposer who includes an attestation (beacon-chain.md, "get_proposer_reward").
 
-ghost use Rattle.std.specs.Prelude.{◌≡◌};
 ghost use Rattle.bc_words.specs.Outcome.{GivesExactly};
 ghost use Rattle.epoch_rewards.specs.inside.Rates.{base_by_balance, proposer_by_balance};
 

@@ -1,7 +1,6 @@
 //! The balances of validators after all five parts of their rewards and penalties, in one pass. Each balance is made of the one
 //! before, what was gathered of the registry, how the validator attested, and the gains of the proposers.
 
-ghost use Rattle.std.specs.Prelude.{◌≡◌};
 ghost use Rattle.bc_words.specs.Outcome.{GivesExactly};
 ghost use Rattle.participation.specs.declared.matching.Vote.TheVariants as votes;
 ghost use Rattle.participation.specs.inside.Marks.{flagged};

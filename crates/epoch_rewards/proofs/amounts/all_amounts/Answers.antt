@@ -1,5 +1,5 @@
 -- One amount more, or all of them were made: as many as there are validators.
-use Rattle.std.proofs.Common.{◌≡◌, length, sym, ap, subst, ◌∙◌, arith}
+use Rattle.std.proofs.Common.{◌≡◌, length, sym, subst, ◌∙◌, arith}
 use Rattle.bc_words.specs.Outcome.{Stops, GivesExactly}
 use Rattle.spec_epochs.specs.Each.{validator_indices}
 use Rattle.spec_epochs.proofs.Each.{made_ends, made_few}
