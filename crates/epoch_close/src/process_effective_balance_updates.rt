@@ -1,6 +1,6 @@
 //! Effective balances that follow the balances (beacon-chain.md, "process_effective_balance_updates").
 
-ghost use Rattle.std.specs.Prelude.{◌≡◌, length, slice_get, Some, IfOk, OnOk};
+ghost use Rattle.std.specs.Prelude.{◌≡◌, ◌/◌, length, slice_get, Some, IfOk, OnOk};
 ghost use Rattle.bc_words.specs.Outcome.{Changes, GivesBy, GivesExactly};
 ghost use Rattle.bc_preset.specs.Presets.{IsPreset};
 ghost use Rattle.tree_nodes.specs.Changes.{AreChanges, changed};
@@ -15,19 +15,35 @@ use beacon_state::State;
 use beacon_types::Validator;
 use std::alloc::Global;
 
+/// The part of an increment by which the bounds are reckoned, in Gwei. A pass over the registry takes it once.
+#[tactic(auto, using(bc_preset::proofs::Bounds::preset_bounds))]
+fn hysteresis_increment(preset: &Preset) -> u64
+    requires { IsPreset preset.now }
+    ensures { result ≡ preset.now.effective_balance_increment / preset.now.hysteresis_quotient }
+{
+    preset.effective_balance_increment / preset.hysteresis_quotient
+}
+
 /// Whether a balance is so far below or above the effective balance that this changes. Refused as an overflow exactly
 /// where a bound that is needed does not fit.
 #[tactic(auto, unfolding(spec_epochs::specs::ProcessEffectiveBalanceUpdates::is_out_of_bounds), using(bc_preset::proofs::Bounds::preset_bounds))]
-fn is_out_of_bounds(preset: &Preset, balance: u64, effective: u64) -> Result<bool, Stop>
-    requires { IsPreset preset.now }
+fn is_out_of_bounds(
+    preset: &Preset,
+    hysteresis_increment: u64,
+    balance: u64,
+    effective: u64,
+) -> Result<bool, Stop>
+    requires preset { IsPreset preset.now }
+    requires hysteresis { hysteresis_increment ≡ preset.now.effective_balance_increment / preset.now.hysteresis_quotient }
     ensures { GivesExactly result (is_out_of_bounds preset.now balance effective) }
 {
-    let step = preset.effective_balance_increment / preset.hysteresis_quotient;
-    let with_downward = checked_add(balance, step * preset.hysteresis_downward_multiplier)?;
+    let downward = hysteresis_increment * preset.hysteresis_downward_multiplier;
+    let with_downward = checked_add(balance, downward)?;
     if with_downward < effective {
         return Ok(true);
     }
-    let with_upward = checked_add(effective, step * preset.hysteresis_upward_multiplier)?;
+    let upward = hysteresis_increment * preset.hysteresis_upward_multiplier;
+    let with_upward = checked_add(effective, upward)?;
     Ok(with_upward < balance)
 }
 
@@ -36,19 +52,26 @@ fn is_out_of_bounds(preset: &Preset, balance: u64, effective: u64) -> Result<boo
 #[tactic(auto, unfolding(spec_epochs::specs::ProcessEffectiveBalanceUpdates::updated_validator), using(bc_preset::proofs::Bounds::preset_bounds, crate::proofs::Updating::same_balance))]
 fn updated(
     state: &State,
+    hysteresis_increment: u64,
     index: u64,
     validator: &Validator,
     balance: Option<u64>,
 ) -> Result<Option<Validator>, Stop>
     requires validator { slice_get state.now.validators index ≡ Some validator.now }
     requires balance { slice_get state.now.balances index ≡ balance }
+    requires hysteresis { hysteresis_increment ≡ state.now.preset.effective_balance_increment / state.now.preset.hysteresis_quotient }
     ensures { GivesAnother validator.now result (updated_validator state.now index) }
 {
     let Some(balance) = balance else {
         return Err(Stop::Refused(Refusal::IndexRange));
     };
     let preset = state.preset();
-    if !is_out_of_bounds(preset, balance, validator.effective_balance)? {
+    if !is_out_of_bounds(
+        preset,
+        hysteresis_increment,
+        balance,
+        validator.effective_balance,
+    )? {
         return Ok(None);
     }
     let whole = balance - balance % preset.effective_balance_increment;
@@ -82,11 +105,18 @@ fn all_updated(alloc: Global, state: &State) -> Result<Vec<(u64, Validator)>, St
     ensures places { IfOk result (λ changes. AreChanges 0 (length state.now.validators) changes.items) }
 {
     let mut changes = Vec::new(alloc);
+    let hysteresis_increment = hysteresis_increment(state.preset());
     let mut balances = state.balance_list().iter();
     let validators = state.validator_list().iter();
     for (index, validator) in validators.enumerate() {
         let balance = next_balance(&mut balances);
-        let another = updated(state, index as u64, validator, balance)?;
+        let another = updated(
+            state,
+            hysteresis_increment,
+            index as u64,
+            validator,
+            balance,
+        )?;
         note(index as u64, another, &mut changes)?;
     }
     Ok(changes)

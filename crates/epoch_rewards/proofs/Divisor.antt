@@ -1,5 +1,5 @@
 -- The base reward by its divisor, which is at least 1.
-use Rattle.std.proofs.Common.{◌≡◌, ℕ, ◌/◌, ◌≤◌, ◌*◌, List, refl, sym, ap, ◌∙◌, arith}
+use Rattle.std.proofs.Common.{◌≡◌, ℕ, ◌/◌, ◌≤◌, ◌*◌, Some, slice_get, refl, sym, ap, ◌∙◌, arith}
 use Rattle.bc_words.specs.Outcome.{Outcome, done, refused, limited, bind, checked_mul}
 use Rattle.bc_words.specs.SquareRoot.{integer_squareroot}
 use Rattle.bc_words.proofs.Roots.{root_is_root}
@@ -7,12 +7,13 @@ use Rattle.bc_preset.specs.Presets.{IsPreset}
 use Rattle.bc_preset.proofs.Bounds.{preset_bounds}
 use Rattle.spec_state.specs.declared.plain.PlainState.{PlainState}
 use Rattle.spec_state.specs.Accessors.{get_total_active_balance, get_active_validator_indices, get_current_epoch}
-use Rattle.spec_blocks.specs.Checks.{item_at}
+use Rattle.spec_blocks.specs.Checks.{item_at, found}
 use Rattle.spec_epochs.specs.GetBaseReward.{get_base_reward}
 use Rattle.spec_epochs.proofs.Each.{bound_done}
 use Rattle.spec_epochs.proofs.Totals.{least_total}
 use Rattle.epoch_rewards.specs.declared.stakes.Stake.{Stake}
 use Rattle.epoch_rewards.specs.inside.Divisor.{divisor_of}
+use Rattle.epoch_rewards.specs.inside.Rates.{base_by_balance}
 use Rattle.epoch_rewards.specs.inside.Stakes.{stake_of, stakes_of}
 use Rattle.epoch_rewards.proofs.Gathered.{by_stake}
 
@@ -30,20 +31,16 @@ by_root state index (done root) = sym (by_stake state index (λ s. bind (checked
 by_root state index (refused why) = refl
 by_root state index (limited bound) = refl
 
-pub by_divisor : (state : PlainState) (index : ℕ) → get_base_reward state index ≡ bind (divisor_of state) (λ root. bind (item_at (stakes_of state) index) (λ s. bind (checked_mul s.effective_balance state.preset.base_reward_factor) (λ weighed. done (weighed / root / 4))))
+by_divisor : (state : PlainState) (index : ℕ) → get_base_reward state index ≡ bind (divisor_of state) (λ root. bind (item_at (stakes_of state) index) (λ s. bind (checked_mul s.effective_balance state.preset.base_reward_factor) (λ weighed. done (weighed / root / 4))))
 unfolding get_base_reward divisor_of over
 by_divisor state index = moved (get_total_active_balance state) (over state index) ∙ by_root state index (divisor_of state)
 
-pub base_is : (state : PlainState) (index root weighed : ℕ) (stake : Stake) (stakes : List Stake) → stakes ≡ stakes_of state → divisor_of state ≡ done root → item_at stakes index ≡ done stake
-    → checked_mul stake.effective_balance state.preset.base_reward_factor ≡ done weighed → get_base_reward state index ≡ done (weighed / root / 4)
-base_is state index root weighed stake stakes all is_root is_stake is_weighed =
-    let product = λ (s : Stake). checked_mul s.effective_balance state.preset.base_reward_factor in
-    let parts = λ (root weighed : ℕ). done (weighed / root / 4) in
+-- the base reward of a validator is that of its effective balance
+pub base_here : (state : PlainState) (index : ℕ) (s : Stake) → slice_get (stakes_of state) index ≡ Some s → get_base_reward state index ≡ base_by_balance state s.effective_balance
+unfolding base_by_balance
+base_here state index s at =
     by_divisor state index
-    ∙ (ap (λ (o : Outcome ℕ). bind o (λ root. bind (item_at (stakes_of state) index) (λ s. bind (product s) (parts root)))) is_root
-    ∙ (ap (λ (all : List Stake). bind (item_at all index) (λ s. bind (product s) (parts root))) (sym all)
-    ∙ (ap (λ (o : Outcome Stake). bind o (λ s. bind (product s) (parts root))) is_stake
-    ∙ ap (λ (o : Outcome ℕ). bind o (parts root)) is_weighed)))
+    ∙ ap (λ o. bind (divisor_of state) (λ root. bind (found o) (λ s. bind (checked_mul s.effective_balance state.preset.base_reward_factor) (λ weighed. done (weighed / root / 4))))) at
 
 pub divisor_is_some : (state : PlainState) (root : ℕ) → IsPreset state.preset → divisor_of state ≡ done root → 1 ≤ root
 unfolding divisor_of

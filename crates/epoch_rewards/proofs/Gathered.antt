@@ -1,20 +1,21 @@
 -- Gathering what is read of each validator, and what is found there.
-use Rattle.std.proofs.Common.{◌≡◌, ℕ, ◌+◌, ◌/◌, Bool, true, false, not, ◌&&◌, List, [], ◌∷◌, ◌++◌, map, get_or, Option, Some, None, slice_get, refl, sym, ap, ◌∙◌, append_assoc}
+use Rattle.std.proofs.Common.{◌≡◌, ℕ, ◌+◌, ◌<◌, Bool, true, false, not, ◌&&◌, List, [], ◌∷◌, ◌++◌, map, get_or, Option, Some, None, slice_get, length, refl, sym, ap, ◌∙◌, append_assoc, arith}
 use Rattle.std.specs.Option.{option_map}
-use Rattle.std.proofs.lemmas.List.{append-nil}
+use Rattle.std.proofs.lemmas.List.{append-nil, length-map}
 use Rattle.std.proofs.lemmas.Option.{slice_get-map}
-use Rattle.bc_words.specs.Outcome.{Outcome, done, bind, checked_mul}
+use Rattle.bc_words.specs.Outcome.{Outcome, bind}
 use Rattle.beacon_types.specs.declared.validator.Validator.{Validator}
 use Rattle.spec_state.specs.declared.plain.PlainState.{PlainState}
 use Rattle.spec_state.specs.Misc.{effective_balance}
 use Rattle.spec_state.specs.Accessors.{get_previous_epoch, indices_from}
 use Rattle.spec_blocks.specs.Checks.{item_at, found}
 use Rattle.spec_epochs.specs.Each.{is_among}
-use Rattle.spec_epochs.specs.RewardHelpers.{get_finality_delay, get_eligible_validator_indices}
+use Rattle.spec_epochs.specs.RewardHelpers.{get_eligible_validator_indices}
 use Rattle.spec_epochs.specs.GetInactivityPenaltyDeltas.{absence_penalty}
 use Rattle.participation.specs.inside.Marks.{flagged, flagged_from}
 use Rattle.participation.proofs.Weighed.{one_counts, one_slashed, one_absent, none_there, weight_read}
 use Rattle.epoch_rewards.specs.declared.stakes.Stake.{Stake}
+use Rattle.epoch_rewards.specs.inside.Rates.{absence_by_balance}
 use Rattle.epoch_rewards.specs.inside.Stakes.{is_reached, stake_of, stakes_of}
 use Rattle.epoch_rewards.proofs.Among.{found_passes, among_indices, among_filter}
 
@@ -34,6 +35,14 @@ found_mapped : {A B C : Type 0} (f : A → B) (o : Option A) (next : B → Outco
 found_mapped f None next = refl
 found_mapped f (Some x) next = refl
 
+-- one of each validator
+stakes_count : (state : PlainState) → length (stakes_of state) ≡ length state.validators
+unfolding stakes_of
+stakes_count state = length-map state.validators (stake_of (get_previous_epoch state))
+
+pub within_stakes : (state : PlainState) (stakes : List Stake) (index : ℕ) → stakes ≡ stakes_of state → index < length state.validators → index < length stakes
+within_stakes state stakes index all less = omega (arith, less, ap length all, stakes_count state)
+
 -- what is made of a validator by its stake alone
 pub by_stake : {C : Type 0} (state : PlainState) (index : ℕ) (next : Stake → Outcome C) → bind (item_at (stakes_of state) index) next ≡ bind (item_at state.validators index) (λ v. next (stake_of (get_previous_epoch state) v))
 unfolding stakes_of
@@ -41,10 +50,11 @@ by_stake state index next =
     ap (λ o. bind (found o) next) (slice_get-map (stake_of (get_previous_epoch state)) state.validators index)
     ∙ found_mapped (stake_of (get_previous_epoch state)) (slice_get state.validators index) next
 
-pub absence_by : (state : PlainState) (index : ℕ) → absence_penalty state index
-    ≡ bind (item_at (stakes_of state) index) (λ s. bind (get_finality_delay state) (λ delay. bind (checked_mul s.effective_balance delay) (λ weighed. done (weighed / state.preset.inactivity_penalty_quotient))))
-unfolding absence_penalty stake_of
-absence_by state index = sym (by_stake state index (λ s. bind (get_finality_delay state) (λ delay. bind (checked_mul s.effective_balance delay) (λ weighed. done (weighed / state.preset.inactivity_penalty_quotient)))))
+pub absence_here : (state : PlainState) (index : ℕ) (s : Stake) → slice_get (stakes_of state) index ≡ Some s → absence_penalty state index ≡ absence_by_balance state s.effective_balance
+unfolding absence_penalty absence_by_balance stake_of
+absence_here state index s at =
+    let rest = λ (s : Stake). absence_by_balance state s.effective_balance in
+    sym (by_stake state index rest) ∙ ap (λ o. bind (found o) rest) at
 
 -- ---- who is eligible, and who attested, by its stake
 
@@ -52,11 +62,6 @@ eligible_by : (previous : ℕ) (o : Option Validator) (s : Stake) → Some s ≡
 unfolding stake_of found_passes
 eligible_by previous None s e = absurd cc
 eligible_by previous (Some v) s e = let same : stake_of previous v ≡ s = cc in ap (λ x. x.eligible) same
-
-not_there : (previous : ℕ) (test : Validator → Bool) (o : Option Validator) → None ≡ option_map (stake_of previous) o → found_passes test o ≡ false
-unfolding found_passes
-not_there previous test None e = refl
-not_there previous test (Some v) e = absurd cc
 
 unslashed_by : (previous : ℕ) (o : Option Validator) (s : Stake) → Some s ≡ option_map (stake_of previous) o → found_passes (λ v. not v.slashed) o ≡ not s.slashed
 unfolding stake_of found_passes
@@ -67,41 +72,26 @@ read_at : (state : PlainState) (index : ℕ) → slice_get (stakes_of state) ind
 unfolding stakes_of
 read_at state index = slice_get-map (stake_of (get_previous_epoch state)) state.validators index
 
-pub eligible_some : (state : PlainState) (stakes : List Stake) (index : ℕ) (s : Stake) → stakes ≡ stakes_of state → Some s ≡ slice_get stakes index → is_among index (get_eligible_validator_indices state) ≡ s.eligible
+pub eligible_here : (state : PlainState) (index : ℕ) (s : Stake) → slice_get (stakes_of state) index ≡ Some s → is_among index (get_eligible_validator_indices state) ≡ s.eligible
 unfolding get_eligible_validator_indices is_reached
-eligible_some state stakes index s all at =
+eligible_here state index s at =
     among_indices (is_reached (get_previous_epoch state)) index state.validators
-    ∙ eligible_by (get_previous_epoch state) (slice_get state.validators index) s (at ∙ ap (λ ss. slice_get ss index) all ∙ read_at state index)
+    ∙ eligible_by (get_previous_epoch state) (slice_get state.validators index) s (sym at ∙ read_at state index)
 
-pub eligible_none : (state : PlainState) (stakes : List Stake) (index : ℕ) → stakes ≡ stakes_of state → None ≡ slice_get stakes index → is_among index (get_eligible_validator_indices state) ≡ false
-unfolding get_eligible_validator_indices is_reached
-eligible_none state stakes index all at =
-    among_indices (is_reached (get_previous_epoch state)) index state.validators
-    ∙ not_there (get_previous_epoch state) (is_reached (get_previous_epoch state)) (slice_get state.validators index) (at ∙ ap (λ ss. slice_get ss index) all ∙ read_at state index)
-
-attester_some : (state : PlainState) (stakes : List Stake) (flags : List Bool) (index : ℕ) (s : Stake) → stakes ≡ stakes_of state → Some s ≡ slice_get stakes index → is_among index (flagged state flags) ≡ (not s.slashed && get_or flags index false)
+attester_here : (state : PlainState) (flags : List Bool) (index : ℕ) (s : Stake) → slice_get (stakes_of state) index ≡ Some s → is_among index (flagged state flags) ≡ (not s.slashed && get_or flags index false)
 unfolding flagged flagged_from
-attester_some state stakes flags index s all at =
+attester_here state flags index s at =
     among_filter (λ i. get_or flags i false) (indices_from (λ v. not v.slashed) 0 state.validators) index
     ∙ ap (λ b. b && get_or flags index false) (among_indices (λ v. not v.slashed) index state.validators
-    ∙ unslashed_by (get_previous_epoch state) (slice_get state.validators index) s (at ∙ ap (λ ss. slice_get ss index) all ∙ read_at state index))
+    ∙ unslashed_by (get_previous_epoch state) (slice_get state.validators index) s (sym at ∙ read_at state index))
 
-pub attester_slashed : (state : PlainState) (stakes : List Stake) (flags : List Bool) (index : ℕ) (s : Stake) → stakes ≡ stakes_of state → Some s ≡ slice_get stakes index → s.slashed ≡ true → is_among index (flagged state flags) ≡ false
-attester_slashed state stakes flags index s all at slashed = attester_some state stakes flags index s all at ∙ ap (λ (b : Bool). not b && get_or flags index false) slashed
+pub attester_slashed : (state : PlainState) (flags : List Bool) (index : ℕ) (s : Stake) → slice_get (stakes_of state) index ≡ Some s → s.slashed ≡ true → is_among index (flagged state flags) ≡ false
+attester_slashed state flags index s at slashed = attester_here state flags index s at ∙ ap (λ (b : Bool). not b && get_or flags index false) slashed
 
-pub attester_unslashed : (state : PlainState) (stakes : List Stake) (flags : List Bool) (index : ℕ) (s : Stake) → stakes ≡ stakes_of state → Some s ≡ slice_get stakes index → s.slashed ≡ false → is_among index (flagged state flags) ≡ get_or flags index false
-attester_unslashed state stakes flags index s all at unslashed = attester_some state stakes flags index s all at ∙ ap (λ (b : Bool). not b && get_or flags index false) unslashed
+pub attester_unslashed : (state : PlainState) (flags : List Bool) (index : ℕ) (s : Stake) → slice_get (stakes_of state) index ≡ Some s → s.slashed ≡ false → is_among index (flagged state flags) ≡ get_or flags index false
+attester_unslashed state flags index s at unslashed = attester_here state flags index s at ∙ ap (λ (b : Bool). not b && get_or flags index false) unslashed
 
-pub attester_none : (state : PlainState) (stakes : List Stake) (flags : List Bool) (index : ℕ) → stakes ≡ stakes_of state → None ≡ slice_get stakes index → is_among index (flagged state flags) ≡ false
-unfolding flagged flagged_from
-attester_none state stakes flags index all at =
-    among_filter (λ i. get_or flags i false) (indices_from (λ v. not v.slashed) 0 state.validators) index
-    ∙ ap (λ b. b && get_or flags index false) (among_indices (λ v. not v.slashed) index state.validators
-    ∙ not_there (get_previous_epoch state) (λ v. not v.slashed) (slice_get state.validators index) (at ∙ ap (λ ss. slice_get ss index) all ∙ read_at state index))
-
-pub ruleset eligibility = (eligible_some, eligible_none)
-
-pub ruleset attestation = (attester_slashed, attester_unslashed, attester_none)
+pub ruleset attestation = (attester_slashed, attester_unslashed)
 
 -- ---- those whose flag is set, from an index on
 

@@ -1,6 +1,7 @@
 pub mod Among
 pub mod Gathered
 pub mod Divisor
+pub mod Rated
 pub mod Components
 pub mod Included
 pub mod Nothing

@@ -4,4 +4,6 @@ pub mod Divisor
 pub mod Components
 pub mod Inclusions
 pub mod Leak
+pub mod Rates
+pub mod Standings
 pub mod Paid

@@ -16,6 +16,7 @@ use crate::attesting_balance::attesting_balance;
 use crate::get_eligible_validator_indices::{is_attester, is_eligible};
 use crate::is_in_inactivity_leak::is_in_inactivity_leak;
 use crate::stakes::Stake;
+use crate::standing::Standing;
 use balance_totals::{current_epoch, total_active};
 use bc_words::{Stop, checked_mul, isqrt};
 use beacon_state::State;
@@ -90,21 +91,16 @@ pub struct Voters<'a> {
 impl<'a> Amounts for Voters<'a> {
     ghost are_of = { λ v state. AreWeights state v.weights };
 
+    ghost table_of = { λ v. v.statuses.now };
+
     ghost amount_of = { λ v state. component_reward state (flagged state (flags_of v.vote v.statuses.now)) v.weights.leak v.weights.attesting v.weights.total };
 
     #[tactic(auto, unfolding(crate::specs::inside::Components::component_reward))]
-    fn amount(
-        &self,
-        state: &State,
-        stakes: &[Stake],
-        base: Result<u64, Stop>,
-        index: u64,
-        _balance: Option<u64>,
-    ) -> Result<u64, Stop> {
-        if is_eligible(state, stakes, index)
-            && is_attester(state, stakes, self.statuses, self.vote, index)
+    fn amount(&self, state: &State, standing: &Standing) -> Result<u64, Stop> {
+        if is_eligible(state, self.statuses, standing)
+            && is_attester(state, self.statuses, self.vote, standing)
         {
-            return attester_reward(state, &self.weights, base, index);
+            return attester_reward(state, &self.weights, standing.rates.base, standing.index);
         }
         Ok(0)
     }
@@ -122,21 +118,16 @@ pub struct Absence<'a> {
 impl<'a> Amounts for Absence<'a> {
     ghost are_of = { λ _ _. Unit {0} };
 
+    ghost table_of = { λ v. v.statuses.now };
+
     ghost amount_of = { λ v state. component_penalty state (flagged state (flags_of v.vote v.statuses.now)) };
 
     #[tactic(auto, unfolding(crate::specs::inside::Components::component_penalty))]
-    fn amount(
-        &self,
-        state: &State,
-        stakes: &[Stake],
-        base: Result<u64, Stop>,
-        index: u64,
-        _balance: Option<u64>,
-    ) -> Result<u64, Stop> {
-        if is_eligible(state, stakes, index)
-            && !is_attester(state, stakes, self.statuses, self.vote, index)
+    fn amount(&self, state: &State, standing: &Standing) -> Result<u64, Stop> {
+        if is_eligible(state, self.statuses, standing)
+            && !is_attester(state, self.statuses, self.vote, standing)
         {
-            return base;
+            return standing.rates.base;
         }
         Ok(0)
     }
@@ -183,8 +174,9 @@ pub(crate) fn get_attestation_component_deltas(
         vote,
         weights,
     };
-    let rewards = all_amounts(alloc, state, stakes, divisor, &voters)?;
-    let penalties = all_amounts(alloc, state, stakes, divisor, &Absence { statuses, vote })?;
+    let absence = Absence { statuses, vote };
+    let rewards = all_amounts(alloc, state, stakes, statuses, divisor, &voters)?;
+    let penalties = all_amounts(alloc, state, stakes, statuses, divisor, &absence)?;
     Ok(Deltas {
         rewards: Items::from_vec(rewards),
         penalties: Items::from_vec(penalties),

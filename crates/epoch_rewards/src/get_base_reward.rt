@@ -1,12 +1,10 @@
-//! The base reward of a validator (beacon-chain.md, "get_base_reward").
+//! The base reward of a validator (beacon-chain.md, "get_base_reward"). Beside the state's total it depends on the effective balance
+//! alone.
 
-ghost use Rattle.std.specs.Prelude.{◌≡◌};
 ghost use Rattle.bc_words.specs.Outcome.{GivesExactly};
-ghost use Rattle.spec_epochs.specs.GetBaseReward.{get_base_reward};
 ghost use Rattle.epoch_rewards.specs.inside.Divisor.{divisor_of};
-ghost use Rattle.epoch_rewards.specs.inside.Stakes.{stakes_of};
+ghost use Rattle.epoch_rewards.specs.inside.Rates.{base_by_balance};
 
-use crate::stakes::{Stake, stake_at};
 use balance_totals::{current_epoch, total_active};
 use bc_words::{Stop, checked_mul, isqrt};
 use beacon_state::State;
@@ -21,20 +19,17 @@ pub(crate) fn divisor(state: &State) -> Result<u64, Stop>
     Ok(isqrt(total))
 }
 
-/// The base reward of a validator, in Gwei (beacon-chain.md, `get_base_reward`). The stakes are the state's.
-#[tactic(auto, using(crate::proofs::Divisor::by_divisor, crate::proofs::Divisor::divisor_is_some))]
+/// The base reward of a validator, in Gwei (beacon-chain.md, `get_base_reward`), by its effective balance.
+#[tactic(auto, unfolding(crate::specs::inside::Rates::base_by_balance), using(crate::proofs::Divisor::divisor_is_some))]
 pub(crate) fn get_base_reward(
     state: &State,
-    stakes: &[Stake],
     divisor: Result<u64, Stop>,
-    index: u64,
+    effective_balance: u64,
 ) -> Result<u64, Stop>
-    requires stakes { stakes.now ≡ stakes_of state.now }
     requires divisor { GivesExactly divisor (divisor_of state.now) }
-    ensures { GivesExactly result (get_base_reward state.now index) }
+    ensures { GivesExactly result (base_by_balance state.now effective_balance) }
 {
     let root = divisor?;
-    let stake = stake_at(stakes, index)?;
-    let weighed = checked_mul(stake.effective_balance, state.preset().base_reward_factor)?;
+    let weighed = checked_mul(effective_balance, state.preset().base_reward_factor)?;
     Ok(weighed / root / 4)
 }

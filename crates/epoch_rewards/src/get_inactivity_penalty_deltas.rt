@@ -7,8 +7,9 @@ ghost use Rattle.spec_epochs.specs.GetInactivityPenaltyDeltas.{absence_penalty, 
 ghost use Rattle.participation.specs.declared.matching.Vote.TheVariants as votes;
 ghost use Rattle.participation.specs.inside.Marks.{flagged};
 ghost use Rattle.participation.specs.inside.Statuses.{flags_of, statuses_of};
-ghost use Rattle.spec_epochs.specs.GetBaseReward.{get_base_reward};
 ghost use Rattle.epoch_rewards.specs.inside.Stakes.{stakes_of};
+ghost use Rattle.epoch_rewards.specs.inside.Rates.{absence_by_balance};
+ghost use Rattle.epoch_rewards.specs.inside.Standings.{IsStanding};
 ghost use Rattle.epoch_rewards.specs.inside.Leak.{leak_penalty, penalties_of, leak_deltas};
 ghost use Rattle.spec_state.specs.Accessors.{get_previous_epoch};
 
@@ -16,10 +17,10 @@ use crate::amounts::{Amounts, all_amounts};
 use crate::get_base_reward::divisor;
 use crate::get_eligible_validator_indices::{is_attester, is_eligible};
 use crate::get_finality_delay::get_finality_delay;
-use crate::get_proposer_reward::get_proposer_reward;
 use crate::is_in_inactivity_leak::is_in_inactivity_leak;
 use crate::numbers::zeros;
-use crate::stakes::{Stake, stake_at, stakes};
+use crate::stakes::{Stake, stakes};
+use crate::standing::Standing;
 use bc_words::{Stop, checked_add, checked_mul, checked_sub};
 use beacon_state::State;
 use participation::{Status, Vote};
@@ -27,47 +28,38 @@ use spec_epochs::Deltas;
 use ssz_codec::Items;
 use std::alloc::Global;
 
-/// What a validator that didn't attest to the target loses besides, in Gwei.
-#[tactic(auto, using(crate::proofs::Gathered::absence_by, bc_preset::proofs::Bounds::preset_bounds))]
-fn absence_penalty(state: &State, stakes: &[Stake], index: u64) -> Result<u64, Stop>
-    requires { stakes.now ≡ stakes_of state.now }
-    ensures { GivesExactly result (absence_penalty state.now index) }
+/// What a validator that didn't attest to the target loses besides, in Gwei, by its effective balance.
+#[tactic(auto, unfolding(crate::specs::inside::Rates::absence_by_balance), using(bc_preset::proofs::Bounds::preset_bounds))]
+pub(crate) fn absence_penalty(state: &State, effective_balance: u64) -> Result<u64, Stop>
+    ensures { GivesExactly result (absence_by_balance state.now effective_balance) }
 {
-    let stake = stake_at(stakes, index)?;
     let delay = get_finality_delay(state)?;
-    let weighed = checked_mul(stake.effective_balance, delay)?;
+    let weighed = checked_mul(effective_balance, delay)?;
     Ok(weighed / state.preset().inactivity_penalty_quotient)
 }
 
 /// What a validator loses for its absence, in Gwei: nothing, where it attested to the target.
-fn absence(state: &State, stakes: &[Stake], statuses: &[Status], index: u64) -> Result<u64, Stop>
-    requires { stakes.now ≡ stakes_of state.now }
-    ensures { GivesExactly result (if is_among index (flagged state.now (flags_of votes.Target statuses.now)) then done 0 else absence_penalty state.now index) }
+fn absence(state: &State, statuses: &[Status], standing: &Standing) -> Result<u64, Stop>
+    requires { IsStanding state.now statuses.now standing.now }
+    ensures { let index = standing.now.index in GivesExactly result (if is_among index (flagged state.now (flags_of votes.Target statuses.now)) then done 0 else absence_penalty state.now index) }
 {
-    if is_attester(state, stakes, statuses, Vote::Target, index) {
+    if is_attester(state, statuses, Vote::Target, standing) {
         return Ok(0);
     }
-    absence_penalty(state, stakes, index)
+    standing.rates.absence
 }
 
 /// What an eligible validator loses in the leak, in Gwei.
 #[tactic(auto, unfolding(spec_epochs::specs::GetInactivityPenaltyDeltas::inactivity_penalty))]
-fn inactivity_penalty(
-    state: &State,
-    stakes: &[Stake],
-    base: Result<u64, Stop>,
-    statuses: &[Status],
-    index: u64,
-) -> Result<u64, Stop>
-    requires stakes { stakes.now ≡ stakes_of state.now }
-    requires base { GivesExactly base (get_base_reward state.now index) }
-    ensures { GivesExactly result (inactivity_penalty state.now (flagged state.now (flags_of votes.Target statuses.now)) index) }
+fn inactivity_penalty(state: &State, statuses: &[Status], standing: &Standing) -> Result<u64, Stop>
+    requires { IsStanding state.now statuses.now standing.now }
+    ensures { GivesExactly result (inactivity_penalty state.now (flagged state.now (flags_of votes.Target statuses.now)) standing.now.index) }
 {
-    let whole = base?;
-    let proposer = get_proposer_reward(state, base, index)?;
+    let whole = standing.rates.base?;
+    let proposer = standing.rates.proposer?;
     let all = checked_mul(4, whole)?;
     let penalty = checked_sub(all, proposer)?;
-    let more = absence(state, stakes, statuses, index)?;
+    let more = absence(state, statuses, standing)?;
     checked_add(penalty, more)
 }
 
@@ -81,21 +73,16 @@ pub struct Leak<'a> {
 impl<'a> Amounts for Leak<'a> {
     ghost are_of = { λ _ _. Unit {0} };
 
+    ghost table_of = { λ v. v.statuses.now };
+
     ghost amount_of = { λ v state. leak_penalty state (flagged state (flags_of votes.Target v.statuses.now)) };
 
     #[tactic(auto, unfolding(crate::specs::inside::Leak::leak_penalty))]
-    fn amount(
-        &self,
-        state: &State,
-        stakes: &[Stake],
-        base: Result<u64, Stop>,
-        index: u64,
-        _balance: Option<u64>,
-    ) -> Result<u64, Stop> {
-        if !is_eligible(state, stakes, index) {
+    fn amount(&self, state: &State, standing: &Standing) -> Result<u64, Stop> {
+        if !is_eligible(state, self.statuses, standing) {
             return Ok(0);
         }
-        inactivity_penalty(state, stakes, base, self.statuses, index)
+        inactivity_penalty(state, self.statuses, standing)
     }
 }
 
@@ -112,7 +99,8 @@ fn penalties_of(
     ensures { GivesBy (λ penalties. penalties.items) result (penalties_of state.now leak (flagged state.now (flags_of votes.Target statuses.now))) }
 {
     if leak {
-        return all_amounts(alloc, state, stakes, divisor(state), &Leak { statuses });
+        let divisor = divisor(state);
+        return all_amounts(alloc, state, stakes, statuses, divisor, &Leak { statuses });
     }
     let penalties = zeros(alloc, state)?;
     Ok(penalties)

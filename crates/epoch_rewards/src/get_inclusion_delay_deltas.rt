@@ -6,8 +6,9 @@ ghost use Rattle.bc_words.specs.Outcome.{GivesExactly, Moves, bind, done, checke
 ghost use Rattle.participation.specs.declared.matching.Vote.TheVariants as votes;
 ghost use Rattle.participation.specs.inside.Marks.{flagged};
 ghost use Rattle.participation.specs.inside.Statuses.{flags_of, entries_of, statuses_of};
-ghost use Rattle.spec_epochs.specs.GetBaseReward.{get_base_reward};
+ghost use Rattle.spec_epochs.specs.RewardHelpers.{get_proposer_reward};
 ghost use Rattle.epoch_rewards.specs.inside.Stakes.{stakes_of};
+ghost use Rattle.epoch_rewards.specs.inside.Standings.{IsStanding};
 ghost use Rattle.epoch_rewards.specs.inside.Inclusions.{entry_at, included, delayed_by, own_reward, joined_reward, all_gains, all_joined, joined_deltas};
 ghost use Rattle.spec_state.specs.Accessors.{get_previous_epoch};
 ghost use Rattle.spec_state.specs.Soundness.{IsSoundWithinEpoch};
@@ -15,14 +16,15 @@ ghost use Rattle.spec_epochs.specs.GetInclusionDelayDeltas.{get_inclusion_delay_
 ghost use Rattle.epoch_rewards.specs.inside.Divisor.{divisor_of};
 
 use crate::amounts::{Amounts, all_amounts};
-use crate::get_base_reward::{divisor, get_base_reward};
+use crate::get_base_reward::divisor;
 use crate::get_eligible_validator_indices::{counted, is_attester};
-use crate::get_proposer_reward::get_proposer_reward;
 use crate::numbers::{number_at, zeros};
-use crate::stakes::{Stake, stakes};
+use crate::rates::{follow, rates_of};
+use crate::stakes::{Stake, stake_at, stakes};
+use crate::standing::Standing;
 use bc_words::{Stop, checked_add, checked_sub};
 use beacon_state::State;
-use participation::{Inclusion, Status, Vote, inclusion_at};
+use participation::{Status, Vote, inclusion_at};
 use spec_epochs::Deltas;
 use ssz_codec::Items;
 use std::alloc::Global;
@@ -38,21 +40,21 @@ fn add_gain(gains: &mut Vec<u64>, index: u64, reward: u64) -> Result<(), Stop>
     Ok(())
 }
 
-/// Adds the gain of the proposer who included an attester, whose base reward is known, or why it has none.
+/// Adds the gain of the proposer who included an attester, where what goes to that proposer is known, or why there is nothing to go.
 #[tactic(auto, unfolding(crate::specs::inside::Inclusions::included))]
 pub(crate) fn include(
     gains: &mut Vec<u64>,
     state: &State,
-    base: Result<u64, Stop>,
+    proposer: Result<u64, Stop>,
     statuses: &[Status],
     attester: u64,
 ) -> Result<(), Stop>
-    requires { GivesExactly base (get_base_reward state.now attester) }
+    requires { GivesExactly proposer (get_proposer_reward state.now attester) }
     ensures { Moves result gains.new.items (included state.now attester (entry_at (entries_of statuses.now) attester) gains.old.items) }
 {
     match inclusion_at(statuses, attester) {
         Some(inclusion) => {
-            let reward = get_proposer_reward(state, base, attester)?;
+            let reward = proposer?;
             add_gain(gains, inclusion.proposer, reward)
         }
         None => Ok(()),
@@ -66,21 +68,16 @@ fn after_delay(most: u64, delay: u64) -> u64
     most.checked_div(delay).unwrap_or(0)
 }
 
-/// What an attester gets for an inclusion, in Gwei, after its delay, where its base reward is known, or why it has none.
+/// What an attester gets for its inclusion, in Gwei, after the delay.
 #[tactic(auto, unfolding(crate::specs::inside::Inclusions::delayed_by))]
-fn delayed_reward(
-    state: &State,
-    base: Result<u64, Stop>,
-    index: u64,
-    inclusion: Option<Inclusion>,
-) -> Result<u64, Stop>
-    requires { GivesExactly base (get_base_reward state.now index) }
-    ensures { GivesExactly result (delayed_by state.now index inclusion) }
+fn delayed_reward(state: &State, statuses: &[Status], standing: &Standing) -> Result<u64, Stop>
+    requires { IsStanding state.now statuses.now standing.now }
+    ensures { GivesExactly result (delayed_by state.now standing.now.index standing.now.inclusion) }
 {
-    match inclusion {
+    match standing.inclusion {
         Some(inclusion) => {
-            let whole = base?;
-            let proposer = get_proposer_reward(state, base, index)?;
+            let whole = standing.rates.base?;
+            let proposer = standing.rates.proposer?;
             let most = checked_sub(whole, proposer)?;
             Ok(after_delay(most, inclusion.delay))
         }
@@ -90,21 +87,14 @@ fn delayed_reward(
 
 /// What a validator gets as an attester, in Gwei, where it is one.
 #[tactic(auto, unfolding(crate::specs::inside::Inclusions::own_reward))]
-fn own_reward(
-    state: &State,
-    stakes: &[Stake],
-    base: Result<u64, Stop>,
-    statuses: &[Status],
-    index: u64,
-) -> Result<u64, Stop>
-    requires stakes { stakes.now ≡ stakes_of state.now }
-    requires base { GivesExactly base (get_base_reward state.now index) }
-    ensures { GivesExactly result (own_reward state.now (entries_of statuses.now) (flagged state.now (flags_of votes.Source statuses.now)) index) }
+fn own_reward(state: &State, statuses: &[Status], standing: &Standing) -> Result<u64, Stop>
+    requires { IsStanding state.now statuses.now standing.now }
+    ensures { GivesExactly result (own_reward state.now (entries_of statuses.now) (flagged state.now (flags_of votes.Source statuses.now)) standing.now.index) }
 {
-    if !is_attester(state, stakes, statuses, Vote::Source, index) {
+    if !is_attester(state, statuses, Vote::Source, standing) {
         return Ok(0);
     }
-    delayed_reward(state, base, index, inclusion_at(statuses, index))
+    delayed_reward(state, statuses, standing)
 }
 
 /// Who attested, each one's inclusion, and the gains of proposers. The amounts are what each gets as a proposer and as an
@@ -120,19 +110,14 @@ pub struct Included<'a> {
 impl<'a> Amounts for Included<'a> {
     ghost are_of = { λ _ _. Unit {0} };
 
+    ghost table_of = { λ i. i.statuses.now };
+
     ghost amount_of = { λ i state. joined_reward state (entries_of i.statuses.now) (flagged state (flags_of votes.Source i.statuses.now)) i.gains.now };
 
     #[tactic(auto, unfolding(crate::specs::inside::Inclusions::joined_reward))]
-    fn amount(
-        &self,
-        state: &State,
-        stakes: &[Stake],
-        base: Result<u64, Stop>,
-        index: u64,
-        _balance: Option<u64>,
-    ) -> Result<u64, Stop> {
-        let own = own_reward(state, stakes, base, self.statuses, index)?;
-        checked_add(number_at(self.gains, index), own)
+    fn amount(&self, state: &State, standing: &Standing) -> Result<u64, Stop> {
+        let own = own_reward(state, self.statuses, standing)?;
+        checked_add(number_at(self.gains, standing.index), own)
     }
 }
 
@@ -150,11 +135,13 @@ pub(crate) fn proposer_gains(
     ensures { GivesBy (λ gains. gains.items) result (all_gains state.now (entries_of statuses.now) (flagged state.now (flags_of votes.Source statuses.now))) }
 {
     let mut gains = zeros(alloc, state)?;
+    let mut rates = rates_of(state, divisor, state.preset().max_effective_balance);
     for index in 0..state.validators_len() {
+        let stake = stake_at(state, stakes, index);
+        follow(&mut rates, state, divisor, stake.effective_balance);
         match counted(state, stakes, statuses, Vote::Source, index) {
             Some(_) => {
-                let base = get_base_reward(state, stakes, divisor, index);
-                match include(&mut gains, state, base, statuses, index) {
+                match include(&mut gains, state, rates.proposer, statuses, index) {
                     Ok(()) => {}
                     Err(stop) => return Err(stop),
                 }
@@ -182,7 +169,7 @@ fn inclusion_rewards(
         statuses,
         gains: &gains,
     };
-    all_amounts(alloc, state, stakes, divisor, &included)
+    all_amounts(alloc, state, stakes, statuses, divisor, &included)
 }
 
 /// Rewards and penalties by those who attested, the slashed aside, and by their inclusions.

@@ -3,8 +3,9 @@
 //! States come from epoch processing, behind justification, and go on to the registry with their balances changed. How each
 //! validator attested stands in a table (`participation`), and what is read of the registry is gathered in one pass (`stakes`).
 //! What a validator gains, loses or has left is an amount (`amounts`), reckoned in the file of the published function that it
-//! belongs to. All five parts are then paid in one pass over what was gathered; each is a call of its own too, by the same
-//! amounts. A file has the name of the published function that it holds.
+//! belongs to. It is reckoned by how the validator stands (`standing`), which is looked up once, and by what its effective balance
+//! brings (`rates`), which is kept while that is the same. All five parts are then paid in one pass over what was gathered; each is
+//! a call of its own too, by the same amounts. A file has the name of the published function that it holds.
 #![tactic(auto)]
 
 mod amounts;
@@ -23,7 +24,9 @@ mod is_in_inactivity_leak;
 mod numbers;
 mod paid;
 mod process_rewards_and_penalties;
+mod rates;
 mod stakes;
+mod standing;
 mod vote_deltas;
 
 pub use get_head_deltas::head_deltas;

@@ -1,13 +1,11 @@
 //! The balances of validators after all five parts of their rewards and penalties, in one pass. Each balance is made of the one
 //! before, what was gathered of the registry, how the validator attested, and the gains of the proposers.
 
-ghost use Rattle.std.specs.Prelude.{◌≡◌, slice_get};
 ghost use Rattle.bc_words.specs.Outcome.{GivesExactly};
-ghost use Rattle.spec_epochs.specs.GetBaseReward.{get_base_reward};
 ghost use Rattle.participation.specs.declared.matching.Vote.TheVariants as votes;
 ghost use Rattle.participation.specs.inside.Marks.{flagged};
 ghost use Rattle.participation.specs.inside.Statuses.{flags_of, entries_of};
-ghost use Rattle.epoch_rewards.specs.inside.Stakes.{stakes_of};
+ghost use Rattle.epoch_rewards.specs.inside.Standings.{IsStanding};
 ghost use Rattle.epoch_rewards.specs.inside.Components.{AreWeights};
 ghost use Rattle.epoch_rewards.specs.inside.Paid.{sum_of_four, component_delta, leak_part, settled, summed, paid_balance};
 
@@ -15,7 +13,7 @@ use crate::amounts::Amounts;
 use crate::get_attestation_component_deltas::{Absence, Voters, Weights};
 use crate::get_inactivity_penalty_deltas::Leak;
 use crate::get_inclusion_delay_deltas::Included;
-use crate::stakes::Stake;
+use crate::standing::Standing;
 use bc_words::{Refusal, Stop, checked_add};
 use beacon_state::State;
 use participation::{Status, Vote};
@@ -39,28 +37,19 @@ fn sum_of_four(a: u64, b: u64, c: u64, d: u64) -> Result<u64, Stop>
     checked_add(three, d)
 }
 
-/// What a validator gains and loses by a vote, where its base reward is known, or why it has none.
+/// What a validator gains and loses by a vote.
 #[tactic(auto, unfolding(crate::specs::inside::Paid::component_delta))]
-fn component_delta(
-    state: &State,
-    stakes: &[Stake],
-    voters: &Voters<'_>,
-    base: Result<u64, Stop>,
-    index: u64,
-    balance: Option<u64>,
-) -> Result<Delta, Stop>
-    requires stakes { stakes.now ≡ stakes_of state.now }
+fn component_delta(state: &State, voters: &Voters<'_>, standing: &Standing) -> Result<Delta, Stop>
     requires weights { AreWeights state.now voters.now.weights }
-    requires base { GivesExactly base (get_base_reward state.now index) }
-    requires balance { slice_get state.now.balances index ≡ balance }
-    ensures { GivesExactly result (component_delta state.now (flagged state.now (flags_of voters.now.vote voters.now.statuses.now)) voters.now.weights index) }
+    requires standing { IsStanding state.now voters.now.statuses.now standing.now }
+    ensures { GivesExactly result (component_delta state.now (flagged state.now (flags_of voters.now.vote voters.now.statuses.now)) voters.now.weights standing.now.index) }
 {
     let absence = Absence {
         statuses: voters.statuses,
         vote: voters.vote,
     };
-    let reward = voters.amount(state, stakes, base, index, balance)?;
-    let penalty = absence.amount(state, stakes, base, index, balance)?;
+    let reward = voters.amount(state, standing)?;
+    let penalty = absence.amount(state, standing)?;
     Ok(Delta { reward, penalty })
 }
 
@@ -68,20 +57,15 @@ fn component_delta(
 #[tactic(auto, unfolding(crate::specs::inside::Paid::leak_part))]
 fn leak_part(
     state: &State,
-    stakes: &[Stake],
     statuses: &[Status],
     leak: bool,
-    base: Result<u64, Stop>,
-    index: u64,
-    balance: Option<u64>,
+    standing: &Standing,
 ) -> Result<u64, Stop>
-    requires stakes { stakes.now ≡ stakes_of state.now }
-    requires base { GivesExactly base (get_base_reward state.now index) }
-    requires balance { slice_get state.now.balances index ≡ balance }
-    ensures { GivesExactly result (leak_part state.now leak (flagged state.now (flags_of votes.Target statuses.now)) index) }
+    requires { IsStanding state.now statuses.now standing.now }
+    ensures { GivesExactly result (leak_part state.now leak (flagged state.now (flags_of votes.Target statuses.now)) standing.now.index) }
 {
     if leak {
-        return Leak { statuses }.amount(state, stakes, base, index, balance);
+        return Leak { statuses }.amount(state, standing);
     }
     Ok(0)
 }
@@ -115,8 +99,7 @@ fn summed(
     settled(balance, rewards, penalties)
 }
 
-/// What decides the balances of validators after their rewards and penalties. The amounts are these balances. The base reward of
-/// a validator is taken once.
+/// What decides the balances of validators after their rewards and penalties. The amounts are these balances.
 #[derive(Clone, Copy)]
 pub struct Paid<'a> {
     /// How each validator attested.
@@ -134,17 +117,12 @@ pub struct Paid<'a> {
 impl<'a> Amounts for Paid<'a> {
     ghost are_of = { λ p state. AreWeights state p.source × AreWeights state p.target × AreWeights state p.head };
 
+    ghost table_of = { λ p. p.statuses.now };
+
     ghost amount_of = { λ p state. paid_balance state (flagged state (flags_of votes.Source p.statuses.now)) (flagged state (flags_of votes.Target p.statuses.now)) (flagged state (flags_of votes.Head p.statuses.now)) p.source p.target p.head (entries_of p.statuses.now) p.gains.now };
 
     #[tactic(auto, unfolding(crate::specs::inside::Paid::paid_balance))]
-    fn amount(
-        &self,
-        state: &State,
-        stakes: &[Stake],
-        base: Result<u64, Stop>,
-        index: u64,
-        balance: Option<u64>,
-    ) -> Result<u64, Stop> {
+    fn amount(&self, state: &State, standing: &Standing) -> Result<u64, Stop> {
         let statuses = self.statuses;
         let sources = Voters {
             statuses,
@@ -165,19 +143,18 @@ impl<'a> Amounts for Paid<'a> {
             statuses,
             gains: self.gains,
         };
-        let source = component_delta(state, stakes, &sources, base, index, balance)?;
-        let target = component_delta(state, stakes, &targets, base, index, balance)?;
-        let head = component_delta(state, stakes, &heads, base, index, balance)?;
-        let inclusion = included.amount(state, stakes, base, index, balance)?;
-        let inactivity = leak_part(
-            state,
-            stakes,
-            statuses,
-            self.target.leak,
-            base,
-            index,
-            balance,
-        )?;
-        summed(source, target, head, inclusion, inactivity, balance)
+        let source = component_delta(state, &sources, standing)?;
+        let target = component_delta(state, &targets, standing)?;
+        let head = component_delta(state, &heads, standing)?;
+        let inclusion = included.amount(state, standing)?;
+        let inactivity = leak_part(state, statuses, self.target.leak, standing)?;
+        summed(
+            source,
+            target,
+            head,
+            inclusion,
+            inactivity,
+            standing.balance,
+        )
     }
 }

@@ -57,7 +57,7 @@ fn paid_by_weights(
         head,
         gains: &gains,
     };
-    all_amounts(alloc, state, stakes, divisor, &paid)
+    all_amounts(alloc, state, stakes, statuses, divisor, &paid)
 }
 
 /// The balances of all validators after their rewards and penalties, in Gwei, by how each attested. The stakes are the state's.

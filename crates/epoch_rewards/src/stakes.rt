@@ -1,12 +1,10 @@
 //! What rewards read of each validator. One pass over the registry gathers it; all later passes read this list alone.
 
-ghost use Rattle.std.specs.Prelude.{◌≡◌, ◌+◌, ◌<◌, ◌^◌, slice_get, IfOk};
-ghost use Rattle.bc_words.specs.Outcome.{GivesExactly};
-ghost use Rattle.spec_blocks.specs.Checks.{item_at};
+ghost use Rattle.std.specs.Prelude.{◌≡◌, ◌+◌, ◌<◌, ◌^◌, Some, length, slice_get, IfOk};
 ghost use Rattle.epoch_rewards.specs.inside.Stakes.{is_reached, stake_of, stakes_of};
 
 use balance_totals::{is_active_validator, previous_epoch};
-use bc_words::{NoMemory, Refusal, Stop};
+use bc_words::NoMemory;
 use beacon_state::State;
 use beacon_types::Validator;
 use std::alloc::Global;
@@ -66,12 +64,11 @@ pub(crate) fn find_stake(stakes: &[Stake], index: u64) -> Option<Stake>
     stakes.get(index as usize).copied()
 }
 
-/// What is read of the validator with an index, refused exactly where there is none.
-pub(crate) fn stake_at(stakes: &[Stake], index: u64) -> Result<Stake, Stop>
-    ensures { GivesExactly result (item_at stakes.now index) }
+/// What is read of the validator with an index.
+pub(crate) fn stake_at(state: &State, stakes: &[Stake], index: u64) -> Stake
+    requires stakes { stakes.now ≡ stakes_of state.now }
+    requires inside { index < length state.now.validators }
+    ensures { slice_get (stakes_of state.now) index ≡ Some result }
 {
-    match find_stake(stakes, index) {
-        Some(stake) => Ok(stake),
-        None => Err(Stop::Refused(Refusal::IndexRange)),
-    }
+    stakes[index as usize]
 }
