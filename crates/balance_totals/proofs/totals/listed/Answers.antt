@@ -1,5 +1,5 @@
 -- One more is listed and weighed where it is active, and nothing is left in the end.
-use Rattle.std.proofs.Common.{◌≡◌, ◌+◌, ℕ, true, false, List, [], ◌∷◌, ◌++◌, IfSome, sym, ap, subst, ◌∙◌}
+use Rattle.std.proofs.Common.{◌≡◌, ℕ, true, false, List, [], ◌∷◌, ◌++◌, IfSome, sym, ap, subst, ◌∙◌}
 use Rattle.beacon_types.specs.declared.validator.Validator.{Validator}
 use Rattle.spec_state.specs.Predicates.{is_active_validator}
 use Rattle.active_sets.specs.inside.Active.{balance_in}
