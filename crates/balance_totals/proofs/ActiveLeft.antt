@@ -1,5 +1,5 @@
 -- The active validators of a registry, one at a time: what a loop over those that are left has still to do.
-use Rattle.std.proofs.Common.{◌≡◌, ℕ, suc, ◌+◌, ◌<◌, Bool, true, false, cond, List, [], ◌∷◌, ◌++◌, length, filter, refl, sym, ap, ◌∙◌, arith, append_assoc}
+use Rattle.std.proofs.Common.{◌≡◌, ℕ, suc, ◌+◌, ◌<◌, Bool, true, false, cond, List, [], ◌∷◌, ◌++◌, Option, Some, None, IfSome, length, filter, refl, sym, ap, subst, ◌∙◌, arith, append_assoc}
 use Rattle.std.proofs.lemmas.List.{append-nil}
 use Rattle.bc_words.specs.Outcome.{Outcome, done, refused, limited, bind, checked_add, checked_sum_from, checked_sum_by, StopsExactly}
 use Rattle.bc_words.specs.declared.stop.Stop.{Stop}
@@ -10,6 +10,7 @@ use Rattle.spec_state.specs.Predicates.{is_active_validator}
 use Rattle.spec_state.specs.Misc.{effective_balance}
 use Rattle.spec_state.specs.Accessors.{indices_from, get_active_validator_indices}
 use Rattle.active_sets.specs.inside.Active.{balance_in}
+use Rattle.balance_totals.specs.inside.Sums.{IsNextSum}
 
 -- ---- the indices of those who pass a test
 
@@ -140,8 +141,29 @@ module _ (epoch : ℕ) where
   unfolding balance_in sum_left checked_sum_by
   noted state = sum_begins state
 
+  -- ---- the sum where it fits
+
+  pub known_begins : (state : PlainState) → IfSome (Some 0) (λ sum. sum_left epoch sum state.validators ≡ balance_in state.validators epoch)
+  unfolding balance_in sum_left checked_sum_by
+  known_begins state = refl
+
+  pub known_grows : (balance next : Option ℕ) (total : Outcome ℕ) (v : Validator) (left : List Validator) → is_active_validator v epoch ≡ true → IsNextSum balance v.effective_balance next
+      → IfSome balance (λ sum. sum_left epoch sum (v ∷ left) ≡ total) → IfSome next (λ sum. sum_left epoch sum left ≡ total)
+  known_grows None next total v left is given_up known = subst (λ (n : Option ℕ). IfSome n (λ sum. sum_left epoch sum left ≡ total)) (sym given_up) tt
+  known_grows (Some sum) None total v left is over known = tt
+  known_grows (Some sum) (Some after) total v left is e known = sum_grows sum after v left is e ∙ known
+
+  pub known_stays : (balance : Option ℕ) (total : Outcome ℕ) (v : Validator) (left : List Validator) → is_active_validator v epoch ≡ false
+      → IfSome balance (λ sum. sum_left epoch sum (v ∷ left) ≡ total) → IfSome balance (λ sum. sum_left epoch sum left ≡ total)
+  known_stays None total v left is known = tt
+  known_stays (Some sum) total v left is known = sum_stays sum v left is ∙ known
+
+  pub known_ends : (balance : Option ℕ) (total : Outcome ℕ) → IfSome balance (λ sum. sum_left epoch sum [] ≡ total) → IfSome balance (λ sum. total ≡ done sum)
+  known_ends None total known = tt
+  known_ends (Some sum) total known = sym known ∙ sum_ends sum
+
 -- what the loops over the registry need: of the list, of the count, and of the sum
-pub ruleset listing = (list_begins, list_grows, list_stays, list_ends)
+pub ruleset listing = (list_begins, list_grows, list_stays, list_ends, known_begins, known_grows, known_stays, known_ends)
 
 pub ruleset counting = (count_begins, count_grows, count_stays, count_ends)
 

@@ -1,2 +1,3 @@
 -- Words of this crate's own contracts.
 pub mod PerSlot
+pub mod Sums

@@ -2,11 +2,13 @@
 //!
 //! What a state keeps of the active validators is read there. Where it keeps nothing, they are found by a walk over the registry.
 
-ghost use Rattle.std.specs.Prelude.{◌≡◌, ◌<◌, ◌≤◌, ◌^◌, ℕ, length, max, slice_index, IfOk};
-ghost use Rattle.bc_words.specs.Outcome.{GivesExactly, checked_add, checked_sum_by};
+ghost use Rattle.std.specs.Prelude.{◌≡◌, ◌<◌, ◌≤◌, ◌^◌, ℕ, length, max, slice_index, IfOk, IfSome};
+ghost use Rattle.bc_words.specs.Outcome.{GivesExactly, done, checked_add, checked_sum_by};
 ghost use Rattle.committees.specs.Committees.{IsWithoutRepeats};
 ghost use Rattle.spec_state.specs.Misc.{effective_balance};
 ghost use Rattle.spec_state.specs.Accessors.{get_active_validator_indices, get_total_balance};
+ghost use Rattle.active_sets.specs.inside.Active.{balance_in};
+ghost use Rattle.balance_totals.specs.inside.Sums.{IsNextSum};
 
 use crate::validators::effective_at;
 use active_sets::is_active_validator;
@@ -15,19 +17,41 @@ use beacon_state::State;
 use committees::Lookup;
 use std::alloc::Global;
 
-/// The indices of the validators that are active at the epoch, in order, from a walk over the registry.
+/// Those who are active at an epoch, as one walk over the registry finds them.
+#[derive(Drop)]
+struct Listing {
+    /// Their indices, in order.
+    indices: Vec<u64>,
+    /// The sum of their effective balances, in Gwei, where it fits.
+    balance: Option<u64>,
+}
+
+/// A sum with one more summand, where both sums fit.
+fn with_summand(sum: Option<u64>, summand: u64) -> Option<u64>
+    ensures { IsNextSum sum summand result }
+{
+    match sum {
+        Some(sum) => checked_add(sum, summand).ok(),
+        None => None,
+    }
+}
+
+/// The validators that are active at the epoch, from a walk over the registry.
 #[tactic(auto, using(crate::proofs::ActiveLeft::listing))]
-fn listed(alloc: Global, state: &State, epoch: u64) -> Result<Vec<u64>, NoMemory>
-    ensures { IfOk result (λ indices. indices.items ≡ get_active_validator_indices state.now epoch) }
+fn listed(alloc: Global, state: &State, epoch: u64) -> Result<Listing, NoMemory>
+    ensures indices { IfOk result (λ listing. listing.indices.items ≡ get_active_validator_indices state.now epoch) }
+    ensures balance { IfOk result (λ listing. IfSome listing.balance (λ balance. balance_in state.now.validators epoch ≡ done balance)) }
 {
     let mut indices = Vec::new(alloc);
+    let mut balance = Some(0);
     let validators = state.validator_list().iter();
     for (index, validator) in validators.enumerate() {
         if is_active_validator(validator, epoch) {
             indices.push(index as u64)?;
+            balance = with_summand(balance, validator.effective_balance);
         }
     }
-    Ok(indices)
+    Ok(Listing { indices, balance })
 }
 
 /// The indices of the validators that are active at the epoch, in order (beacon-chain.md,
@@ -37,20 +61,24 @@ pub fn active(alloc: Global, state: &State, epoch: u64) -> Result<Vec<u64>, NoMe
 {
     match state.active_list(epoch) {
         Some(kept) => Ok(Vec::from_slice(alloc, kept)?),
-        None => listed(alloc, state, epoch),
+        None => Ok(listed(alloc, state, epoch)?.indices),
     }
 }
 
-/// The state keeps the indices of the validators that are active at the epoch, and goes on with those that it has. Where memory is
-/// refused nothing changes.
+/// The state keeps the indices of the validators that are active at the epoch and, where it fits, the sum of their effective balances,
+/// and goes on with the indices that it has. Where memory is refused nothing changes.
 pub fn keep_active(alloc: Global, state: &mut State, epoch: u64) -> Result<(), NoMemory>
     ensures { state.new ≡ state.old }
 {
     if state.active_list(epoch).is_some() {
         return Ok(());
     }
-    let indices = listed(alloc, state, epoch)?;
-    state.keep_active_list(alloc, epoch, indices)
+    let Listing { indices, balance } = listed(alloc, state, epoch)?;
+    state.keep_active_list(alloc, epoch, indices)?;
+    if let Some(balance) = balance {
+        state.note_active_balance(epoch, balance);
+    }
+    Ok(())
 }
 
 /// How many validators are active at the epoch, counted in a walk over the registry.

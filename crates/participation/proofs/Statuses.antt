@@ -231,3 +231,11 @@ statuses_are state epoch root is =
     ∙ ap (λ status. all_shown state root status (filter (attests state k) attestations)) (get_or-replicate count k absent absent below)
     ∙ made_is state epoch root is k
     ∙ sym (get_or-map-range_with_len (status_of state epoch) 0 count k k absent below (omega arith)))
+
+-- where an epoch has no attestation nobody attests
+pub nobody_attested : (state : PlainState) (epoch : ℕ) → length (get_matching_source_attestations state epoch) ≡ 0 → replicate (length state.validators) absent ≡ statuses_of state epoch
+nobody_attested state epoch none =
+    let root = get_block_root state epoch in
+    let attestations = get_matching_source_attestations state epoch in
+    let all : List Status = replicate (length state.validators) absent in
+    sym (notes_end state root all attestations 0 (omega (arith, none))) ∙ statuses_are state epoch root refl

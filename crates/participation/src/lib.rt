@@ -5,6 +5,7 @@
 #![tactic(auto)]
 
 mod balance;
+mod epoch_tables;
 mod get_matching_attestations;
 mod inclusions;
 mod matching;
@@ -12,6 +13,7 @@ mod pending;
 mod table;
 
 pub use balance::vote_balance;
+pub use epoch_tables::{current_table, previous_table};
 pub use get_matching_attestations::{matching_head, matching_target};
 pub use inclusions::Inclusion;
 pub use matching::Vote;

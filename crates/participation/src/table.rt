@@ -49,7 +49,7 @@ pub struct Shown {
 
 /// The status of a validator that attests in no attestation.
 #[tactic(auto, unfolding(crate::specs::inside::Statuses::absent))]
-fn absent() -> Status
+pub(crate) fn absent() -> Status
     ensures { result ≡ absent }
 {
     Status {

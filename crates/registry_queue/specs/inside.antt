@@ -1,3 +1,4 @@
 -- Words of this crate's own contracts.
 pub mod Exits
 pub mod Ranks
+pub mod Waiting

@@ -3,7 +3,7 @@
 //! The registry is walked once, and only one who leaves is looked up. Where the exit queue ends, and how many leave there, is
 //! counted for the first who leaves and kept on the way, so that no other ejection reads the registry.
 
-ghost use Rattle.std.specs.Prelude.{◌≡◌, ◌<◌, ◌^◌, ◌&&◌, OnOk, Some, leb, slice_get};
+ghost use Rattle.std.specs.Prelude.{◌≡◌, ◌<◌, ◌^◌, ◌&&◌, IfOk, OnOk, Some, leb, slice_get};
 ghost use Rattle.bc_words.specs.Outcome.{Becomes, GivesExactly, Moves, done};
 ghost use Rattle.spec_state.specs.Misc.{compute_activation_exit_epoch};
 ghost use Rattle.spec_state.specs.Predicates.{is_active_validator, is_eligible_for_activation_queue};
@@ -13,7 +13,9 @@ ghost use Rattle.spec_blocks.specs.InitiateValidatorExit.{initiate_validator_exi
 ghost use Rattle.spec_epochs.specs.Each.{validator_indices};
 ghost use Rattle.spec_epochs.specs.ProcessRegistryUpdates.{with_eligibility, eligibility_and_ejection};
 ghost use Rattle.registry_queue.specs.inside.Exits.{earliest_exit, next_exit, with_exit, IsExitQueue, IsKept};
+ghost use Rattle.registry_queue.specs.inside.Waiting.{may_let_in};
 
+use crate::waiting::{is_above, someone_waits};
 use balance_totals::{current_epoch, is_active_validator, validator_at};
 use bc_preset::constants::FAR_FUTURE_EPOCH;
 use bc_preset::{Config, Preset};
@@ -189,16 +191,20 @@ fn eligibility_and_ejection(
 
 /// Each validator waits where it may, and leaves where it is active with too low an effective balance, in order of index. The
 /// registry is walked as it was before, which none who waits or leaves changes for those behind. It leaves anything in the state
-/// after a stop.
+/// after a stop. The answer is whether anyone may be let in: who waits already, as the walk meets it.
 #[tactic(auto, using(crate::proofs::Passes::steps_begin))]
-pub(crate) fn eligibility_and_ejections(state: &mut State, config: &Config) -> Result<(), Stop>
-    ensures { Moves result state.new (each_of (eligibility_and_ejection config.now) state.old (validator_indices state.old)) }
+pub(crate) fn eligibility_and_ejections(state: &mut State, config: &Config) -> Result<bool, Stop>
+    ensures exact { Moves result state.new (each_of (eligibility_and_ejection config.now) state.old (validator_indices state.old)) }
+    ensures waits { IfOk result (λ waits. waits ≡ may_let_in state.old) }
 {
+    let finalized = state.finalized_checkpoint().epoch;
+    let mut waits = is_above(finalized, state);
     let mut kept = None;
     let registry = state.validator_list().share()?;
     let validators = registry.iter();
     for (index, validator) in validators.enumerate() {
+        waits = someone_waits(waits, finalized, validator);
         eligibility_and_ejection(state, &mut kept, index as u64, validator, config)?;
     }
-    Ok(())
+    Ok(waits)
 }

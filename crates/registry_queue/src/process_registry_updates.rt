@@ -15,8 +15,11 @@ use std::alloc::Global;
 fn update(alloc: Global, state: &mut State, config: &Config) -> Result<(), Stop>
     ensures { Moves result state.new (process_registry_updates state.old config.now) }
 {
-    eligibility_and_ejections(state, config)?;
+    let waits = eligibility_and_ejections(state, config)?;
     let _epoch = earliest_exit(state);
+    if !waits {
+        return Ok(());
+    }
     activate(alloc, state, config)?;
     Ok(())
 }

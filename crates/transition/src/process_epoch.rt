@@ -6,16 +6,14 @@ ghost use Rattle.std.specs.Prelude.{◌≡◌, IfOk};
 ghost use Rattle.bc_words.specs.Outcome.{Moves};
 ghost use Rattle.spec_state.specs.Accessors.{get_current_epoch, get_previous_epoch};
 ghost use Rattle.spec_state.specs.Soundness.{IsSound};
-ghost use Rattle.spec_state.specs.inside.EpochCommittees.{epoch_committees};
 ghost use Rattle.spec_epochs.specs.ProcessEpoch.{process_epoch};
 ghost use Rattle.participation.specs.inside.Statuses.{statuses_of};
 ghost use Rattle.transition.specs.inside.Epochs.{resets, closing_parts};
 
-use balance_totals::{current_epoch, kept_committees, note_total, previous_epoch};
+use balance_totals::{current_epoch, keep_active, note_total};
 use bc_preset::Config;
 use bc_words::{NoMemory, Stop};
 use beacon_state::State;
-use committees::EpochCommittees;
 use epoch_close::process_effective_balance_updates::process_effective_balances;
 use epoch_close::process_eth1_data_reset::process_eth1_reset;
 use epoch_close::process_historical_roots_update::process_historical_roots;
@@ -25,66 +23,30 @@ use epoch_close::process_slashings::process_slashings;
 use epoch_close::process_slashings_reset::process_slashings_reset;
 use epoch_rewards::process_rewards;
 use justification::process_justification;
-use participation::{Status, current_statuses, previous_statuses};
+use participation::{Status, current_table, previous_table};
 use registry_queue::process_registry_updates::process_registry;
 use std::alloc::Global;
-use std::rc::Rc;
 
-/// The committees of the previous and of the current epoch, which the state keeps, as it does the balance of the active validators.
-fn recent_committees(
-    alloc: Global,
-    state: &mut State,
-) -> Result<(Rc<EpochCommittees>, Rc<EpochCommittees>), NoMemory>
-    ensures same { state.new ≡ state.old }
-    ensures previous { IfOk result (λ recent. recent.0.value ≡ epoch_committees state.old (get_previous_epoch state.old)) }
-    ensures current { IfOk result (λ recent. recent.1.value ≡ epoch_committees state.old (get_current_epoch state.old)) }
+/// The state keeps who is active at its epoch, and what they weigh together, which several parts ask for.
+fn keep_epoch_active(alloc: Global, state: &mut State) -> Result<(), NoMemory>
+    ensures { state.new ≡ state.old }
 {
-    let before = previous_epoch(state);
-    let now = current_epoch(state);
-    let previous = kept_committees(alloc, state, before)?;
-    let current = kept_committees(alloc, state, now)?;
-    note_total(state, now);
-    Ok((previous, current))
-}
-
-/// How each validator attested in the previous epoch of a sound state, whose committees these are.
-#[tactic(auto, using(spec_epochs::proofs::SoundJustification::sound_within))]
-fn previous_table(
-    alloc: Global,
-    state: &State,
-    committees: &EpochCommittees,
-) -> Result<Vec<Status>, NoMemory>
-    requires sound { IsSound state.now }
-    requires committees { committees.now ≡ epoch_committees state.now (get_previous_epoch state.now) }
-    ensures { IfOk result (λ statuses. statuses.items ≡ statuses_of state.now (get_previous_epoch state.now)) }
-{
-    previous_statuses(alloc, state, committees)
-}
-
-/// How each validator attested in the current epoch of a sound state, whose committees these are.
-#[tactic(auto, using(spec_epochs::proofs::SoundJustification::sound_within))]
-fn current_table(
-    alloc: Global,
-    state: &State,
-    committees: &EpochCommittees,
-) -> Result<Vec<Status>, NoMemory>
-    requires sound { IsSound state.now }
-    requires committees { committees.now ≡ epoch_committees state.now (get_current_epoch state.now) }
-    ensures { IfOk result (λ statuses. statuses.items ≡ statuses_of state.now (get_current_epoch state.now)) }
-{
-    current_statuses(alloc, state, committees)
+    let epoch = current_epoch(state);
+    keep_active(alloc, state, epoch)?;
+    note_total(state, epoch);
+    Ok(())
 }
 
 /// How each validator attested in the previous and in the current epoch of a sound state, which is as before.
+#[tactic(auto, using(spec_epochs::proofs::SoundJustification::sound_within))]
 fn tables(alloc: Global, state: &mut State) -> Result<(Vec<Status>, Vec<Status>), NoMemory>
     requires { IsSound state.old }
     ensures same { state.new ≡ state.old }
     ensures previous { IfOk result (λ tables. tables.0.items ≡ statuses_of state.old (get_previous_epoch state.old)) }
     ensures current { IfOk result (λ tables. tables.1.items ≡ statuses_of state.old (get_current_epoch state.old)) }
 {
-    let (previous, current) = recent_committees(alloc, state)?;
-    let previous = previous_table(alloc, state, &previous)?;
-    let current = current_table(alloc, state, &current)?;
+    let previous = previous_table(alloc, state)?;
+    let current = current_table(alloc, state)?;
     Ok((previous, current))
 }
 
@@ -135,8 +97,8 @@ fn take_parts(
 }
 
 /// The parts of an epoch's end (beacon-chain.md, `process_epoch`), on a sound state. The table of how each validator attested is made
-/// once for the previous and once for the current epoch, by the committees that the state keeps. It leaves anything in the state after
-/// a stop.
+/// once for the previous and once for the current epoch, by the committees that the state keeps where there is an attestation. It leaves
+/// anything in the state after a stop.
 ///
 /// Refused where a part is: as an overflow where a sum or product does not fit, and as a full list of historical roots.
 pub fn process_epoch(alloc: Global, state: &mut State, config: &Config) -> Result<(), Stop>
@@ -144,5 +106,6 @@ pub fn process_epoch(alloc: Global, state: &mut State, config: &Config) -> Resul
     ensures { Moves result state.new (process_epoch state.old config.now) }
 {
     let (previous, current) = tables(alloc, state)?;
+    keep_epoch_active(alloc, state)?;
     take_parts(alloc, state, config, previous, current)
 }
