@@ -1,0 +1,3 @@
+-- Words of this crate's contracts.
+pub mod Stakes
+pub mod Stirring
