@@ -2,7 +2,7 @@
 use Rattle.std.proofs.Common.{◌≡◌, ◌∙◌, ℕ, ◌+◌, ◌<◌, Bool, true, false, not, ◌&&◌, ◌||◌, ◌==◌, nat_lt, leb, if◌then◌else◌, List, [], ◌∷◌, length, drop, map, Option, Some, slice_get, slice_set, refl, sym, ap, ap₂, inl, inr, arith}
 use Rattle.std.specs.Prelude.{count_by}
 use Rattle.std.specs.List.{enumerate_from, list_any, range_with_len}
-use Rattle.std.proofs.lemmas.Bool.{eqb-true, lt-leb, cases_Bool, false≢true}
+use Rattle.std.proofs.lemmas.Bool.{eqb-true, lt-leb, cases_Bool, and_left, and_right, or_parts, or_from}
 use Rattle.bc_words.specs.Outcome.{Outcome, done, bind}
 use Rattle.bc_preset.specs.declared.configuration.ConfigValues.{ConfigValues}
 use Rattle.beacon_types.specs.declared.validator.Validator.{Validator}
@@ -19,14 +19,6 @@ use Rattle.spec_epochs.specs.Each.{validator_indices}
 use Rattle.spec_epochs.specs.ProcessRegistryUpdates.{with_eligibility, eligibility_and_ejection, activation_queue, comes_before, is_dequeued, with_activations, process_registry_updates}
 use Rattle.registry_queue.proofs.Updates.{let_in, updates_are}
 
-neither : (a b : Bool) → a || b ≡ false → (a ≡ false) × (b ≡ false)
-neither true b is = absurd (false≢true (sym is))
-neither false b is = (refl, is)
-
-pub and_not : (a b : Bool) → b ≡ false → a && b ≡ false
-and_not true b is = is
-and_not false b is = refl
-
 -- ---- where nobody waits nobody is let in
 
 module _ (state : PlainState) (config : ConfigValues) (epoch : ℕ) where
@@ -38,7 +30,7 @@ module _ (state : PlainState) (config : ConfigValues) (epoch : ℕ) where
   all_stay_out : (vs : List Validator) (index : ℕ) → list_any (is_eligible_for_activation state) vs ≡ false → map (let_in state config epoch) (enumerate_from index vs) ≡ vs
   all_stay_out [] index none = refl
   all_stay_out (v ∷ vs) index none =
-      let apart = neither (is_eligible_for_activation state v) (list_any (is_eligible_for_activation state) vs) none in
+      let apart = or_parts (is_eligible_for_activation state v) (list_any (is_eligible_for_activation state) vs) none in
       ap₂ (λ (w : Validator) (ws : List Validator). w ∷ ws) (stays_out index v apart.0) (all_stay_out vs (index + 1) apart.1)
 
   pub nobody_let_in : list_any (is_eligible_for_activation state) state.validators ≡ false → state ≡ record state { validators = with_activations state config epoch }
@@ -58,8 +50,8 @@ module _ (state : PlainState) (config : ConfigValues) where
   step_stays : (index : ℕ) (v : Validator) → slice_get state.validators index ≡ Some v → stirs_here v ≡ false → eligibility_and_ejection config state index ≡ done state
   unfolding eligibility_and_ejection with_eligibility stirs is_ejected
   step_stays index v here still =
-      let apart = neither (is_eligible_for_activation_queue state.preset v || is_ejected config (get_current_epoch state) v) (is_pending v) still in
-      let first = neither (is_eligible_for_activation_queue state.preset v) (is_ejected config (get_current_epoch state) v) apart.0 in
+      let apart = or_parts (is_eligible_for_activation_queue state.preset v || is_ejected config (get_current_epoch state) v) (is_pending v) still in
+      let first = or_parts (is_eligible_for_activation_queue state.preset v) (is_ejected config (get_current_epoch state) v) apart.0 in
       let waiting : Validator = record v { activation_eligibility_epoch = get_current_epoch state + 1 } in
       ap (λ (o : Option Validator). bind (found o) (rest_of_step index)) here
       ∙ (ap (λ (leaves : Bool). if leaves then initiate_validator_exit (with_eligibility state index v) index config else done (with_eligibility state index v)) first.1
@@ -68,13 +60,14 @@ module _ (state : PlainState) (config : ConfigValues) where
   waits_not : (v : Validator) → state.finalized_checkpoint.epoch < far_future_epoch → stirs_here v ≡ false → is_eligible_for_activation state v ≡ false
   unfolding is_eligible_for_activation stirs is_pending
   waits_not v final still =
-      let pending = neither (is_eligible_for_activation_queue state.preset v || is_ejected config (get_current_epoch state) v) (is_pending v) still in
+      let pending = or_parts (is_eligible_for_activation_queue state.preset v || is_ejected config (get_current_epoch state) v) (is_pending v) still in
       elim (cases_Bool (v.activation_eligibility_epoch == far_future_epoch)) [
         | inl unset ↦
             let far = eqb-true v.activation_eligibility_epoch far_future_epoch unset in
-            ap (λ (b : Bool). b && (v.activation_epoch == far_future_epoch)) (lt-leb v.activation_eligibility_epoch state.finalized_checkpoint.epoch (omega (arith, far, final)))
+            and_left (leb v.activation_eligibility_epoch state.finalized_checkpoint.epoch) (v.activation_epoch == far_future_epoch)
+            (lt-leb v.activation_eligibility_epoch state.finalized_checkpoint.epoch (omega (arith, far, final)))
         | inr set ↦
-            and_not (leb v.activation_eligibility_epoch state.finalized_checkpoint.epoch) (v.activation_epoch == far_future_epoch)
+            and_right (leb v.activation_eligibility_epoch state.finalized_checkpoint.epoch) (v.activation_epoch == far_future_epoch)
             (sym (ap (λ (b : Bool). not b && (v.activation_epoch == far_future_epoch)) set) ∙ pending.1)
       ]
 
@@ -85,15 +78,15 @@ module _ (state : PlainState) (config : ConfigValues) where
   unfolding each_of
   steps_stay [] index here none = refl
   steps_stay (v ∷ left) index here none =
-      let apart = neither (stirs_here v) (list_any stirs_here left) none in
+      let apart = or_parts (stirs_here v) (list_any stirs_here left) none in
       ap (λ o. bind o (λ next. each_of (eligibility_and_ejection config) next (range_with_len (index + 1) (length left)))) (step_stays index v (first_left state.validators index v left here) apart.0)
       ∙ steps_stay left (index + 1) (others_left state.validators index v left here) apart.1
 
   none_waits : (vs : List Validator) → state.finalized_checkpoint.epoch < far_future_epoch → list_any stirs_here vs ≡ false → list_any (is_eligible_for_activation state) vs ≡ false
   none_waits [] final none = refl
   none_waits (v ∷ vs) final none =
-      let apart = neither (stirs_here v) (list_any stirs_here vs) none in
-      ap₂ (λ (a b : Bool). a || b) (waits_not v final apart.0) (none_waits vs final apart.1)
+      let apart = or_parts (stirs_here v) (list_any stirs_here vs) none in
+      or_from (is_eligible_for_activation state v) (list_any (is_eligible_for_activation state) vs) (waits_not v final apart.0) (none_waits vs final apart.1)
 
   pub nothing_changes : (epoch : ℕ) → registry_stirs state config ≡ false → state.finalized_checkpoint.epoch < far_future_epoch → compute_activation_exit_epoch state.preset (get_current_epoch state) ≡ done epoch
       → process_registry_updates state config ≡ done state

@@ -4,7 +4,7 @@ use Rattle.std.specs.Prelude.{filter, count_by}
 use Rattle.std.specs.List.{enumerate_from, list_any}
 use Rattle.std.specs.List.Sorted.{IsSorted}
 use Rattle.std.specs.Ordering.{ordering_then, is_lt}
-use Rattle.std.proofs.lemmas.Bool.{eq-eqb, ne_eqb, ltb-true, ltb-false, leb-true, leb-false, lt-ltb, le-ltb, le-leb, lt-leb, cases_Bool, cases_order, false≢true}
+use Rattle.std.proofs.lemmas.Bool.{eq-eqb, ne_eqb, ltb-true, ltb-false, leb-true, leb-false, lt-ltb, le-ltb, le-leb, lt-leb, cases_Bool, cases_order, and_right, or_from, false≢true}
 use Rattle.std.proofs.lemmas.List.{append-nil, drop_all, take_all}
 use Rattle.std.proofs.lemmas.List.Sums.{sum_by-cons}
 use Rattle.std.proofs.lemmas.List.Sorted.{sum_by-IsPermutation, length_permutation}
@@ -15,7 +15,7 @@ use Rattle.spec_state.specs.Predicates.{is_eligible_for_activation}
 use Rattle.spec_state.specs.Accessors.{get_validator_churn_limit}
 use Rattle.spec_epochs.specs.ProcessRegistryUpdates.{activation_queue, comes_before, is_dequeued, with_activations}
 use Rattle.registry_queue.proofs.Updates.{let_in}
-use Rattle.registry_queue.proofs.Quiet.{and_not, nobody_let_in}
+use Rattle.registry_queue.proofs.Quiet.{nobody_let_in}
 use Rattle.registry_queue.specs.inside.Ranks.{rank_of, ranks_from, before, rank_cmp, IsQueue, before_bar, is_let_in, IsBar, activated, let_in_from}
 
 abbrev validator_or : Validator → Option Validator → Validator
@@ -331,7 +331,7 @@ module _ (state : PlainState) (bar : Option (ℕ × ℕ)) (epoch : ℕ) where
   pub not_before_bar : (index : ℕ) (v : Validator) → slice_get state.validators index ≡ Some v → before_bar bar (v.activation_eligibility_epoch, index) ≡ false → let_in_from state bar epoch (index + 1) ≡ let_in_from state bar epoch index
   unfolding activated is_let_in rank_of
   not_before_bar index v here behind =
-      stays_out index v here (ap (λ (a : Bool). if a then record v { activation_epoch = epoch } else v) (and_not (is_eligible_for_activation state v) (before_bar bar (v.activation_eligibility_epoch, index)) behind))
+      stays_out index v here (ap (λ (a : Bool). if a then record v { activation_epoch = epoch } else v) (and_right (is_eligible_for_activation state v) (before_bar bar (v.activation_eligibility_epoch, index)) behind))
 
   pub let_in_end : (index : ℕ) → length state.validators ≤ index → let_in_from state bar epoch index ≡ state
   unfolding let_in_from
@@ -374,7 +374,7 @@ nobody_waits state (v ∷ vs) index none =
           absurd cc
       | inr waits ↦
           let rest : others ≡ [] = sym (opens state index v vs ∙ ap (λ (b : Bool). cond b (rank ∷ others) others) waits) ∙ none in
-          ap₂ (λ (a b : Bool). a || b) waits (nobody_waits state vs (index + 1) rest)
+          or_from (is_eligible_for_activation state v) (list_any (is_eligible_for_activation state) vs) waits (nobody_waits state vs (index + 1) rest)
     ]
 
 pub none_dequeued : (state : PlainState) (config : ConfigValues) (ranks : List (ℕ × ℕ)) (epoch : ℕ) → IsQueue state ranks → length ranks ≡ 0 → state ≡ record state { validators = with_activations state config epoch }
