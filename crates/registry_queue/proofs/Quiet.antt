@@ -71,7 +71,7 @@ module _ (state : PlainState) (config : ConfigValues) where
             (sym (ap (λ (b : Bool). not b && (v.activation_epoch == far_future_epoch)) set) ∙ pending.1)
       ]
 
--- ---- where none does
+  -- ---- where none does
 
   steps_stay : (left : List Validator) (index : ℕ) → left ≡ drop index state.validators → list_any stirs_here left ≡ false
       → each_of (eligibility_and_ejection config) state (range_with_len index (length left)) ≡ done state

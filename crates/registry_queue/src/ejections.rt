@@ -14,8 +14,8 @@ ghost use Rattle.spec_epochs.specs.ProcessRegistryUpdates.{with_eligibility, eli
 ghost use Rattle.registry_queue.specs.inside.Exits.{earliest_exit, next_exit, with_exit, IsExitQueue, IsKept};
 
 use balance_totals::{current_epoch, validator_at};
-use bc_preset::constants::FAR_FUTURE_EPOCH;
 use bc_preset::Config;
+use bc_preset::constants::FAR_FUTURE_EPOCH;
 use bc_words::{NoMemory, Stop, checked_add};
 use beacon_state::State;
 use beacon_types::Validator;

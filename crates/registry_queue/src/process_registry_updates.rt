@@ -41,8 +41,8 @@ pub fn process_registry(
     requires { stirs ≡ registry_stirs state.old config.now }
     ensures { Changes result state.old state.new (process_registry_updates state.old config.now) }
 {
-    let _epoch = earliest_exit(state);
     if !stirs && state.finalized_checkpoint().epoch < FAR_FUTURE_EPOCH {
+        let _epoch = earliest_exit(state);
         return Ok(());
     }
     let mut next = state.share()?;
