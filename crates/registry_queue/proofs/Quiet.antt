@@ -1,5 +1,5 @@
 -- Where no validator stirs, the registry's updates leave the state as it is.
-use Rattle.std.proofs.Common.{◌≡◌, ◌∙◌, ℕ, ◌+◌, ◌<◌, Bool, true, false, not, ◌&&◌, ◌||◌, ◌==◌, nat_lt, leb, if◌then◌else◌, List, [], ◌∷◌, length, drop, map, Option, Some, slice_get, slice_set, refl, sym, ap, ap₂, inl, inr, arith}
+use Rattle.std.proofs.Common.{◌≡◌, ◌∙◌, ℕ, ◌+◌, ◌<◌, Bool, false, not, ◌&&◌, ◌||◌, ◌==◌, nat_lt, leb, if◌then◌else◌, List, [], ◌∷◌, length, drop, map, Option, Some, slice_get, slice_set, refl, sym, ap, ap₂, inl, inr, arith}
 use Rattle.std.specs.Prelude.{count_by}
 use Rattle.std.specs.List.{enumerate_from, list_any, range_with_len}
 use Rattle.std.proofs.lemmas.Bool.{eqb-true, lt-leb, cases_Bool, and_left, and_right, or_parts, or_from}
