@@ -12,7 +12,7 @@ mod matching;
 mod pending;
 mod table;
 
-pub use balance::vote_balance;
+pub use balance::{counted, vote_balance};
 pub use epoch_tables::{current_table, previous_table};
 pub use get_matching_attestations::{matching_head, matching_target};
 pub use inclusions::Inclusion;
