@@ -6,6 +6,8 @@ pub mod Weighed
 pub mod WeighedLeft
 pub mod Sound
 pub mod Entries
+pub mod Notes
 pub mod Statuses
+pub mod Targets
 pub mod Columns
 pub mod Listed

@@ -9,12 +9,15 @@ mod epoch_tables;
 mod get_matching_attestations;
 mod inclusions;
 mod matching;
+mod notes;
 mod pending;
+mod place;
 mod table;
 
 pub use balance::vote_balance;
-pub use epoch_tables::{current_table, previous_table};
+pub use epoch_tables::{current_targets, previous_table};
 pub use get_matching_attestations::{matching_head, matching_target};
 pub use inclusions::Inclusion;
 pub use matching::Vote;
-pub use table::{Status, current_statuses, flag_at, inclusion_at, previous_statuses};
+pub use notes::{current_flags, previous_statuses};
+pub use table::{Status, flag_at, inclusion_at};
