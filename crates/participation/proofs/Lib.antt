@@ -6,7 +6,7 @@ pub mod Weighed
 pub mod WeighedLeft
 pub mod Sound
 pub mod Entries
-pub mod Notes
+pub mod Noted
 pub mod Statuses
 pub mod Targets
 pub mod Columns

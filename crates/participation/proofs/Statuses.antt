@@ -19,7 +19,7 @@ use Rattle.participation.specs.inside.Votes.{counts_for, matching}
 use Rattle.participation.specs.inside.Statuses.{status_of, statuses_of, has_vote, absent, shown_by, noted}
 use Rattle.participation.specs.inside.Notes.{noted_each, all_noted}
 use Rattle.participation.proofs.Entries.{idempotent, all_better, best_is_first}
-use Rattle.participation.proofs.Notes.{notes_end}
+use Rattle.participation.proofs.Noted.{notes_end}
 use Rattle.participation.proofs.Rights.{right_are}
 
 -- ---- what stands at a place

@@ -51,7 +51,7 @@ fn note_one<P: Place>(places: &mut Vec<P>, index: u64, shown: Shown)
 }
 
 /// Notes it of the members whose bit is set.
-#[tactic(auto, using(crate::proofs::Notes::members_noted))]
+#[tactic(auto, using(crate::proofs::Noted::members_noted))]
 fn note_members<P: Place>(
     places: &mut Vec<P>,
     members: &[u64],
@@ -93,7 +93,7 @@ fn note_attesters<P: Place>(
 }
 
 /// Notes what the epoch's attestation at a place of their list shows.
-#[tactic(auto, using(crate::proofs::Places::holds_at, crate::proofs::Notes::one_noted, crate::proofs::Notes::none_noted))]
+#[tactic(auto, using(crate::proofs::Places::holds_at, crate::proofs::Noted::one_noted, crate::proofs::Noted::none_noted))]
 fn note_at<P: Place>(
     places: &mut Vec<P>,
     state: &State,
@@ -113,7 +113,7 @@ fn note_at<P: Place>(
 }
 
 /// Notes what the epoch's attestations show, in order.
-#[tactic(auto, using(crate::proofs::Notes::notes_begin, crate::proofs::Notes::notes_end))]
+#[tactic(auto, using(crate::proofs::Noted::notes_begin, crate::proofs::Noted::notes_end))]
 fn note_all<P: Place>(
     places: &mut Vec<P>,
     state: &State,
