@@ -4,10 +4,10 @@
 //! gathered: validators lie apart in memory, and none of these parts reads them again where nothing stirs.
 #![tactic(auto)]
 
-mod gather;
+mod gathering;
 mod stake;
 mod stirring;
 
-pub use gather::{Stakes, gather};
+pub use gathering::{Stakes, gather};
 pub use stake::{Stake, find_stake, stake_at};
 pub use stirring::{is_ejected, may_wait};
