@@ -19,10 +19,10 @@ use Rattle.participation.proofs.Places.{past}
 
 -- ---- reading a status
 
-status_some : (statuses : List Status) (index : ℕ) (status : Status) → Some status ≡ slice_get statuses index → status ≡ get_or statuses index absent
+pub status_some : (statuses : List Status) (index : ℕ) (status : Status) → Some status ≡ slice_get statuses index → status ≡ get_or statuses index absent
 status_some statuses index status e = sym (get_or_from_slice_get statuses index status absent (sym e))
 
-status_none : (statuses : List Status) (index : ℕ) → None ≡ slice_get statuses index → absent ≡ get_or statuses index absent
+pub status_none : (statuses : List Status) (index : ℕ) → None ≡ slice_get statuses index → absent ≡ get_or statuses index absent
 status_none statuses index e = sym (get_or_past statuses index absent (past statuses index e))
 
 pub ruleset status_read = (status_some, status_none)

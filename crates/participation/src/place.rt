@@ -1,6 +1,7 @@
 //! What a table keeps of a validator.
 
 ghost use Rattle.std.specs.Prelude.{◌≡◌, false};
+ghost use Rattle.participation.specs.declared.table.Shown.{Shown};
 ghost use Rattle.participation.specs.inside.Statuses.{absent, noted, target_noted};
 
 use crate::inclusions::better;
