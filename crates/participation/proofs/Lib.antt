@@ -3,7 +3,7 @@ pub mod Places
 pub mod Rights
 pub mod Flags
 pub mod Weighed
-pub mod WeighedLeft
+pub mod ByStake
 pub mod Sound
 pub mod Entries
 pub mod Noted

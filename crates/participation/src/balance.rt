@@ -1,47 +1,99 @@
-//! The balance of those who attested (beacon-chain.md, "get_attesting_balance").
+//! The balance of those who attested (beacon-chain.md, "get_attesting_balance"), by what was gathered of the registry.
 
-ghost use Rattle.std.specs.Prelude.{◌≡◌};
+ghost use Rattle.std.specs.Prelude.{◌≡◌, MatchOption};
 ghost use Rattle.bc_words.specs.Outcome.{GivesExactly, checked_sum_by};
 ghost use Rattle.spec_state.specs.Misc.{effective_balance};
 ghost use Rattle.spec_state.specs.Accessors.{get_total_balance};
-ghost use Rattle.participation.specs.inside.Marks.{flagged, is_weighed};
+ghost use Rattle.stakes.specs.inside.Stakes.{stakes_of};
+ghost use Rattle.participation.specs.inside.Marks.{flagged, IsPassedOver, IsTaken};
 ghost use Rattle.participation.specs.inside.Statuses.{flags_of};
 
+use crate::flagged::{Flagged, Voters};
 use crate::matching::Vote;
-use crate::table::{Status, flag_at};
+use crate::table::Status;
 use bc_words::{Stop, checked_add};
 use beacon_state::State;
-use beacon_types::Validator;
+use stakes::{Stake, find_stake};
 
-/// Whether the validator with an index is weighed: it isn't slashed, and it has the vote right.
-#[tactic(auto, unfolding(crate::specs::inside::Marks::is_weighed))]
-fn is_weighed(statuses: &[Status], vote: Vote, index: u64, validator: &Validator) -> bool
-    ensures { result ≡ is_weighed (flags_of vote statuses.now) index validator.now }
+/// The effective balance of the validator with an index, in Gwei, where it is flagged and isn't slashed. The stakes are the state's.
+#[tactic(auto, using(crate::proofs::ByStake::counting))]
+fn counted_by<F: Flagged>(state: &State, stakes: &[Stake], by: &F, index: u64) -> Option<u64>
+    requires { stakes.now ≡ stakes_of state.now }
+    ensures { let flags = F.flags by.now in MatchOption result (IsPassedOver state.now flags index) (IsTaken state.now flags index) }
 {
-    flag_at(statuses, vote, index) && !validator.slashed
+    match find_stake(stakes, index) {
+        Some(stake) => {
+            if stake.slashed {
+                return None;
+            }
+            if !by.is_flagged(index) {
+                return None;
+            }
+            Some(stake.effective_balance)
+        }
+        None => None,
+    }
 }
 
-/// The sum of the effective balances of those who have the vote right and aren't slashed, in Gwei.
-#[tactic(auto, using(crate::proofs::WeighedLeft::summing, balance_totals::proofs::LeftOf::others_left))]
-fn sum_flagged(state: &State, statuses: &[Status], vote: Vote) -> Result<u64, Stop>
-    ensures { GivesExactly result (checked_sum_by (effective_balance state.now.validators) (flagged state.now (flags_of vote statuses.now))) }
+/// The effective balance of the validator with an index, in Gwei, where it has the vote right and isn't slashed. The stakes are the
+/// state's.
+pub fn counted(
+    state: &State,
+    stakes: &[Stake],
+    statuses: &[Status],
+    vote: Vote,
+    index: u64,
+) -> Option<u64>
+    requires { stakes.now ≡ stakes_of state.now }
+    ensures { let flags = flags_of vote statuses.now in MatchOption result (IsPassedOver state.now flags index) (IsTaken state.now flags index) }
+{
+    counted_by(state, stakes, &Voters { statuses, vote }, index)
+}
+
+/// The sum of the effective balances of those who are flagged and aren't slashed, in Gwei.
+#[tactic(auto, using(crate::proofs::Weighed::weighing))]
+fn sum_flagged<F: Flagged>(state: &State, stakes: &[Stake], by: &F) -> Result<u64, Stop>
+    requires { stakes.now ≡ stakes_of state.now }
+    ensures { GivesExactly result (checked_sum_by (effective_balance state.now.validators) (flagged state.now (F.flags by.now))) }
 {
     let mut sum = 0;
-    let validators = state.validator_list().iter();
-    for (index, validator) in validators.enumerate() {
-        if is_weighed(statuses, vote, index as u64, validator) {
-            sum = checked_add(sum, validator.effective_balance)?;
+    for index in 0..state.validators_len() {
+        match counted_by(state, stakes, by, index) {
+            Some(balance) => sum = checked_add(sum, balance)?,
+            None => {}
         }
     }
     Ok(sum)
 }
 
-/// The total effective balance of those who have the vote right and aren't slashed, in Gwei: at least one increment
-/// (beacon-chain.md, `get_attesting_balance`). Refused exactly where the sum does not fit.
+/// The total effective balance of those who are flagged and aren't slashed, in Gwei: at least one increment.
 #[tactic(auto, unfolding(spec_state::specs::Accessors::get_total_balance))]
-pub fn vote_balance(state: &State, statuses: &[Status], vote: Vote) -> Result<u64, Stop>
+fn balance_by<F: Flagged>(state: &State, stakes: &[Stake], by: &F) -> Result<u64, Stop>
+    requires { stakes.now ≡ stakes_of state.now }
+    ensures { GivesExactly result (get_total_balance state.now (flagged state.now (F.flags by.now))) }
+{
+    let sum = sum_flagged(state, stakes, by)?;
+    Ok(state.preset().effective_balance_increment.max(sum))
+}
+
+/// The total effective balance of those who have the vote right and aren't slashed, in Gwei: at least one increment
+/// (beacon-chain.md, `get_attesting_balance`). Refused exactly where the sum does not fit. The stakes are the state's.
+pub fn vote_balance(
+    state: &State,
+    stakes: &[Stake],
+    statuses: &[Status],
+    vote: Vote,
+) -> Result<u64, Stop>
+    requires { stakes.now ≡ stakes_of state.now }
     ensures { GivesExactly result (get_total_balance state.now (flagged state.now (flags_of vote statuses.now))) }
 {
-    let sum = sum_flagged(state, statuses, vote)?;
-    Ok(state.preset().effective_balance_increment.max(sum))
+    balance_by(state, stakes, &Voters { statuses, vote })
+}
+
+/// The same of those whose flag is set.
+pub fn flag_balance(state: &State, stakes: &[Stake], flags: &[bool]) -> Result<u64, Stop>
+    requires { stakes.now ≡ stakes_of state.now }
+    ensures { GivesExactly result (get_total_balance state.now (flagged state.now flags.now)) }
+{
+    balance_by(state, stakes, &flags)
 }

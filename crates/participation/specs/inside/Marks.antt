@@ -1,8 +1,7 @@
 -- A flag a validator: whether it attests in one of some attestations.
-use Rattle.std.specs.Prelude.{◌≡◌, ℕ, ◌+◌, Bool, false, not, ◌&&◌, List, ◌∷◌, map, filter, drop, slice_index_or}
+use Rattle.std.specs.Prelude.{◌≡◌, ℕ, ◌+◌, Bool, false, not, List, ◌∷◌, map, filter, drop, slice_index_or}
 use Rattle.std.specs.List.{list_any}
 use Rattle.beacon_types.specs.declared.pending_attestation.PendingAttestation.{PendingAttestation}
-use Rattle.beacon_types.specs.declared.validator.Validator.{Validator}
 use Rattle.spec_state.specs.declared.plain.PlainState.{PlainState}
 use Rattle.spec_state.specs.Misc.{effective_balance}
 use Rattle.spec_state.specs.Accessors.{indices_from}
@@ -12,10 +11,6 @@ use Rattle.spec_epochs.specs.Helpers.{attests}
 -- whether each validator attests in one of the attestations, in order of index
 unfoldable pub attester_flags : PlainState → List PendingAttestation → List Bool
 attester_flags state attestations = map (λ index. list_any (attests state index) attestations) (validator_indices state)
-
--- whether the validator with an index is weighed: it isn't slashed, and its flag is set
-unfoldable pub is_weighed : List Bool → ℕ → Validator → Bool
-is_weighed flags index v = not v.slashed && slice_index_or flags index false
 
 -- those from an index on who are not slashed and whose flag is set
 unfoldable pub flagged_from : PlainState → List Bool → ℕ → List ℕ
