@@ -17,6 +17,7 @@ pub(crate) trait Flagged {
 }
 
 /// Those who have a vote right.
+#[derive(Drop)]
 pub(crate) struct Voters<'a> {
     /// How each validator attested.
     pub(crate) statuses: &'a [Status],
