@@ -4,6 +4,7 @@ ghost use Rattle.std.specs.Prelude.{◌≡◌};
 ghost use Rattle.bc_words.specs.Outcome.{Changes, Gives};
 ghost use Rattle.spec_state.specs.Accessors.{get_current_epoch, get_previous_epoch, get_block_root};
 ghost use Rattle.spec_state.specs.Soundness.{IsSound};
+ghost use Rattle.stakes.specs.inside.Stakes.{stakes_of};
 ghost use Rattle.participation.specs.inside.Statuses.{statuses_of};
 ghost use Rattle.spec_epochs.specs.Weigh.{weigh};
 ghost use Rattle.spec_epochs.specs.WeighJustificationAndFinalization.{justification_of, with_justification, weigh_justification_and_finalization};
@@ -15,6 +16,7 @@ use bc_words::Stop;
 use beacon_state::State;
 use participation::{Status, Vote, vote_balance};
 use spec_epochs::Justification;
+use stakes::Stake;
 
 /// The bits and checkpoints of a state.
 #[tactic(auto, unfolding(spec_epochs::specs::WeighJustificationAndFinalization::justification_of))]
@@ -64,17 +66,19 @@ fn weigh_of(state: &State, total: u64, previous: u64, current: u64) -> Result<Ju
 }
 
 /// Justifies and makes final what the votes of the previous and of the current epoch are enough for (beacon-chain.md,
-/// `process_justification_and_finalization`). Nothing happens in the first two epochs. The statuses are those of the state's
-/// previous and current epoch.
+/// `process_justification_and_finalization`). Nothing happens in the first two epochs. The stakes are the state's, and the statuses
+/// those of its previous and current epoch.
 ///
 /// Refused as an overflow exactly where a sum or product of balances does not fit; the state is then as before.
 #[tactic(auto, unfolding(spec_epochs::specs::ProcessJustificationAndFinalization::process_justification_and_finalization, spec_epochs::specs::WeighJustificationAndFinalization::weigh_justification_and_finalization), using(crate::proofs::Targets::targets_are))]
 pub fn process_justification(
     state: &mut State,
+    stakes: &[Stake],
     previous: &[Status],
     current: &[Status],
 ) -> Result<(), Stop>
     requires sound { IsSound state.old }
+    requires stakes { stakes.now ≡ stakes_of state.old }
     requires previous { previous.now ≡ statuses_of state.old (get_previous_epoch state.old) }
     requires current { current.now ≡ statuses_of state.old (get_current_epoch state.old) }
     ensures { Changes result state.old state.new (process_justification_and_finalization state.old) }
@@ -84,8 +88,8 @@ pub fn process_justification(
         return Ok(());
     }
     let total = total_active(state, epoch)?;
-    let before = vote_balance(state, previous, Vote::Target)?;
-    let now = vote_balance(state, current, Vote::Target)?;
+    let before = vote_balance(state, stakes, previous, Vote::Target)?;
+    let now = vote_balance(state, stakes, current, Vote::Target)?;
     let weighed = weigh_of(state, total, before, now)?;
     set_justification(state, weighed);
     Ok(())
