@@ -7,9 +7,10 @@ ghost use Rattle.spec_state.specs.inside.EpochCommittees.{epoch_committees};
 ghost use Rattle.spec_state.specs.Soundness.{IsSound, IsSoundWithinEpoch};
 
 use crate::ratio::{Time, now, tell_numbers, tell_ratio, tell_times, time_since};
-use crate::states::{Shape, read_mainnet};
+use crate::states::{CONFIG, Shape, read_mainnet};
 use anyhow::{Result, bail};
 use balance_totals::{committees_of_epoch, current_epoch, previous_epoch};
+use bc_preset::Config;
 use bc_words::{NoMemory, Stop};
 use beacon_state::State;
 use committees::EpochCommittees;
@@ -23,6 +24,7 @@ use epoch_close::process_slashings_reset::process_slashings_reset;
 use epoch_rewards::process_rewards;
 use justification::process_justification;
 use participation::{current_statuses, previous_statuses};
+use stakes::{Stakes, gather};
 use std::alloc::Global;
 use std::time::CpuClock;
 use transition::{is_sound, is_sound_within_epoch, sound_within_epoch};
@@ -41,7 +43,7 @@ struct Times {
     committees: Time,
     /// How many committees a slot of either epoch has, joined.
     per_slot: u64,
-    /// The parts of the epoch's end, and the tables that the first two read.
+    /// The parts of the epoch's end, and what the first two read.
     justified: Justified,
     rewards: Time,
     closing: Closing,
@@ -62,6 +64,7 @@ impl Times {
         let closing = self.closing;
         self.justified
             .tables
+            .plus(self.justified.gathering)
             .plus(self.justified.justification)
             .plus(self.rewards)
             .plus(closing.slashings)
@@ -118,17 +121,20 @@ fn time_committees(
     Ok((time_since(rt, begin), previous ^ current))
 }
 
-/// The times of the tables of both epochs, with these committees, and of justification by them.
+/// The times of the tables of both epochs, with these committees, of gathering what is read of each validator, and of justification by
+/// these.
 #[derive(Clone, Copy)]
 struct Justified {
     tables: Time,
+    gathering: Time,
     justification: Time,
 }
 
-/// The times of both tables, with these committees, and of justification.
+/// The times of both tables, with these committees, of gathering, and of justification.
 fn time_justified(
     rt: &(impl AllocGlobal + CpuClock),
     state: &mut State,
+    config: &Config,
     previous: &EpochCommittees,
     current: &EpochCommittees,
 ) -> Result<Justified, Stop>
@@ -142,47 +148,68 @@ fn time_justified(
     let latest = current_statuses(rt.alloc(), state, current)?;
     let tables = time_since(rt, begin);
     let begin = now(rt);
-    process_justification(state, &before, &latest)?;
+    let Stakes { list, .. } = gather(rt.alloc(), state, config)?;
+    let gathering = time_since(rt, begin);
+    let begin = now(rt);
+    process_justification(state, &list, &before, &latest)?;
     Ok(Justified {
         tables,
+        gathering,
         justification: time_since(rt, begin),
     })
 }
 
-/// The times of both tables and of justification on a sound state.
-fn time_sound(rt: &(impl AllocGlobal + CpuClock), state: &mut State) -> Result<Justified, Stop>
+/// The times of both tables, of gathering and of justification on a sound state.
+fn time_sound(
+    rt: &(impl AllocGlobal + CpuClock),
+    state: &mut State,
+    config: &Config,
+) -> Result<Justified, Stop>
     requires { IsSound state.old }
 {
     let previous = committees_of_epoch(rt.alloc(), state, previous_epoch(state))?;
     let current = committees_of_epoch(rt.alloc(), state, current_epoch(state))?;
-    time_justified(rt, state, &previous, &current)
+    time_justified(rt, state, config, &previous, &current)
 }
 
-/// The times of both tables and of justification.
-fn time_justification(rt: &(impl AllocGlobal + CpuClock), state: &mut State) -> Result<Justified> {
+/// The times of both tables, of gathering and of justification.
+fn time_justification(
+    rt: &(impl AllocGlobal + CpuClock),
+    state: &mut State,
+    config: &Config,
+) -> Result<Justified> {
     if !is_sound(rt.alloc(), state)? {
         bail!("the state isn't sound");
     }
-    Ok(time_sound(rt, state)?)
+    Ok(time_sound(rt, state, config)?)
 }
 
 /// The time of rewards on a state that is sound within its epoch's end.
-fn time_rewarded(rt: &(impl AllocGlobal + CpuClock), state: &mut State) -> Result<Time, Stop>
+fn time_rewarded(
+    rt: &(impl AllocGlobal + CpuClock),
+    state: &mut State,
+    config: &Config,
+) -> Result<Time, Stop>
     requires { IsSoundWithinEpoch state.old }
 {
     let previous = committees_of_epoch(rt.alloc(), state, previous_epoch(state))?;
     let statuses = previous_statuses(rt.alloc(), state, &previous)?;
+    let Stakes { list, .. } = gather(rt.alloc(), state, config)?;
     let begin = now(rt);
-    process_rewards(rt.alloc(), state, &statuses)?;
+    process_rewards(rt.alloc(), state, &list, statuses)?;
     Ok(time_since(rt, begin))
 }
 
 /// The time of rewards.
-fn time_rewards(rt: &(impl AllocGlobal + CpuClock), state: &mut State) -> Result<Time> {
+fn time_rewards(
+    rt: &(impl AllocGlobal + CpuClock),
+    state: &mut State,
+    config: &Config,
+) -> Result<Time> {
     if !is_sound_within_epoch(rt.alloc(), state)? {
         bail!("the state isn't sound within its epoch's end");
     }
-    Ok(time_rewarded(rt, state)?)
+    Ok(time_rewarded(rt, state, config)?)
 }
 
 /// The time of the short closing parts.
@@ -196,23 +223,41 @@ fn time_resets(rt: &impl CpuClock, state: &mut State) -> Result<Time, Stop> {
     Ok(time_since(rt, begin))
 }
 
+/// The time of the effective balances.
+#[tactic(auto, using(epoch_close::proofs::Gathered::gathered_balances))]
+fn time_effective_balances(
+    rt: &(impl AllocGlobal + CpuClock),
+    state: &mut State,
+    config: &Config,
+) -> Result<Time, Stop> {
+    let Stakes { list, .. } = gather(rt.alloc(), state, config)?;
+    let begin = now(rt);
+    process_effective_balances(rt.alloc(), state, &list)?;
+    Ok(time_since(rt, begin))
+}
+
 /// The times of the closing parts.
-fn time_closing(rt: &(impl AllocGlobal + CpuClock), state: &mut State) -> Result<Closing, Stop> {
+fn time_closing(
+    rt: &(impl AllocGlobal + CpuClock),
+    state: &mut State,
+    config: &Config,
+) -> Result<Closing, Stop> {
     let begin = now(rt);
     process_slashings(rt.alloc(), state)?;
     let slashings = time_since(rt, begin);
-    let begin = now(rt);
-    process_effective_balances(rt.alloc(), state)?;
-    let effective_balances = time_since(rt, begin);
     Ok(Closing {
         slashings,
-        effective_balances,
+        effective_balances: time_effective_balances(rt, state, config)?,
         resets: time_resets(rt, state)?,
     })
 }
 
 /// The times of all parts.
-fn time_parts(rt: &(impl AllocGlobal + CpuClock), state: &mut State) -> Result<Times> {
+fn time_parts(
+    rt: &(impl AllocGlobal + CpuClock),
+    state: &mut State,
+    config: &Config,
+) -> Result<Times> {
     let (reading, joined) = time_reading(rt, state);
     let (committees, per_slot) = time_committees(rt, state)?;
     Ok(Times {
@@ -220,14 +265,14 @@ fn time_parts(rt: &(impl AllocGlobal + CpuClock), state: &mut State) -> Result<T
         joined,
         committees,
         per_slot,
-        justified: time_justification(rt, state)?,
-        rewards: time_rewards(rt, state)?,
-        closing: time_closing(rt, state)?,
+        justified: time_justification(rt, state, config)?,
+        rewards: time_rewards(rt, state, config)?,
+        closing: time_closing(rt, state, config)?,
     })
 }
 
 /// The times on a state at the end of its third epoch, with so many committees of 128 in a slot, one for each 4,096 validators.
-fn time_on(rt: &(impl AllocGlobal + CpuClock), per_slot: u8) -> Result<Times> {
+fn time_on(rt: &(impl AllocGlobal + CpuClock), config: &Config, per_slot: u8) -> Result<Times> {
     let per_slot = u32::from(per_slot);
     let shape = Shape {
         validators: 4096 * per_slot,
@@ -236,7 +281,7 @@ fn time_on(rt: &(impl AllocGlobal + CpuClock), per_slot: u8) -> Result<Times> {
         current: 31 * per_slot,
     };
     match read_mainnet(rt, &shape) {
-        Ok(mut reading) => time_parts(rt, &mut reading.state),
+        Ok(mut reading) => time_parts(rt, &mut reading.state, config),
         Err(error) => Err(error),
     }
 }
@@ -253,6 +298,7 @@ fn tell_parts(rt: &impl Print, validators: u64, times: &Times) -> Result<()> {
         ("  passes of reading", times.reading),
         ("  committees", times.committees),
         ("  tables of both epochs", times.justified.tables),
+        ("  gathering", times.justified.gathering),
         ("  justification", times.justified.justification),
         ("  rewards", times.rewards),
         ("  slashings", closing.slashings),
@@ -276,9 +322,10 @@ fn tell(rt: &impl Print, small: &Times, large: &Times) -> Result<()> {
 
 /// Measures an epoch's end on both states, and prints all times.
 pub fn measure(rt: &(impl AllocGlobal + Print + CpuClock)) -> Result<()> {
-    let small = time_on(rt, 4)?;
+    let config = Config::read(CONFIG)?;
+    let small = time_on(rt, &config, 4)?;
     tell_parts(rt, 16_384, &small)?;
-    let large = time_on(rt, 64)?;
+    let large = time_on(rt, &config, 64)?;
     tell_parts(rt, 262_144, &large)?;
     tell(rt, &small, &large)
 }

@@ -1,3 +1,4 @@
+pub mod Gathered
 pub mod MadeLeft
 pub mod Unpaid
 pub mod Updating

@@ -7,7 +7,7 @@ use balance_totals::{committees_of_epoch, current_epoch, previous_epoch};
 use bc_preset::Config;
 use bc_words::Stop;
 use beacon_state::State;
-use epoch_close::process_effective_balance_updates::process_effective_balances;
+use epoch_close::process_effective_balance_updates;
 use epoch_close::process_eth1_data_reset::process_eth1_reset;
 use epoch_close::process_historical_roots_update::process_historical_roots;
 use epoch_close::process_participation_record_updates::process_rotation;
@@ -15,32 +15,53 @@ use epoch_close::process_randao_mixes_reset::process_randao_reset;
 use epoch_close::process_slashings::process_slashings;
 use epoch_close::process_slashings_reset::process_slashings_reset;
 use participation::{current_statuses, previous_statuses};
-use registry_queue::process_registry_updates::process_registry;
+use registry_queue::process_registry_updates;
+use stakes::{Stakes, gather};
 use std::alloc::Global;
 use std::rt::Files;
 use transition::{is_sound, is_sound_within_epoch, sound_within_epoch};
 
 /// Justifies what the votes of the state's two epochs are enough for. None where the state isn't sound.
-fn justify(alloc: Global, state: &mut State) -> Result<Option<Result<(), Stop>>> {
+fn justify(alloc: Global, state: &mut State, config: &Config) -> Result<Option<Result<(), Stop>>> {
     if !is_sound(alloc, state)? {
         return Ok(None);
     }
     sound_within_epoch();
+    let Stakes { list, .. } = gather(alloc, state, config)?;
     let committees = committees_of_epoch(alloc, state, previous_epoch(state))?;
     let previous = previous_statuses(alloc, state, &committees)?;
     let committees = committees_of_epoch(alloc, state, current_epoch(state))?;
     let current = current_statuses(alloc, state, &committees)?;
-    Ok(Some(justification::process_justification(state, &previous, &current)))
+    Ok(Some(justification::process_justification(state, &list, &previous, &current)))
 }
 
 /// Pays what the votes of the previous epoch bring and cost. None where the state isn't sound.
-fn pay(alloc: Global, state: &mut State) -> Result<Option<Result<(), Stop>>> {
+fn pay(alloc: Global, state: &mut State, config: &Config) -> Result<Option<Result<(), Stop>>> {
     if !is_sound_within_epoch(alloc, state)? {
         return Ok(None);
     }
+    let Stakes { list, .. } = gather(alloc, state, config)?;
     let committees = committees_of_epoch(alloc, state, previous_epoch(state))?;
     let statuses = previous_statuses(alloc, state, &committees)?;
-    Ok(Some(epoch_rewards::process_rewards(alloc, state, &statuses)))
+    Ok(Some(epoch_rewards::process_rewards(alloc, state, &list, statuses)))
+}
+
+/// Lets in those that are due, and ejects those of too little balance.
+fn process_registry(alloc: Global, state: &mut State, config: &Config) -> Result<(), Stop> {
+    let Stakes { list, stirs } = gather(alloc, state, config)?;
+    drop(list);
+    process_registry_updates::process_registry(alloc, state, config, stirs)
+}
+
+/// Lets each validator's effective balance follow its balance.
+#[tactic(auto, using(epoch_close::proofs::Gathered::gathered_balances))]
+fn process_effective_balances(
+    alloc: Global,
+    state: &mut State,
+    config: &Config,
+) -> Result<(), Stop> {
+    let Stakes { list, .. } = gather(alloc, state, config)?;
+    process_effective_balance_updates::process_effective_balances(alloc, state, &list)
 }
 
 /// A part that may be given any state. None where there is none of this name.
@@ -54,7 +75,7 @@ fn process(
         "registry_updates" => Some(process_registry(alloc, state, config)),
         "slashings" => Some(process_slashings(alloc, state)),
         "eth1_data_reset" => Some(process_eth1_reset(state)),
-        "effective_balance_updates" => Some(process_effective_balances(alloc, state)),
+        "effective_balance_updates" => Some(process_effective_balances(alloc, state, config)),
         "slashings_reset" => Some(process_slashings_reset(state)),
         "randao_mixes_reset" => Some(process_randao_reset(state)),
         "historical_roots_update" => Some(process_historical_roots(state)),
@@ -72,8 +93,11 @@ pub fn run(
 ) -> Result<Verdict> {
     let alloc = rt.alloc();
     let (outcome, otherwise) = match handler {
-        "justification_and_finalization" => (justify(alloc, state)?, Outside::Unsound),
-        "rewards_and_penalties" => (pay(alloc, state)?, Outside::Unsound),
+        "justification_and_finalization" => (
+            justify(alloc, state, case.config())?,
+            Outside::Unsound,
+        ),
+        "rewards_and_penalties" => (pay(alloc, state, case.config())?, Outside::Unsound),
         _ => (
             process(alloc, state, handler, case.config()),
             Outside::Handler,

@@ -3,6 +3,7 @@
 ghost use Rattle.std.specs.Prelude.{◌≡◌};
 ghost use Rattle.spec_state.specs.Accessors.{get_previous_epoch};
 ghost use Rattle.spec_state.specs.Soundness.{IsSoundWithinEpoch};
+ghost use Rattle.stakes.specs.inside.Stakes.{stakes_of};
 ghost use Rattle.participation.specs.inside.Statuses.{statuses_of};
 
 use crate::case::Case;
@@ -17,6 +18,7 @@ use epoch_rewards::{
 };
 use participation::{Status, previous_statuses};
 use ssz_codec::{Field, Items, cut, read_list};
+use stakes::{Stake, Stakes, gather};
 use std::alloc::Global;
 use std::rt::Files;
 use transition::is_sound_within_epoch;
@@ -56,16 +58,23 @@ impl Part {
     }
 
     /// What it gives.
-    fn deltas(self, alloc: Global, state: &State, statuses: &[Status]) -> Result<Deltas, Stop>
+    fn deltas(
+        self,
+        alloc: Global,
+        state: &State,
+        stakes: &[Stake],
+        statuses: &[Status],
+    ) -> Result<Deltas, Stop>
         requires sound { IsSoundWithinEpoch state.now }
+        requires stakes { stakes.now ≡ stakes_of state.now }
         requires statuses { statuses.now ≡ statuses_of state.now (get_previous_epoch state.now) }
     {
         match self {
-            Part::Source => source_deltas(alloc, state, statuses),
-            Part::Target => target_deltas(alloc, state, statuses),
-            Part::Head => head_deltas(alloc, state, statuses),
-            Part::InclusionDelay => inclusion_deltas(alloc, state, statuses),
-            Part::InactivityPenalty => inactivity_deltas(alloc, state, statuses),
+            Part::Source => source_deltas(alloc, state, stakes, statuses),
+            Part::Target => target_deltas(alloc, state, stakes, statuses),
+            Part::Head => head_deltas(alloc, state, stakes, statuses),
+            Part::InclusionDelay => inclusion_deltas(alloc, state, stakes, statuses),
+            Part::InactivityPenalty => inactivity_deltas(alloc, state, stakes, statuses),
         }
     }
 }
@@ -110,14 +119,16 @@ fn run_part(
     case: &Case,
     part: Part,
     state: &State,
+    stakes: &[Stake],
     statuses: &[Status],
     difference: &mut Difference,
 ) -> Result<Option<Stop>>
     requires sound { IsSoundWithinEpoch state.now }
+    requires stakes { stakes.now ≡ stakes_of state.now }
     requires statuses { statuses.now ≡ statuses_of state.now (get_previous_epoch state.now) }
 {
     let bytes = case.bytes(rt, part.name())?;
-    match part.deltas(rt.alloc(), state, statuses) {
+    match part.deltas(rt.alloc(), state, stakes, statuses) {
         Ok(deltas) => {
             compare(rt.alloc(), part, &deltas, bytes.as_slice(), difference)?;
             Ok(None)
@@ -126,19 +137,21 @@ fn run_part(
     }
 }
 
-/// Runs the parts on a sound state with how each validator attested in its previous epoch.
+/// Runs the parts on a sound state with what was gathered of its validators, and how each attested in the previous epoch.
 fn run_parts(
     rt: &(impl Files + AllocGlobal),
     case: &Case,
     state: &State,
+    stakes: &[Stake],
     statuses: &[Status],
 ) -> Result<Verdict>
     requires sound { IsSoundWithinEpoch state.now }
+    requires stakes { stakes.now ≡ stakes_of state.now }
     requires statuses { statuses.now ≡ statuses_of state.now (get_previous_epoch state.now) }
 {
     let mut difference = Difference::new(rt.alloc());
     for part in PARTS {
-        if let Some(stop) = run_part(rt, case, part, state, statuses, &mut difference)? {
+        if let Some(stop) = run_part(rt, case, part, state, stakes, statuses, &mut difference)? {
             return not_accepted(stop);
         }
     }
@@ -150,7 +163,8 @@ pub fn run(rt: &(impl Files + AllocGlobal), case: &Case, state: &State) -> Resul
     if !is_sound_within_epoch(rt.alloc(), state)? {
         return Ok(Verdict::Outside(Outside::Unsound));
     }
+    let Stakes { list, .. } = gather(rt.alloc(), state, case.config())?;
     let previous = committees_of_epoch(rt.alloc(), state, previous_epoch(state))?;
     let statuses = previous_statuses(rt.alloc(), state, &previous)?;
-    run_parts(rt, case, state, &statuses)
+    run_parts(rt, case, state, &list, &statuses)
 }

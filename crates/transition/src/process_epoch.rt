@@ -8,6 +8,8 @@ ghost use Rattle.spec_state.specs.Accessors.{get_current_epoch, get_previous_epo
 ghost use Rattle.spec_state.specs.Soundness.{IsSound};
 ghost use Rattle.spec_epochs.specs.ProcessEpoch.{process_epoch};
 ghost use Rattle.participation.specs.inside.Statuses.{statuses_of};
+ghost use Rattle.stakes.specs.inside.Stakes.{balances_read, effective_balances, stakes_of};
+ghost use Rattle.stakes.specs.inside.Stirring.{registry_stirs};
 ghost use Rattle.transition.specs.inside.Epochs.{resets, closing_parts};
 
 use balance_totals::{current_epoch, keep_active, note_total};
@@ -25,6 +27,7 @@ use epoch_rewards::process_rewards;
 use justification::process_justification;
 use participation::{Status, current_table, previous_table};
 use registry_queue::process_registry_updates::process_registry;
+use stakes::{Stake, Stakes, gather};
 use std::alloc::Global;
 
 /// The state keeps who is active at its epoch, and what they weigh together, which several parts ask for.
@@ -62,43 +65,49 @@ fn reset(state: &mut State) -> Result<(), Stop>
     process_rotation(state)
 }
 
-/// The closing parts, behind the registry.
-#[tactic(auto, unfolding(crate::specs::inside::Epochs::closing_parts))]
-fn close(alloc: Global, state: &mut State) -> Result<(), Stop>
+/// The closing parts, behind the registry. The stakes hold the effective balances, which no part before has changed.
+#[tactic(auto, unfolding(crate::specs::inside::Epochs::closing_parts), using(crate::proofs::Registries::penalized_balances))]
+fn close(alloc: Global, state: &mut State, stakes: Vec<Stake>) -> Result<(), Stop>
+    requires { balances_read stakes.items ≡ effective_balances state.old.validators }
     ensures { Moves result state.new (closing_parts state.old) }
 {
     process_slashings(alloc, state)?;
     process_eth1_reset(state)?;
-    process_effective_balances(alloc, state)?;
+    process_effective_balances(alloc, state, &stakes)?;
+    drop(stakes);
     reset(state)
 }
 
-/// The parts of an epoch's end, one after another, on a sound state of which these tables are. Each is given up where it was needed
-/// last, since it takes more than the balances.
+/// The parts of an epoch's end, one after another, on a sound state of which these tables and stakes are. Each is given up where it was
+/// needed last, since it takes more than the balances.
 #[tactic(auto, using(crate::proofs::Epochs::justified_statuses), unfolding(spec_epochs::specs::ProcessEpoch::process_epoch, crate::specs::inside::Epochs::closing_parts, crate::specs::inside::Epochs::resets))]
 fn take_parts(
     alloc: Global,
     state: &mut State,
     config: &Config,
+    stakes: Stakes,
     previous: Vec<Status>,
     current: Vec<Status>,
 ) -> Result<(), Stop>
     requires sound { IsSound state.old }
+    requires stakes { stakes.list.items ≡ stakes_of state.old }
+    requires stirs { stakes.stirs ≡ registry_stirs state.old config.now }
     requires previous { previous.items ≡ statuses_of state.old (get_previous_epoch state.old) }
     requires current { current.items ≡ statuses_of state.old (get_current_epoch state.old) }
     ensures { Moves result state.new (process_epoch state.old config.now) }
 {
-    process_justification(state, &previous, &current)?;
+    let Stakes { list, stirs } = stakes;
+    process_justification(state, &list, &previous, &current)?;
     drop(current);
-    process_rewards(alloc, state, &previous)?;
-    drop(previous);
-    process_registry(alloc, state, config)?;
-    close(alloc, state)
+    process_rewards(alloc, state, &list, previous)?;
+    process_registry(alloc, state, config, stirs)?;
+    close(alloc, state, list)
 }
 
 /// The parts of an epoch's end (beacon-chain.md, `process_epoch`), on a sound state. The table of how each validator attested is made
-/// once for the previous and once for the current epoch, by the committees that the state keeps where there is an attestation. It leaves
-/// anything in the state after a stop.
+/// once for the previous and once for the current epoch, by the committees that the state keeps where there is an attestation. Effective
+/// balances, who is slashed, whom rewards reach and whether the registry stirs are gathered once, since validators lie apart in memory
+/// and each part would walk them again. It leaves anything in the state after a stop.
 ///
 /// Refused where a part is: as an overflow where a sum or product does not fit, and as a full list of historical roots.
 pub fn process_epoch(alloc: Global, state: &mut State, config: &Config) -> Result<(), Stop>
@@ -107,5 +116,6 @@ pub fn process_epoch(alloc: Global, state: &mut State, config: &Config) -> Resul
 {
     let (previous, current) = tables(alloc, state)?;
     keep_epoch_active(alloc, state)?;
-    take_parts(alloc, state, config, previous, current)
+    let stakes = gather(alloc, state, config)?;
+    take_parts(alloc, state, config, stakes, previous, current)
 }

@@ -56,9 +56,10 @@ fn block_part(alloc: Global, state: &mut State, given: &Given) -> Result<Result<
 fn change(alloc: Global, state: &mut State, given: &Given) -> Result<Result<(), Stop>> {
     match given.name.as_str() {
         "process_slot" => slots::process_slot(state),
-        "process_justification" => finality::process_justification(alloc, state),
-        "process_rewards" => rewards::process_rewards(alloc, state),
+        "process_justification" => finality::process_justification(alloc, state, given),
+        "process_rewards" => rewards::process_rewards(alloc, state, given),
         "process_registry" => registry::process_registry(alloc, state, given),
+        "process_effective_balances" => closing::process_effective_balances(alloc, state, given),
         name => match closing::closing_part(alloc, state, name) {
             Some(outcome) => Ok(outcome),
             None => block_part(alloc, state, given),
@@ -73,7 +74,7 @@ fn answer_on(alloc: Global, state: &mut State, given: &Given) -> Result<String> 
         "matching_votes" => votes::matching_line(alloc, state),
         "process_slots" => transitions::slots_lines(alloc, state, given),
         "state_transition" => transitions::block_lines(alloc, state, given),
-        name if rewards::is_part(name) => rewards::deltas_answer(alloc, state, name),
+        name if rewards::is_part(name) => rewards::deltas_answer(alloc, state, given),
         _ => {
             let outcome = change(alloc, state, given)?;
             answer_line(alloc, state, outcome)

@@ -5,6 +5,7 @@ use anyhow::Result;
 use bc_words::Stop;
 use beacon_state::State;
 use registry_queue::process_registry_updates;
+use stakes::{Stakes, gather};
 use std::alloc::Global;
 
 /// Lets in those that are due, and ejects those of too little balance.
@@ -14,5 +15,7 @@ pub fn process_registry(
     given: &Given,
 ) -> Result<Result<(), Stop>> {
     let config = given.config()?;
-    Ok(process_registry_updates::process_registry(alloc, state, &config))
+    let Stakes { list, stirs } = gather(alloc, state, &config)?;
+    drop(list);
+    Ok(process_registry_updates::process_registry(alloc, state, &config, stirs))
 }

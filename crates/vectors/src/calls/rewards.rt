@@ -3,9 +3,11 @@
 ghost use Rattle.std.specs.Prelude.{◌≡◌};
 ghost use Rattle.spec_state.specs.Accessors.{get_previous_epoch};
 ghost use Rattle.spec_state.specs.Soundness.{IsSoundWithinEpoch};
+ghost use Rattle.stakes.specs.inside.Stakes.{stakes_of};
 ghost use Rattle.participation.specs.inside.Statuses.{statuses_of};
 
 use crate::calls::answers::stop_line;
+use crate::calls::given::Given;
 use anyhow::{Result, bail};
 use balance_totals::{committees_of_epoch, previous_epoch};
 use bc_words::Stop;
@@ -15,17 +17,24 @@ use epoch_rewards::{
 };
 use participation::{Status, previous_statuses};
 use ssz_codec::Items;
+use stakes::{Stake, Stakes, gather};
 use std::alloc::Global;
 use transition::is_sound_within_epoch;
 
 /// Adds to the balances what the previous epoch's attestations bring, and takes what they cost.
-pub fn process_rewards(alloc: Global, state: &mut State) -> Result<Result<(), Stop>> {
+pub fn process_rewards(
+    alloc: Global,
+    state: &mut State,
+    given: &Given,
+) -> Result<Result<(), Stop>> {
     if !is_sound_within_epoch(alloc, state)? {
         bail!("the state isn't sound");
     }
+    let config = given.config()?;
+    let Stakes { list, .. } = gather(alloc, state, &config)?;
     let previous = committees_of_epoch(alloc, state, previous_epoch(state))?;
     let statuses = previous_statuses(alloc, state, &previous)?;
-    Ok(epoch_rewards::process_rewards(alloc, state, &statuses))
+    Ok(epoch_rewards::process_rewards(alloc, state, &list, statuses))
 }
 
 /// Appends a number to a line.
@@ -68,18 +77,20 @@ fn lines_of(alloc: Global, outcome: &Result<Deltas, Stop>) -> Result<String> {
 fn part(
     alloc: Global,
     state: &State,
+    stakes: &[Stake],
     statuses: &[Status],
     call: &str,
 ) -> Option<Result<Deltas, Stop>>
     requires sound { IsSoundWithinEpoch state.now }
+    requires stakes { stakes.now ≡ stakes_of state.now }
     requires statuses { statuses.now ≡ statuses_of state.now (get_previous_epoch state.now) }
 {
     match call {
-        "source_deltas" => Some(source_deltas(alloc, state, statuses)),
-        "target_deltas" => Some(target_deltas(alloc, state, statuses)),
-        "head_deltas" => Some(head_deltas(alloc, state, statuses)),
-        "inclusion_deltas" => Some(inclusion_deltas(alloc, state, statuses)),
-        "inactivity_deltas" => Some(inactivity_deltas(alloc, state, statuses)),
+        "source_deltas" => Some(source_deltas(alloc, state, stakes, statuses)),
+        "target_deltas" => Some(target_deltas(alloc, state, stakes, statuses)),
+        "head_deltas" => Some(head_deltas(alloc, state, stakes, statuses)),
+        "inclusion_deltas" => Some(inclusion_deltas(alloc, state, stakes, statuses)),
+        "inactivity_deltas" => Some(inactivity_deltas(alloc, state, stakes, statuses)),
         _ => None,
     }
 }
@@ -93,13 +104,15 @@ pub fn is_part(call: &str) -> bool {
 }
 
 /// The answer of a part of rewards and penalties.
-pub fn deltas_answer(alloc: Global, state: &State, call: &str) -> Result<String> {
+pub fn deltas_answer(alloc: Global, state: &State, given: &Given) -> Result<String> {
     if !is_sound_within_epoch(alloc, state)? {
         bail!("the state isn't sound");
     }
+    let config = given.config()?;
+    let Stakes { list, .. } = gather(alloc, state, &config)?;
     let previous = committees_of_epoch(alloc, state, previous_epoch(state))?;
     let statuses = previous_statuses(alloc, state, &previous)?;
-    match part(alloc, state, &statuses, call) {
+    match part(alloc, state, &list, &statuses, given.name.as_str()) {
         Some(outcome) => lines_of(alloc, &outcome),
         None => bail!("no such part"),
     }
