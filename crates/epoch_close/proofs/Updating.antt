@@ -1,17 +1,17 @@
 -- The loop over what was read of the validators that notes those that change, and stops with the first that stops. What it has noted
 -- up to a place makes the front of the registry what it becomes.
-use Rattle.std.proofs.Common.{◌≡◌, ℕ, zero, suc, ◌+◌, ◌-◌, ◌%◌, min, ◌≤◌, Bool, true, false, if◌then◌else◌, List, [], ◌∷◌, ◌++◌, map, length, take, slice_get, Option, Some, None, refl, sym, ap, subst, ◌∙◌, inl, inr}
+use Rattle.std.proofs.Common.{◌≡◌, ℕ, zero, suc, ◌+◌, ◌-◌, ◌%◌, min, ◌<◌, Bool, true, false, if◌then◌else◌, List, [], ◌∷◌, ◌++◌, length, take, get_or, slice_get, Option, Some, None, Ok, refl, sym, ap, subst, ◌∙◌, inl, inr}
 use Rattle.std.specs.Option.{unwrap_or, option_map}
 use Rattle.std.specs.List.{range_with_len}
-use Rattle.std.proofs.lemmas.List.{take_all, length-map}
-use Rattle.std.proofs.lemmas.Option.{slice_get-map}
+use Rattle.std.proofs.lemmas.List.{length-map}
+use Rattle.std.proofs.lemmas.Option.{slice_get-map, slice_get-get_or}
 use Rattle.bc_words.specs.Outcome.{Outcome, done, refused, limited, bind, StopsExactly}
 use Rattle.bc_words.specs.declared.refusal.Refusal.TheVariants.{IndexRange}
 use Rattle.bc_words.specs.declared.stop.Stop.{Stop}
 use Rattle.bc_words.proofs.Outcomes.{exactly_bound}
+use Rattle.bc_preset.specs.declared.presets.Preset.{Preset}
 use Rattle.beacon_types.specs.declared.validator.Validator.{Validator}
 use Rattle.tree_nodes.specs.Changes.{AreChanges, changed}
-use Rattle.tree_nodes.proofs.Changes.{length_changed}
 use Rattle.state_parts.proofs.Differing.{none_taken, compared_more}
 use Rattle.spec_state.specs.declared.plain.PlainState.{PlainState}
 use Rattle.spec_epochs.specs.Each.{checked_map}
@@ -49,34 +49,35 @@ module _ (state : PlainState) (i effective : ℕ) (at : slice_get (effective_bal
   unfolding updated_validator
   no_balance none = let f = found_at state.validators i effective at in rw (f.here, none) refl
 
-  module _ (balance : ℕ) (is : slice_get state.balances i ≡ Some balance) where
+  module _ (preset : Preset) (balance : ℕ) (of : preset ≡ state.preset) (is : slice_get state.balances i ≡ Some balance) where
     -- it is the one that is there, with the effective balance that follows
-    made_by : (f : Found state.validators i effective) → updated_validator state i ≡ bind (updated_balance state.preset balance effective) (λ e. done (record f.validator { effective_balance = e }))
+    made_by : (f : Found state.validators i effective) → updated_validator state i ≡ bind (updated_balance preset balance effective) (λ e. done (record f.validator { effective_balance = e }))
     unfolding updated_validator updated_balance
     made_by f =
         let whole = min (balance - balance % state.preset.effective_balance_increment) state.preset.max_effective_balance in
         rw (f.here, is) (with_balance f.validator (is_out_of_bounds state.preset balance f.validator.effective_balance) whole)
         ∙ ap (λ (b : ℕ). bind (bind (is_out_of_bounds state.preset balance b) (λ changes. done (if changes then whole else b))) (λ e. done (record f.validator { effective_balance = e }))) f.has
+        ∙ ap (λ (p : Preset). bind (updated_balance p balance effective) (λ e. done (record f.validator { effective_balance = e }))) (sym of)
 
-    pub stops_by : (stop : Stop) → StopsExactly stop (updated_balance state.preset balance effective) → StopsExactly stop (updated_validator state i)
-    stops_by stop e = let f = found_at state.validators i effective at in subst (StopsExactly stop) (sym (made_by f)) (exactly_bound stop (updated_balance state.preset balance effective) _ e)
+    pub stops_by : (stop : Stop) → StopsExactly stop (updated_balance preset balance effective) → StopsExactly stop (updated_validator state i)
+    stops_by stop e = let f = found_at state.validators i effective at in subst (StopsExactly stop) (sym (made_by f)) (exactly_bound stop (updated_balance preset balance effective) _ e)
 
-    -- an effective balance that stays
-    pub stays_by : updated_balance state.preset balance effective ≡ done effective → (v : Validator) → slice_get state.validators i ≡ Some v → updated_validator state i ≡ done v
-    stays_by e v there =
+    -- where it was done, the validator has that effective balance
+    pub gives_by : (other : ℕ) → updated_balance preset balance effective ≡ done other → (v : Validator) → slice_get state.validators i ≡ Some v → updated_validator state i ≡ done (record v { effective_balance = other })
+    gives_by other e v there =
         let f = found_at state.validators i effective at in
         let one : f.validator ≡ v = cc (f.here, there) in
-        made_by f ∙ ap (λ (o : Outcome ℕ). bind o (λ b. done (record f.validator { effective_balance = b }))) e
-        ∙ ap (λ (b : ℕ). done (record f.validator { effective_balance = b })) (sym f.has)
-        ∙ ap done one
-
-    -- another one
-    pub changes_by : (other : ℕ) → updated_balance state.preset balance effective ≡ done other → (v : Validator) → slice_get state.validators i ≡ Some v → updated_validator state i ≡ done (record v { effective_balance = other })
-    changes_by other e v there =
-        let f = found_at state.validators i effective at in
-        let one : f.validator ≡ v = cc (f.here, there) in
-        made_by f ∙ ap (λ (o : Outcome ℕ). bind o (λ b. done (record f.validator { effective_balance = b }))) e
+        made_by f
+        ∙ ap (λ (o : Outcome ℕ). bind o (λ b. done (record f.validator { effective_balance = b }))) e
         ∙ ap (λ (x : Validator). done (record x { effective_balance = other })) one
+
+    -- and is as before where that is the one that it had
+    pub stays_by : (other : ℕ) → updated_balance preset balance effective ≡ done other → other ≡ effective → (v : Validator) → slice_get state.validators i ≡ Some v → updated_validator state i ≡ done v
+    stays_by other e same v there =
+        let f = found_at state.validators i effective at in
+        let one : f.validator ≡ v = cc (f.here, there) in
+        gives_by other e v there
+        ∙ ap (λ (b : ℕ). done (record v { effective_balance = b })) (same ∙ sym f.has ∙ ap (λ (x : Validator). x.effective_balance) one)
 
 -- ---- all of them
 
@@ -86,12 +87,16 @@ module _ (stakes : List Stake) (validators : List Validator) (read : balances_re
   unfolding balances_read effective_balances
   as_many_read = sym (length-map stakes (λ s. s.effective_balance)) ∙ ap length read ∙ length-map validators (λ v. v.effective_balance)
 
-  pub balance_read : (i : ℕ) (stake : Stake) → slice_get stakes i ≡ Some stake → slice_get (effective_balances validators) i ≡ Some stake.effective_balance
+  pub balance_read : (i : ℕ) (none : Stake) → i < length stakes → slice_get (effective_balances validators) i ≡ Some (get_or stakes i none).effective_balance
   unfolding balances_read
-  balance_read i stake is =
+  balance_read i none less =
       ap (λ (all : List ℕ). slice_get all i) (sym read)
       ∙ slice_get-map (λ s. s.effective_balance) stakes i
-      ∙ ap (λ (o : Option Stake). option_map (λ s. s.effective_balance) o) is
+      ∙ ap (λ (o : Option Stake). option_map (λ s. s.effective_balance) o) (slice_get-get_or stakes i none less)
+
+  -- and the validator stands there
+  pub found_read : (i : ℕ) (none : Stake) → i < length stakes → Found validators i (get_or stakes i none).effective_balance
+  found_read i none less = found_at validators i (get_or stakes i none).effective_balance (balance_read i none less)
 
 module _ {A : Type 0} (make : ℕ → Outcome A) (items : List A) where
   pub none_noted : (i n : ℕ) (changes : List (ℕ × A)) → i ≡ 0 → changes ≡ [] → made_from make n i (take i (changed items changes)) ≡ checked_map make (range_with_len 0 n)

@@ -1,5 +1,4 @@
 -- Words of this crate's own contracts.
-pub mod Stakes
 pub mod Divisor
 pub mod Components
 pub mod Inclusions

@@ -1,18 +1,18 @@
 //! Whom rewards and penalties reach (beacon-chain.md, "get_eligible_validator_indices"), and who attested, by what was gathered of
 //! the registry and by the table of statuses.
 
-ghost use Rattle.std.specs.Prelude.{◌≡◌, Some, slice_get, MatchOption};
+ghost use Rattle.std.specs.Prelude.{◌≡◌, Some, slice_get};
 ghost use Rattle.spec_epochs.specs.Each.{is_among};
 ghost use Rattle.spec_epochs.specs.RewardHelpers.{get_eligible_validator_indices};
-ghost use Rattle.participation.specs.inside.Marks.{flagged, IsPassedOver, IsTaken};
+ghost use Rattle.stakes.specs.inside.Stakes.{stakes_of};
+ghost use Rattle.participation.specs.inside.Marks.{flagged};
 ghost use Rattle.participation.specs.inside.Statuses.{flags_of};
-ghost use Rattle.epoch_rewards.specs.inside.Stakes.{stakes_of};
 ghost use Rattle.epoch_rewards.specs.inside.Standings.{IsStanding};
 
-use crate::stakes::{Stake, find_stake};
 use crate::standing::Standing;
 use beacon_state::State;
 use participation::{Status, Vote, flag_at};
+use stakes::Stake;
 
 /// Whether a validator is one of those whom rewards and penalties reach.
 #[tactic(auto, using(crate::proofs::Gathered::eligible_here))]
@@ -55,31 +55,5 @@ pub(crate) fn is_attester(
         Vote::Source => standing.source,
         Vote::Target => standing.target,
         Vote::Head => standing.head,
-    }
-}
-
-/// The effective balance of a validator, where it has a vote right and isn't slashed. The stakes are the state's.
-#[tactic(auto, using(crate::proofs::Gathered::counting))]
-pub(crate) fn counted(
-    state: &State,
-    stakes: &[Stake],
-    statuses: &[Status],
-    vote: Vote,
-    index: u64,
-) -> Option<u64>
-    requires { stakes.now ≡ stakes_of state.now }
-    ensures { let flags = flags_of vote statuses.now in MatchOption result (IsPassedOver state.now flags index) (IsTaken state.now flags index) }
-{
-    match find_stake(stakes, index) {
-        Some(stake) => {
-            if stake.slashed {
-                return None;
-            }
-            if !flag_at(statuses, vote, index) {
-                return None;
-            }
-            Some(stake.effective_balance)
-        }
-        None => None,
     }
 }

@@ -4,10 +4,10 @@ ghost use Rattle.std.specs.Prelude.{◌≡◌, if◌then◌else◌};
 ghost use Rattle.bc_words.specs.Outcome.{GivesExactly, done, Gives, GivesBy};
 ghost use Rattle.spec_epochs.specs.Each.{is_among};
 ghost use Rattle.spec_epochs.specs.GetInactivityPenaltyDeltas.{absence_penalty, inactivity_penalty, get_inactivity_penalty_deltas};
+ghost use Rattle.stakes.specs.inside.Stakes.{stakes_of};
 ghost use Rattle.participation.specs.declared.matching.Vote.TheVariants as votes;
 ghost use Rattle.participation.specs.inside.Marks.{flagged};
 ghost use Rattle.participation.specs.inside.Statuses.{flags_of, statuses_of};
-ghost use Rattle.epoch_rewards.specs.inside.Stakes.{stakes_of};
 ghost use Rattle.epoch_rewards.specs.inside.Rates.{absence_by_balance};
 ghost use Rattle.epoch_rewards.specs.inside.Standings.{IsStanding};
 ghost use Rattle.epoch_rewards.specs.inside.Leak.{leak_penalty, penalties_of, leak_deltas};
@@ -19,13 +19,13 @@ use crate::get_eligible_validator_indices::{is_attester, is_eligible};
 use crate::get_finality_delay::get_finality_delay;
 use crate::is_in_inactivity_leak::is_in_inactivity_leak;
 use crate::numbers::zeros;
-use crate::stakes::{Stake, stakes};
 use crate::standing::Standing;
 use bc_words::{Stop, checked_add, checked_mul, checked_sub};
 use beacon_state::State;
 use participation::{Status, Vote};
 use spec_epochs::Deltas;
 use ssz_codec::Items;
+use stakes::Stake;
 use std::alloc::Global;
 
 /// What a validator that didn't attest to the target loses besides, in Gwei, by its effective balance.
@@ -127,12 +127,18 @@ fn leak_deltas(
 }
 
 /// What each validator loses while finality is late (beacon-chain.md, `get_inactivity_penalty_deltas`). Nobody gains by it.
-/// The statuses are those of the previous epoch. Refused as an overflow exactly where a sum or product does not fit.
+/// The stakes are the state's, and the statuses those of the previous epoch. Refused as an overflow exactly where a sum or product
+/// does not fit.
 #[tactic(auto, using(crate::proofs::LeakDeltas::leak_deltas_are))]
-pub fn inactivity_deltas(alloc: Global, state: &State, statuses: &[Status]) -> Result<Deltas, Stop>
-    requires { statuses.now ≡ statuses_of state.now (get_previous_epoch state.now) }
+pub fn inactivity_deltas(
+    alloc: Global,
+    state: &State,
+    stakes: &[Stake],
+    statuses: &[Status],
+) -> Result<Deltas, Stop>
+    requires stakes { stakes.now ≡ stakes_of state.now }
+    requires statuses { statuses.now ≡ statuses_of state.now (get_previous_epoch state.now) }
     ensures { Gives result (get_inactivity_penalty_deltas state.now) }
 {
-    let stakes = stakes(alloc, state)?;
-    leak_deltas(alloc, state, &stakes, statuses)
+    leak_deltas(alloc, state, stakes, statuses)
 }

@@ -3,11 +3,11 @@
 
 ghost use Rattle.std.specs.Prelude.{◌≡◌, ◌/◌, slice_index, slice_set};
 ghost use Rattle.bc_words.specs.Outcome.{GivesExactly, Moves, bind, done, checked_add, Gives, GivesBy};
+ghost use Rattle.stakes.specs.inside.Stakes.{stakes_of};
 ghost use Rattle.participation.specs.declared.matching.Vote.TheVariants as votes;
 ghost use Rattle.participation.specs.inside.Marks.{flagged};
 ghost use Rattle.participation.specs.inside.Statuses.{flags_of, entries_of, statuses_of};
 ghost use Rattle.spec_epochs.specs.RewardHelpers.{get_proposer_reward};
-ghost use Rattle.epoch_rewards.specs.inside.Stakes.{stakes_of};
 ghost use Rattle.epoch_rewards.specs.inside.Standings.{IsStanding};
 ghost use Rattle.epoch_rewards.specs.inside.Inclusions.{entry_at, included, delayed_by, own_reward, joined_reward, all_gains, all_joined, joined_deltas};
 ghost use Rattle.spec_state.specs.Accessors.{get_previous_epoch};
@@ -17,16 +17,16 @@ ghost use Rattle.epoch_rewards.specs.inside.Divisor.{divisor_of};
 
 use crate::amounts::{Amounts, all_amounts};
 use crate::get_base_reward::divisor;
-use crate::get_eligible_validator_indices::{counted, is_attester};
+use crate::get_eligible_validator_indices::is_attester;
 use crate::numbers::{number_at, zeros};
 use crate::rates::{follow, rates_of};
-use crate::stakes::{Stake, stake_at, stakes};
 use crate::standing::Standing;
 use bc_words::{Stop, checked_add, checked_sub};
 use beacon_state::State;
-use participation::{Status, Vote, inclusion_at};
+use participation::{Status, Vote, counted, inclusion_at};
 use spec_epochs::Deltas;
 use ssz_codec::Items;
+use stakes::{Stake, stake_at};
 use std::alloc::Global;
 
 /// Adds to the gains of a validator.
@@ -192,14 +192,19 @@ fn joined_deltas(
 }
 
 /// What each validator gains by the inclusion of the previous epoch's attestations, as a proposer and as an attester
-/// (beacon-chain.md, `get_inclusion_delay_deltas`). Nobody loses by it. The statuses are those of the previous epoch.
-/// Refused as an overflow exactly where a sum or product does not fit.
+/// (beacon-chain.md, `get_inclusion_delay_deltas`). Nobody loses by it. The stakes are the state's, and the statuses those of the
+/// previous epoch. Refused as an overflow exactly where a sum or product does not fit.
 #[tactic(auto, using(crate::proofs::Joined::joined_are))]
-pub fn inclusion_deltas(alloc: Global, state: &State, statuses: &[Status]) -> Result<Deltas, Stop>
+pub fn inclusion_deltas(
+    alloc: Global,
+    state: &State,
+    stakes: &[Stake],
+    statuses: &[Status],
+) -> Result<Deltas, Stop>
     requires sound { IsSoundWithinEpoch state.now }
+    requires stakes { stakes.now ≡ stakes_of state.now }
     requires statuses { statuses.now ≡ statuses_of state.now (get_previous_epoch state.now) }
     ensures { Gives result (get_inclusion_delay_deltas state.now) }
 {
-    let stakes = stakes(alloc, state)?;
-    joined_deltas(alloc, state, &stakes, statuses)
+    joined_deltas(alloc, state, stakes, statuses)
 }

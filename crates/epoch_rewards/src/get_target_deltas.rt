@@ -4,6 +4,7 @@ ghost use Rattle.std.specs.Prelude.{◌≡◌};
 ghost use Rattle.bc_words.specs.Outcome.{Gives};
 ghost use Rattle.spec_state.specs.Accessors.{get_previous_epoch};
 ghost use Rattle.spec_epochs.specs.GetTargetDeltas.{get_target_deltas};
+ghost use Rattle.stakes.specs.inside.Stakes.{stakes_of};
 ghost use Rattle.participation.specs.inside.Statuses.{statuses_of};
 
 use crate::vote_deltas::vote_deltas;
@@ -11,15 +12,22 @@ use bc_words::Stop;
 use beacon_state::State;
 use participation::{Status, Vote};
 use spec_epochs::Deltas;
+use stakes::Stake;
 use std::alloc::Global;
 
 /// What each validator gains and loses by the target of the previous epoch's attestations (beacon-chain.md,
-/// `get_target_deltas`). The statuses are those of the previous epoch. Refused as an overflow exactly where a sum or
-/// product does not fit.
+/// `get_target_deltas`). The stakes are the state's, and the statuses those of the previous epoch. Refused as an overflow exactly
+/// where a sum or product does not fit.
 #[tactic(auto, unfolding(spec_epochs::specs::GetTargetDeltas::get_target_deltas, participation::specs::inside::Votes::matching))]
-pub fn target_deltas(alloc: Global, state: &State, statuses: &[Status]) -> Result<Deltas, Stop>
-    requires { statuses.now ≡ statuses_of state.now (get_previous_epoch state.now) }
+pub fn target_deltas(
+    alloc: Global,
+    state: &State,
+    stakes: &[Stake],
+    statuses: &[Status],
+) -> Result<Deltas, Stop>
+    requires stakes { stakes.now ≡ stakes_of state.now }
+    requires statuses { statuses.now ≡ statuses_of state.now (get_previous_epoch state.now) }
     ensures { Gives result (get_target_deltas state.now) }
 {
-    vote_deltas(alloc, state, statuses, Vote::Target)
+    vote_deltas(alloc, state, stakes, statuses, Vote::Target)
 }

@@ -1,7 +1,7 @@
 //! Rewards and penalties of an epoch (beacon-chain.md, "Rewards and penalties").
 //!
 //! States come from epoch processing, behind justification, and go on to the registry with their balances changed. How each
-//! validator attested stands in a table (`participation`), and what is read of the registry is gathered in one pass (`stakes`).
+//! validator attested stands in a table (`participation`), and what is read of the registry was gathered before (`stakes`).
 //! What a validator gains, loses or has left is an amount (`amounts`), reckoned in the file of the published function that it
 //! belongs to. It is reckoned by how the validator stands (`standing`), which is looked up once, and by what its effective balance
 //! brings (`rates`), which is kept while that is the same. All five parts are then paid in one pass over what was gathered; each is
@@ -9,7 +9,6 @@
 #![tactic(auto)]
 
 mod amounts;
-mod attesting_balance;
 mod get_attestation_component_deltas;
 mod get_base_reward;
 mod get_eligible_validator_indices;
@@ -25,7 +24,6 @@ mod numbers;
 mod paid;
 mod process_rewards_and_penalties;
 mod rates;
-mod stakes;
 mod standing;
 mod vote_deltas;
 

@@ -5,6 +5,7 @@ ghost use Rattle.bc_words.specs.Outcome.{Changes, GivesBy, GivesExactly, bind, d
 ghost use Rattle.spec_state.specs.Accessors.{get_previous_epoch};
 ghost use Rattle.spec_state.specs.Soundness.{IsSoundWithinEpoch};
 ghost use Rattle.spec_epochs.specs.ProcessRewardsAndPenalties.{process_rewards_and_penalties};
+ghost use Rattle.stakes.specs.inside.Stakes.{stakes_of};
 ghost use Rattle.participation.specs.declared.matching.Vote.{Vote};
 ghost use Rattle.participation.specs.declared.matching.Vote.TheVariants as votes;
 ghost use Rattle.participation.specs.inside.Marks.{flagged};
@@ -12,7 +13,6 @@ ghost use Rattle.participation.specs.inside.Statuses.{flags_of, entries_of, stat
 ghost use Rattle.epoch_rewards.specs.inside.Components.{AreWeights};
 ghost use Rattle.epoch_rewards.specs.inside.Divisor.{divisor_of};
 ghost use Rattle.epoch_rewards.specs.inside.Inclusions.{all_gains};
-ghost use Rattle.epoch_rewards.specs.inside.Stakes.{stakes_of};
 ghost use Rattle.epoch_rewards.specs.inside.Paid.{all_paid, all_rewarded, paid_balances};
 
 use crate::amounts::all_amounts;
@@ -20,11 +20,11 @@ use crate::get_attestation_component_deltas::{Weights, needed_balance, weights_o
 use crate::get_inclusion_delay_deltas::proposer_gains;
 use crate::is_in_inactivity_leak::is_in_inactivity_leak;
 use crate::paid::Paid;
-use crate::stakes::{Stake, stakes};
 use balance_totals::{current_epoch, total_active};
 use bc_words::{Stop, isqrt};
 use beacon_state::State;
 use participation::{Status, Vote};
+use stakes::Stake;
 use std::alloc::Global;
 
 /// The balances of all validators after their rewards and penalties, in Gwei, by how each attested and by what each vote is
@@ -87,42 +87,62 @@ fn all_paid(
     )
 }
 
-/// The balances of all validators after their rewards and penalties, in Gwei. The statuses are those of the previous epoch.
+/// The balances of all validators after their rewards and penalties, in Gwei. The stakes are the state's, and the statuses those of
+/// the previous epoch.
 #[tactic(auto, using(crate::proofs::Parts::by_table))]
-fn rewarded_balances(alloc: Global, state: &State, statuses: &[Status]) -> Result<Vec<u64>, Stop>
+fn rewarded_balances(
+    alloc: Global,
+    state: &State,
+    stakes: &[Stake],
+    statuses: &[Status],
+) -> Result<Vec<u64>, Stop>
     requires sound { IsSoundWithinEpoch state.now }
+    requires stakes { stakes.now ≡ stakes_of state.now }
     requires statuses { statuses.now ≡ statuses_of state.now (get_previous_epoch state.now) }
     ensures exact { GivesBy (λ balances. balances.items) result (all_rewarded state.now) }
     ensures few { IfOk result (λ balances. length balances.items ≤ state.now.preset.validator_registry_limit) }
 {
-    let stakes = stakes(alloc, state)?;
-    all_paid(alloc, state, &stakes, statuses)
+    all_paid(alloc, state, stakes, statuses)
 }
 
-/// Writes the balances of all validators after their rewards and penalties.
-fn pay(alloc: Global, state: &mut State, statuses: &[Status]) -> Result<(), Stop>
+/// Writes the balances of all validators after their rewards and penalties. The most memory is in use where they are written, so the
+/// statuses are let go before.
+fn pay(
+    alloc: Global,
+    state: &mut State,
+    stakes: &[Stake],
+    statuses: Vec<Status>,
+) -> Result<(), Stop>
     requires sound { IsSoundWithinEpoch state.old }
-    requires statuses { statuses.now ≡ statuses_of state.old (get_previous_epoch state.old) }
+    requires stakes { stakes.now ≡ stakes_of state.old }
+    requires statuses { statuses.items ≡ statuses_of state.old (get_previous_epoch state.old) }
     ensures { Changes result state.old state.new (bind (all_rewarded state.old) (λ balances. done (record state.old { balances = balances }))) }
 {
-    let balances = rewarded_balances(alloc, state, statuses)?;
+    let balances = rewarded_balances(alloc, state, stakes, &statuses)?;
+    drop(statuses);
     state.set_balances(balances)?;
     Ok(())
 }
 
 /// Adds to each balance what the previous epoch's attestations bring its validator, and takes what they cost it
-/// (beacon-chain.md, `process_rewards_and_penalties`). Nothing happens in the first epoch. The statuses are those of the previous
-/// epoch.
+/// (beacon-chain.md, `process_rewards_and_penalties`). Nothing happens in the first epoch. The stakes are the state's, and the
+/// statuses those of the previous epoch.
 ///
 /// Refused as an overflow exactly where a sum or product does not fit; the state is then as before.
 #[tactic(auto, using(crate::proofs::Parts::processed))]
-pub fn process_rewards(alloc: Global, state: &mut State, statuses: &[Status]) -> Result<(), Stop>
+pub fn process_rewards(
+    alloc: Global,
+    state: &mut State,
+    stakes: &[Stake],
+    statuses: Vec<Status>,
+) -> Result<(), Stop>
     requires sound { IsSoundWithinEpoch state.old }
-    requires statuses { statuses.now ≡ statuses_of state.old (get_previous_epoch state.old) }
+    requires stakes { stakes.now ≡ stakes_of state.old }
+    requires statuses { statuses.items ≡ statuses_of state.old (get_previous_epoch state.old) }
     ensures { Changes result state.old state.new (process_rewards_and_penalties state.old) }
 {
     if current_epoch(state) == 0 {
         return Ok(());
     }
-    pay(alloc, state, statuses)
+    pay(alloc, state, stakes, statuses)
 }

@@ -1,5 +1,7 @@
 pub mod Passes
 pub mod Exits
-pub mod Ranks
-pub mod Behind
+pub mod Steps
+pub mod Updates
 pub mod Quiet
+pub mod Ranks
+pub mod Balances

@@ -1,10 +1,10 @@
 -- The ranks of those who wait, the bar, and the pass that lets in.
 use Rattle.std.proofs.Common.{◌≡◌, ◌⊎◌, ◌∙◌, ℕ, zero, suc, ◌+◌, ◌<◌, ◌≤◌, Bool, true, false, cond, not, ◌&&◌, ◌||◌, ◌==◌, nat_lt, leb, if◌then◌else◌, List, [], ◌∷◌, ◌++◌, length, map, take, drop, get_or, zero-add, Option, Some, None, slice_get, slice_set, refl, sym, ap, ap₂, subst, inl, inr, arith, append_assoc, Less, Equal, Greater}
 use Rattle.std.specs.Prelude.{filter, count_by}
-use Rattle.std.specs.List.{enumerate_from}
+use Rattle.std.specs.List.{enumerate_from, list_any}
 use Rattle.std.specs.List.Sorted.{IsSorted}
 use Rattle.std.specs.Ordering.{ordering_then, is_lt}
-use Rattle.std.proofs.lemmas.Bool.{eq-eqb, ne_eqb, ltb-true, ltb-false, leb-true, leb-false, lt-ltb, le-ltb, le-leb, lt-leb, cases_Bool, cases_order, false≢true}
+use Rattle.std.proofs.lemmas.Bool.{eq-eqb, ne_eqb, ltb-true, ltb-false, leb-true, leb-false, lt-ltb, le-ltb, le-leb, lt-leb, cases_Bool, cases_order, and_right, or_from, false≢true}
 use Rattle.std.proofs.lemmas.List.{append-nil, drop_all, take_all}
 use Rattle.std.proofs.lemmas.List.Sums.{sum_by-cons}
 use Rattle.std.proofs.lemmas.List.Sorted.{sum_by-IsPermutation, length_permutation}
@@ -14,6 +14,8 @@ use Rattle.spec_state.specs.declared.plain.PlainState.{PlainState}
 use Rattle.spec_state.specs.Predicates.{is_eligible_for_activation}
 use Rattle.spec_state.specs.Accessors.{get_validator_churn_limit}
 use Rattle.spec_epochs.specs.ProcessRegistryUpdates.{activation_queue, comes_before, is_dequeued, with_activations}
+use Rattle.registry_queue.proofs.Updates.{let_in}
+use Rattle.registry_queue.proofs.Quiet.{nobody_let_in}
 use Rattle.registry_queue.specs.inside.Ranks.{rank_of, ranks_from, before, rank_cmp, IsQueue, before_bar, is_let_in, IsBar, activated, let_in_from}
 
 abbrev validator_or : Validator → Option Validator → Validator
@@ -326,14 +328,10 @@ module _ (state : PlainState) (bar : Option (ℕ × ℕ)) (epoch : ℕ) where
   not_waiting index v here waits =
       stays_out index v here (ap (λ (a : Bool). if a && before_bar bar (rank_of (index, v)) then record v { activation_epoch = epoch } else v) waits)
 
-  and_not : (a b : Bool) → b ≡ false → a && b ≡ false
-  and_not true b is = is
-  and_not false b is = refl
-
   pub not_before_bar : (index : ℕ) (v : Validator) → slice_get state.validators index ≡ Some v → before_bar bar (v.activation_eligibility_epoch, index) ≡ false → let_in_from state bar epoch (index + 1) ≡ let_in_from state bar epoch index
   unfolding activated is_let_in rank_of
   not_before_bar index v here behind =
-      stays_out index v here (ap (λ (a : Bool). if a then record v { activation_epoch = epoch } else v) (and_not (is_eligible_for_activation state v) (before_bar bar (v.activation_eligibility_epoch, index)) behind))
+      stays_out index v here (ap (λ (a : Bool). if a then record v { activation_epoch = epoch } else v) (and_right (is_eligible_for_activation state v) (before_bar bar (v.activation_eligibility_epoch, index)) behind))
 
   pub let_in_end : (index : ℕ) → length state.validators ≤ index → let_in_from state bar epoch index ≡ state
   unfolding let_in_from
@@ -354,20 +352,20 @@ pub all_dequeued : (state : PlainState) (config : ConfigValues) (bar : Option (�
 unfolding let_in_from with_activations activated IsBar
 all_dequeued state config bar epoch is =
     ap (λ (vs : List Validator). record state { validators = vs })
-    (map_same (activated state bar epoch) (λ entry. if is_dequeued state config entry then record entry.1 { activation_epoch = epoch } else entry.1) state.validators 0
+    (map_same (activated state bar epoch) (let_in state config epoch) state.validators 0
     (λ k v here. let place : 0 + k ≡ k = zero-add k in
     ap (λ (b : Bool). if b then record v { activation_epoch = epoch } else v)
     (ap (λ (i : ℕ). is_let_in state bar (i, v)) place ∙ (sym (is k v here) ∙ ap (λ (i : ℕ). is_dequeued state config (i, v)) (sym place)))))
 
 -- ---- where nobody waits
 
-stays_as_it_is : (state : PlainState) (bar : Option (ℕ × ℕ)) (epoch index : ℕ) (v : Validator) → is_eligible_for_activation state v ≡ false → activated state bar epoch (index, v) ≡ v
-unfolding activated is_let_in
-stays_as_it_is state bar epoch index v waits = ap (λ (a : Bool). if a && before_bar bar (rank_of (index, v)) then record v { activation_epoch = epoch } else v) waits
+without_items : {A : Type 0} (items : List A) → length items ≡ 0 → items ≡ []
+without_items [] none = refl
+without_items (x ∷ items) none = absurd (omega (arith, none))
 
-nobody_in : (state : PlainState) (bar : Option (ℕ × ℕ)) (epoch : ℕ) (vs : List Validator) (index : ℕ) → ranks_from state index vs ≡ [] → map (activated state bar epoch) (enumerate_from index vs) ≡ vs
-nobody_in state bar epoch [] index none = refl
-nobody_in state bar epoch (v ∷ vs) index none =
+nobody_waits : (state : PlainState) (vs : List Validator) (index : ℕ) → ranks_from state index vs ≡ [] → list_any (is_eligible_for_activation state) vs ≡ false
+nobody_waits state [] index none = refl
+nobody_waits state (v ∷ vs) index none =
     let rank : ℕ × ℕ = (v.activation_eligibility_epoch, index) in
     let others = ranks_from state (index + 1) vs in
     elim (cases_Bool (is_eligible_for_activation state v)) [
@@ -376,19 +374,10 @@ nobody_in state bar epoch (v ∷ vs) index none =
           absurd cc
       | inr waits ↦
           let rest : others ≡ [] = sym (opens state index v vs ∙ ap (λ (b : Bool). cond b (rank ∷ others) others) waits) ∙ none in
-          ap₂ (λ (w : Validator) (ws : List Validator). w ∷ ws) (stays_as_it_is state bar epoch index v waits) (nobody_in state bar epoch vs (index + 1) rest)
+          or_from (is_eligible_for_activation state v) (list_any (is_eligible_for_activation state) vs) waits (nobody_waits state vs (index + 1) rest)
     ]
-
-let_in_none : (state : PlainState) (bar : Option (ℕ × ℕ)) (epoch : ℕ) → ranks_from state 0 state.validators ≡ [] → let_in_from state bar epoch 0 ≡ state
-unfolding let_in_from
-let_in_none state bar epoch none = ap (λ (vs : List Validator). record state { validators = vs }) (nobody_in state bar epoch state.validators 0 none)
-
-without_items : {A : Type 0} (items : List A) → length items ≡ 0 → items ≡ []
-without_items [] none = refl
-without_items (x ∷ items) none = absurd (omega (arith, none))
 
 pub none_dequeued : (state : PlainState) (config : ConfigValues) (ranks : List (ℕ × ℕ)) (epoch : ℕ) → IsQueue state ranks → length ranks ≡ 0 → state ≡ record state { validators = with_activations state config epoch }
 none_dequeued state config ranks epoch queue none =
-    let bar = slice_get ranks (get_validator_churn_limit state config) in
     let before = without_items (ranks_from state 0 state.validators) (sym (length_permutation (ranks_from state 0 state.validators) ranks queue.0) ∙ none) in
-    sym (let_in_none state bar epoch before) ∙ all_dequeued state config bar epoch (bar_of state config ranks queue)
+    nobody_let_in state config epoch (nobody_waits state state.validators 0 before)

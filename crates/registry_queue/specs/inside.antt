@@ -1,4 +1,3 @@
 -- Words of this crate's own contracts.
 pub mod Exits
 pub mod Ranks
-pub mod Waiting

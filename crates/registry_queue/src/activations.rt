@@ -11,8 +11,8 @@ ghost use Rattle.registry_queue.specs.inside.Exits.{earliest_exit};
 ghost use Rattle.registry_queue.specs.inside.Ranks.{ranks_from, before, before_bar, activated, let_in_from, IsQueue, IsBar};
 
 use crate::ejections::earliest_exit;
-use crate::waiting::waits_at;
 use bc_preset::Config;
+use bc_preset::constants::FAR_FUTURE_EPOCH;
 use bc_words::NoMemory;
 use beacon_state::State;
 use beacon_types::Validator;
@@ -20,11 +20,12 @@ use exit_queue::churn_limit;
 use std::alloc::Global;
 
 /// Whether what made a validator eligible is final, and it isn't activated (beacon-chain.md, `is_eligible_for_activation`).
-#[tactic(auto, unfolding(spec_state::specs::Predicates::is_eligible_for_activation, crate::specs::inside::Waiting::waits_at))]
+#[tactic(auto, unfolding(spec_state::specs::Predicates::is_eligible_for_activation))]
 fn is_waiting(state: &State, validator: &Validator) -> bool
     ensures { result ≡ is_eligible_for_activation state.now validator.now }
 {
-    waits_at(state.finalized_checkpoint().epoch, validator)
+    validator.activation_eligibility_epoch <= state.finalized_checkpoint().epoch
+        && validator.activation_epoch == FAR_FUTURE_EPOCH
 }
 
 /// Adds the rank of a validator where it waits.

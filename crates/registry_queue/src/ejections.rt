@@ -3,26 +3,24 @@
 //! The registry is walked once, and only one who leaves is looked up. Where the exit queue ends, and how many leave there, is
 //! counted for the first who leaves and kept on the way, so that no other ejection reads the registry.
 
-ghost use Rattle.std.specs.Prelude.{◌≡◌, ◌<◌, ◌^◌, ◌&&◌, IfOk, OnOk, Some, leb, slice_get};
+ghost use Rattle.std.specs.Prelude.{◌≡◌, ◌<◌, ◌^◌, OnOk, Some, slice_get};
 ghost use Rattle.bc_words.specs.Outcome.{Becomes, GivesExactly, Moves, done};
 ghost use Rattle.spec_state.specs.Misc.{compute_activation_exit_epoch};
-ghost use Rattle.spec_state.specs.Predicates.{is_active_validator, is_eligible_for_activation_queue};
 ghost use Rattle.spec_state.specs.Accessors.{get_current_epoch};
 ghost use Rattle.spec_blocks.specs.Checks.{each_of};
 ghost use Rattle.spec_blocks.specs.InitiateValidatorExit.{initiate_validator_exit};
 ghost use Rattle.spec_epochs.specs.Each.{validator_indices};
 ghost use Rattle.spec_epochs.specs.ProcessRegistryUpdates.{with_eligibility, eligibility_and_ejection};
 ghost use Rattle.registry_queue.specs.inside.Exits.{earliest_exit, next_exit, with_exit, IsExitQueue, IsKept};
-ghost use Rattle.registry_queue.specs.inside.Waiting.{may_let_in};
 
-use crate::waiting::{is_above, someone_waits};
-use balance_totals::{current_epoch, is_active_validator, validator_at};
+use balance_totals::{current_epoch, validator_at};
+use bc_preset::Config;
 use bc_preset::constants::FAR_FUTURE_EPOCH;
-use bc_preset::{Config, Preset};
 use bc_words::{NoMemory, Stop, checked_add};
 use beacon_state::State;
 use beacon_types::Validator;
 use exit_queue::{churn_limit, exit_queue_churn, queue_end, withdrawable_epoch};
+use stakes::{is_ejected, may_wait};
 
 /// The queue of those who leave.
 #[derive(Clone, Copy)]
@@ -132,16 +130,6 @@ fn initiate_exit(
     Ok(())
 }
 
-/// Whether a validator doesn't wait yet, and its effective balance is the greatest (beacon-chain.md,
-/// `is_eligible_for_activation_queue`).
-#[tactic(auto, unfolding(spec_state::specs::Predicates::is_eligible_for_activation_queue))]
-fn may_wait(preset: &Preset, validator: &Validator) -> bool
-    ensures { result ≡ is_eligible_for_activation_queue preset.now validator.now }
-{
-    validator.activation_eligibility_epoch == FAR_FUTURE_EPOCH
-        && validator.effective_balance == preset.max_effective_balance
-}
-
 /// The validator waits from the next epoch on where it may.
 #[tactic(auto, unfolding(spec_epochs::specs::ProcessRegistryUpdates::with_eligibility))]
 fn wait(state: &mut State, index: u64, validator: Validator) -> Result<(), NoMemory>
@@ -159,16 +147,8 @@ fn wait(state: &mut State, index: u64, validator: Validator) -> Result<(), NoMem
     state.set_validators_at(index, waiting)
 }
 
-/// Whether a validator is ejected: it is active at the epoch, with too low an effective balance.
-fn is_ejected(validator: &Validator, epoch: u64, config: &Config) -> bool
-    ensures { result ≡ (is_active_validator validator.now epoch && leb validator.now.effective_balance config.now.ejection_balance) }
-{
-    is_active_validator(validator, epoch)
-        && validator.effective_balance <= config.ejection_balance()
-}
-
 /// The validator waits where it may, and leaves where it is ejected.
-#[tactic(auto, unfolding(spec_epochs::specs::ProcessRegistryUpdates::eligibility_and_ejection), using(crate::proofs::Exits::kept_waited))]
+#[tactic(auto, unfolding(spec_epochs::specs::ProcessRegistryUpdates::eligibility_and_ejection, stakes::specs::inside::Stirring::is_ejected), using(crate::proofs::Exits::kept_waited))]
 fn eligibility_and_ejection(
     state: &mut State,
     kept: &mut Option<ExitQueue>,
@@ -191,20 +171,16 @@ fn eligibility_and_ejection(
 
 /// Each validator waits where it may, and leaves where it is active with too low an effective balance, in order of index. The
 /// registry is walked as it was before, which none who waits or leaves changes for those behind. It leaves anything in the state
-/// after a stop. The answer is whether anyone may be let in: who waits already, as the walk meets it.
+/// after a stop.
 #[tactic(auto, using(crate::proofs::Passes::steps_begin))]
-pub(crate) fn eligibility_and_ejections(state: &mut State, config: &Config) -> Result<bool, Stop>
-    ensures exact { Moves result state.new (each_of (eligibility_and_ejection config.now) state.old (validator_indices state.old)) }
-    ensures waits { IfOk result (λ waits. waits ≡ may_let_in state.old) }
+pub(crate) fn eligibility_and_ejections(state: &mut State, config: &Config) -> Result<(), Stop>
+    ensures { Moves result state.new (each_of (eligibility_and_ejection config.now) state.old (validator_indices state.old)) }
 {
-    let finalized = state.finalized_checkpoint().epoch;
-    let mut waits = is_above(finalized, state);
     let mut kept = None;
     let registry = state.validator_list().share()?;
     let validators = registry.iter();
     for (index, validator) in validators.enumerate() {
-        waits = someone_waits(waits, finalized, validator);
         eligibility_and_ejection(state, &mut kept, index as u64, validator, config)?;
     }
-    Ok(waits)
+    Ok(())
 }

@@ -1,17 +1,12 @@
 -- One step more, or all of them were made.
-use Rattle.std.proofs.Common.{◌≡◌, ◌||◌, ℕ, Bool, nat_lt, List, ◌∷◌, ◌+◌, length, drop, slice_get, rules, sym, ap, subst, ◌∙◌}
-use Rattle.std.specs.List.{list_any}
-use Rattle.beacon_types.specs.declared.validator.Validator.{Validator}
+use Rattle.std.proofs.Common.{◌≡◌, ◌∷◌, ◌+◌, drop, slice_get, rules, sym, ap, subst, ◌∙◌}
 use Rattle.bc_words.specs.Outcome.{Stops}
 use Rattle.balance_totals.proofs.LeftOf.{first_left, others_left}
-use Rattle.spec_state.specs.Accessors.{get_current_epoch}
 use Rattle.spec_blocks.specs.Checks.{each_of}
 use Rattle.spec_epochs.specs.Each.{validator_indices}
 use Rattle.spec_epochs.specs.ProcessRegistryUpdates.{eligibility_and_ejection}
-use Rattle.registry_queue.proofs.Behind.{step_leaves}
-use Rattle.registry_queue.specs.inside.Waiting.{waits_at}
-use Rattle.registry_queue.proofs.Quiet.{asking_begins, one_asked, asking_ends}
-use Rattle.registry_queue.proofs.Passes.{steps_from, steps_begin, walked_on, walk_stops, walk_ends}
+use Rattle.registry_queue.proofs.Steps.{step_leaves}
+use Rattle.registry_queue.proofs.Passes.{walked_on, walk_stops, walk_ends}
 use Rattle.registry_queue.proofs.ejections.eligibility_and_ejections.Goals as goal
 
 pub eligibility_and_ejection-requires-clause-validator : goal.eligibility_and_ejection-requires-clause-validator
@@ -25,7 +20,6 @@ pub loop-index-preserved : goal.loop-index-preserved
 loop-index-preserved c =
     let old = c.args.state.now in
     let state = c.loop-index.state in
-    let finalized = c.finalized_checkpoint-finalized.result.epoch in
     let next = c.eligibility_and_ejection.new.state in
     let i = c.loop-index.index-iterator.count in
     let x = c.in-Some.validator.now in
@@ -43,10 +37,6 @@ loop-index-preserved c =
           ∙ ap (λ k. drop (k + 1) next.validators) step.1
           ∙ ap (λ k. drop k next.validators) (sym step.2);
       kept = made.kept;
-      waits =
-          one_asked finalized c.loop-index.waits c.someone_waits-waits.result x left c.someone_waits-waits.ensures
-          ∙ ap (λ (vs : List Validator). c.loop-index.waits || list_any (waits_at finalized) vs) (sym step.0)
-          ∙ c.loop-index.invariant.waits;
       all = walked_on _ old.validators i state next x left c.in-Some.index c.next.new.self.count before step.1 step.2 made.exact ∙ c.loop-index.invariant.all;
     }
 
@@ -60,36 +50,7 @@ returns-in_err-eligibility_and_ejection c =
     (walk_stops _ old.validators c.loop-index.index-iterator.count c.loop-index.state c.in-Some.validator.now c.next.new.self.iter c.in-Some.index stop (sym step.0 ∙ c.loop-index.invariant.before) step.1 c.in_err-eligibility_and_ejection.ensures.exact) in
     search (rules, all)
 
-pub loop-index-init : goal.loop-index-init
-loop-index-init c =
-    let state = c.args.state.now in
-    let config = c.args.config.now in
-    let finalized = c.finalized_checkpoint-finalized.result.epoch in
-    let walk = c.into_iter-index-iterator.result in
-    let all : walk.iter ≡ state.validators = search rules in
-    let start : walk.count ≡ 0 = search rules in
-    let here : walk.iter ≡ drop walk.count state.validators = all ∙ ap (λ (k : ℕ). drop k state.validators) (sym start) in
-    record {
-      before = here;
-      here = here;
-      kept = tt;
-      waits =
-          ap (λ (b : Bool). b || list_any (waits_at finalized) walk.iter) c.is_above-waits.ensures
-          ∙ ap (λ (vs : List Validator). nat_lt (get_current_epoch state) finalized || list_any (waits_at finalized) vs) all
-          ∙ asking_begins finalized state (ap (λ k. k.epoch) c.finalized_checkpoint-finalized.ensures);
-      all =
-          ap (λ (k : ℕ). steps_from (eligibility_and_ejection config) (length state.validators) k state) start
-          ∙ steps_begin (eligibility_and_ejection config) state;
-    }
-
-pub returns-clause-waits : goal.returns-clause-waits
-returns-clause-waits c =
-    let finalized = c.finalized_checkpoint-finalized.result.epoch in
-    sym (asking_ends finalized c.loop-index.waits)
-    ∙ ap (λ (vs : List Validator). c.loop-index.waits || list_any (waits_at finalized) vs) (sym c.in-None.ensures.steps.0.0)
-    ∙ c.loop-index.invariant.waits
-
-pub returns-clause-exact : goal.returns-clause-exact
-returns-clause-exact c =
+pub returns : goal.returns
+returns c =
     sym c.loop-index.invariant.all
     ∙ walk_ends _ c.args.state.now.validators c.loop-index.index-iterator.count c.loop-index.state (sym c.in-None.ensures.steps.0.0 ∙ c.loop-index.invariant.before)

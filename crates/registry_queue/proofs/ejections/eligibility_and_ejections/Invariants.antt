@@ -1,10 +1,8 @@
-use Rattle.std.proofs.Common.{◌≡◌, ◌||◌, drop, length}
-use Rattle.std.specs.List.{list_any}
+use Rattle.std.proofs.Common.{◌≡◌, drop, length}
 use Rattle.spec_blocks.specs.Checks.{each_of}
 use Rattle.spec_epochs.specs.Each.{validator_indices}
 use Rattle.spec_epochs.specs.ProcessRegistryUpdates.{eligibility_and_ejection}
 use Rattle.registry_queue.specs.inside.Exits.{IsKept}
-use Rattle.registry_queue.specs.inside.Waiting.{waits_at, may_let_in}
 use Rattle.registry_queue.proofs.Passes.{steps_from}
 use Rattle.registry_queue.proofs.ejections.eligibility_and_ejections.Given as goal
 
@@ -13,6 +11,5 @@ invariant-loop-index l = record {
   before : l.index-iterator.iter ≡ drop l.index-iterator.count l.fn.state.validators;
   here : l.index-iterator.iter ≡ drop l.index-iterator.count l.state.validators;
   kept : IsKept l.state l.config l.kept;
-  waits : l.waits || list_any (waits_at l.finalized) l.index-iterator.iter ≡ may_let_in l.fn.state;
   all : steps_from (eligibility_and_ejection l.config) (length l.fn.state.validators) l.index-iterator.count l.state ≡ each_of (eligibility_and_ejection l.config) l.fn.state (validator_indices l.fn.state);
 }
