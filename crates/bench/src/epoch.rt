@@ -23,7 +23,7 @@ use epoch_close::process_slashings::process_slashings;
 use epoch_close::process_slashings_reset::process_slashings_reset;
 use epoch_rewards::process_rewards;
 use justification::process_justification;
-use participation::{current_statuses, previous_statuses};
+use participation::{current_flags, previous_statuses};
 use stakes::{Stakes, gather};
 use std::alloc::Global;
 use std::time::CpuClock;
@@ -145,7 +145,7 @@ fn time_justified(
     sound_within_epoch();
     let begin = now(rt);
     let before = previous_statuses(rt.alloc(), state, previous)?;
-    let latest = current_statuses(rt.alloc(), state, current)?;
+    let latest = current_flags(rt.alloc(), state, current)?;
     let tables = time_since(rt, begin);
     let begin = now(rt);
     let Stakes { list, .. } = gather(rt.alloc(), state, config)?;

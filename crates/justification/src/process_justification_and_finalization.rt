@@ -5,7 +5,8 @@ ghost use Rattle.bc_words.specs.Outcome.{Changes, Gives};
 ghost use Rattle.spec_state.specs.Accessors.{get_current_epoch, get_previous_epoch, get_block_root};
 ghost use Rattle.spec_state.specs.Soundness.{IsSound};
 ghost use Rattle.stakes.specs.inside.Stakes.{stakes_of};
-ghost use Rattle.participation.specs.inside.Statuses.{statuses_of};
+ghost use Rattle.participation.specs.declared.matching.Vote.TheVariants as votes;
+ghost use Rattle.participation.specs.inside.Statuses.{statuses_of, flags_of};
 ghost use Rattle.spec_epochs.specs.Weigh.{weigh};
 ghost use Rattle.spec_epochs.specs.WeighJustificationAndFinalization.{justification_of, with_justification, weigh_justification_and_finalization};
 ghost use Rattle.spec_epochs.specs.ProcessJustificationAndFinalization.{process_justification_and_finalization};
@@ -14,7 +15,7 @@ use crate::weigh_justification_and_finalization::weigh;
 use balance_totals::{block_root, current_epoch, previous_epoch, total_active};
 use bc_words::Stop;
 use beacon_state::State;
-use participation::{Status, Vote, vote_balance};
+use participation::{Status, Vote, flag_balance, vote_balance};
 use spec_epochs::Justification;
 use stakes::Stake;
 
@@ -66,21 +67,21 @@ fn weigh_of(state: &State, total: u64, previous: u64, current: u64) -> Result<Ju
 }
 
 /// Justifies and makes final what the votes of the previous and of the current epoch are enough for (beacon-chain.md,
-/// `process_justification_and_finalization`). Nothing happens in the first two epochs. The stakes are the state's, and the statuses
-/// those of its previous and current epoch.
+/// `process_justification_and_finalization`). Nothing happens in the first two epochs. The stakes are the state's, the statuses
+/// those of its previous epoch, and the flags say who has the target right in its current epoch.
 ///
 /// Refused as an overflow exactly where a sum or product of balances does not fit; the state is then as before.
-#[tactic(auto, unfolding(spec_epochs::specs::ProcessJustificationAndFinalization::process_justification_and_finalization, spec_epochs::specs::WeighJustificationAndFinalization::weigh_justification_and_finalization), using(crate::proofs::Targets::targets_are))]
+#[tactic(auto, unfolding(spec_epochs::specs::ProcessJustificationAndFinalization::process_justification_and_finalization, spec_epochs::specs::WeighJustificationAndFinalization::weigh_justification_and_finalization), using(crate::proofs::Targets::targets_are, crate::proofs::Targets::flags_are))]
 pub fn process_justification(
     state: &mut State,
     stakes: &[Stake],
     previous: &[Status],
-    current: &[Status],
+    current: &[bool],
 ) -> Result<(), Stop>
     requires sound { IsSound state.old }
     requires stakes { stakes.now ≡ stakes_of state.old }
     requires previous { previous.now ≡ statuses_of state.old (get_previous_epoch state.old) }
-    requires current { current.now ≡ statuses_of state.old (get_current_epoch state.old) }
+    requires current { current.now ≡ flags_of votes.Target (statuses_of state.old (get_current_epoch state.old)) }
     ensures { Changes result state.old state.new (process_justification_and_finalization state.old) }
 {
     let epoch = current_epoch(state);
@@ -89,7 +90,7 @@ pub fn process_justification(
     }
     let total = total_active(state, epoch)?;
     let before = vote_balance(state, stakes, previous, Vote::Target)?;
-    let now = vote_balance(state, stakes, current, Vote::Target)?;
+    let now = flag_balance(state, stakes, current)?;
     let weighed = weigh_of(state, total, before, now)?;
     set_justification(state, weighed);
     Ok(())

@@ -1,6 +1,8 @@
 -- The columns of a table: who has a vote right, and the inclusion of each.
-use Rattle.std.proofs.Common.{◌≡◌, ℕ, false, List, None, get_or, refl, sym, ap, ◌∙◌}
+use Rattle.std.proofs.Common.{◌≡◌, ℕ, false, List, Some, None, get_or, slice_get, refl, sym, ap, ◌∙◌}
 use Rattle.std.proofs.Math.ListN.{get_or-map}
+use Rattle.std.proofs.lemmas.List.{get_or_past}
+use Rattle.std.proofs.lemmas.Option.{get_or_from_slice_get}
 use Rattle.std.proofs.lemmas.Simd.{map-map}
 use Rattle.spec_state.specs.declared.plain.PlainState.{PlainState}
 use Rattle.spec_epochs.specs.Each.{validator_indices}
@@ -13,6 +15,17 @@ use Rattle.participation.specs.inside.Marks.{attester_flags, flagged}
 use Rattle.participation.specs.inside.Inclusions.{inclusion_entries}
 use Rattle.participation.specs.inside.Statuses.{status_of, statuses_of, has_vote, flags_of, entries_of, absent}
 use Rattle.participation.proofs.Flags.{flagged_are}
+use Rattle.participation.proofs.Places.{past}
+
+-- ---- reading a status
+
+pub status_some : (statuses : List Status) (index : ℕ) (status : Status) → Some status ≡ slice_get statuses index → status ≡ get_or statuses index absent
+status_some statuses index status e = sym (get_or_from_slice_get statuses index status absent (sym e))
+
+pub status_none : (statuses : List Status) (index : ℕ) → None ≡ slice_get statuses index → absent ≡ get_or statuses index absent
+status_none statuses index e = sym (get_or_past statuses index absent (past statuses index e))
+
+pub ruleset status_read = (status_some, status_none)
 
 -- ---- an item of a column is that of the status there
 

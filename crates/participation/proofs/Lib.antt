@@ -6,6 +6,8 @@ pub mod Weighed
 pub mod ByStake
 pub mod Sound
 pub mod Entries
+pub mod Noted
 pub mod Statuses
+pub mod Targets
 pub mod Columns
 pub mod Listed

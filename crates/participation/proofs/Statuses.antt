@@ -1,13 +1,12 @@
 -- The statuses that one pass notes are how each validator attests.
-use Rattle.std.proofs.Common.{◌≡◌, ℕ, ◌+◌, ◌<◌, ◌≤◌, Bool, true, false, cond, ◌||◌, List, [], ◌∷◌, Option, Some, None, length, map, filter, drop, replicate, get_or, set, slice_get, eqb, refl, sym, ap, ◌∙◌, arith, inl, inr}
+use Rattle.std.proofs.Common.{◌≡◌, ℕ, ◌<◌, Bool, true, false, cond, ◌||◌, List, [], ◌∷◌, Option, length, map, filter, replicate, get_or, set, eqb, refl, sym, ap, ◌∙◌, arith, inl, inr}
 use Rattle.std.specs.List.{list_any, range_with_len}
 use Rattle.std.proofs.lemmas.Bool.{cases_eq, eq-eqb, ne_eqb}
-use Rattle.std.proofs.lemmas.List.{ext_get_or, get_or-replicate, length-replicate, length-set, get_or-set_same, get_or-set_other, get_or_past, drop_all}
+use Rattle.std.proofs.lemmas.List.{ext_get_or, get_or-replicate, length-replicate, length-set, get_or-set_same, get_or-set_other}
 use Rattle.std.proofs.lemmas.List.FromFn.{length-map-range_with_len, get_or-map-range_with_len}
-use Rattle.std.proofs.lemmas.Option.{get_or_from_slice_get}
 use Rattle.beacon_types.specs.declared.pending_attestation.PendingAttestation.{PendingAttestation}
 use Rattle.spec_state.specs.declared.plain.PlainState.{PlainState}
-use Rattle.spec_state.specs.Accessors.{get_attesting_indices, get_block_root, members_with_bits}
+use Rattle.spec_state.specs.Accessors.{get_attesting_indices, get_block_root}
 use Rattle.spec_epochs.specs.Each.{validator_indices, is_among}
 use Rattle.spec_epochs.specs.Helpers.{attests, get_matching_source_attestations}
 use Rattle.spec_epochs.specs.GetInclusionDelayDeltas.{inclusion}
@@ -17,63 +16,11 @@ use Rattle.participation.specs.declared.matching.Vote.TheVariants.{Source, Targe
 use Rattle.participation.specs.declared.table.Status.{Status}
 use Rattle.participation.specs.declared.table.Shown.{Shown}
 use Rattle.participation.specs.inside.Votes.{counts_for, matching}
-use Rattle.participation.specs.inside.Statuses.{status_of, statuses_of, has_vote, absent, shown_by, noted, noted_each, all_noted}
+use Rattle.participation.specs.inside.Statuses.{status_of, statuses_of, has_vote, absent, shown_by, noted}
+use Rattle.participation.specs.inside.Notes.{noted_each, all_noted}
 use Rattle.participation.proofs.Entries.{idempotent, all_better, best_is_first}
-use Rattle.participation.proofs.Members.{members_from, opens, past_bits, next}
-use Rattle.participation.proofs.Places.{drop_at_item, drop_at_nothing, past}
+use Rattle.participation.proofs.Noted.{notes_end}
 use Rattle.participation.proofs.Rights.{right_are}
-
--- ---- reading a status
-
-pub status_some : (statuses : List Status) (index : ℕ) (status : Status) → Some status ≡ slice_get statuses index → status ≡ get_or statuses index absent
-status_some statuses index status e = sym (get_or_from_slice_get statuses index status absent (sym e))
-
-pub status_none : (statuses : List Status) (index : ℕ) → None ≡ slice_get statuses index → absent ≡ get_or statuses index absent
-status_none statuses index e = sym (get_or_past statuses index absent (past statuses index e))
-
-pub ruleset status_read = (status_some, status_none)
-
--- ---- a loop over the members of a committee
-
-module _ (statuses : List Status) (members : List ℕ) (bits : List Bool) (position : ℕ) (shown : Shown) where
-  pub member_noted : position < length members → Some true ≡ slice_get bits position → noted_each statuses (members_from members bits position) shown ≡ noted_each (set statuses (get_or members position 0) (noted (get_or statuses (get_or members position 0) absent) shown)) (members_from members bits (position + 1)) shown
-  unfolding members_from noted_each
-  member_noted less e = ap (λ ms. noted_each statuses ms shown) (opens members bits position true less e) ∙ ap (λ n. noted_each (set statuses (get_or members position 0) (noted (get_or statuses (get_or members position 0) absent) shown)) (members_from members bits n) shown) (next position)
-
-  pub member_left : position < length members → Some false ≡ slice_get bits position → noted_each statuses (members_from members bits position) shown ≡ noted_each statuses (members_from members bits (position + 1)) shown
-  unfolding members_from
-  member_left less e = ap (λ ms. noted_each statuses ms shown) (opens members bits position false less e) ∙ ap (λ n. noted_each statuses (members_from members bits n) shown) (next position)
-
-  pub bits_over : None ≡ slice_get bits position → noted_each statuses (members_from members bits position) shown ≡ statuses
-  unfolding members_from noted_each
-  bits_over e = ap (λ ms. noted_each statuses ms shown) (past_bits members bits position e)
-
-  pub members_over : length members ≤ position → noted_each statuses (members_from members bits position) shown ≡ statuses
-  unfolding members_from noted_each members_with_bits
-  members_over over = ap (λ ms. noted_each statuses (members_with_bits ms (drop position bits)) shown) (drop_all position members over)
-
-pub members_begin : (members : List ℕ) (bits : List Bool) → members_from members bits 0 ≡ members_with_bits members bits
-unfolding members_from
-members_begin members bits = refl
-
-pub ruleset noting = (members_begin, member_noted, member_left, bits_over, members_over)
-
--- ---- a loop over the attestations
-
-module _ (state : PlainState) (root : List ℕ) (statuses : List Status) (attestations : List PendingAttestation) (i : ℕ) where
-  pub one_noted : (a : PendingAttestation) (after : List Status) → Some a ≡ slice_get attestations i → after ≡ noted_each statuses (get_attesting_indices state a.content a.aggregation_bits) (shown_by state root a) → all_noted state root after (drop (i + 1) attestations) ≡ all_noted state root statuses (drop i attestations)
-  unfolding all_noted
-  one_noted a after at e = ap (λ ss. all_noted state root ss (drop (i + 1) attestations)) e ∙ ap (all_noted state root statuses) (sym (drop_at_item attestations i a at))
-
-  pub none_noted : None ≡ slice_get attestations i → all_noted state root statuses (drop (i + 1) attestations) ≡ all_noted state root statuses (drop i attestations)
-  none_noted e = ap (all_noted state root statuses) (sym (drop_at_nothing attestations i e))
-
-  pub notes_end : length attestations ≤ i → all_noted state root statuses (drop i attestations) ≡ statuses
-  unfolding all_noted
-  notes_end over = ap (all_noted state root statuses) (drop_all i attestations over)
-
-pub notes_begin : (state : PlainState) (root : List ℕ) (statuses : List Status) (attestations : List PendingAttestation) → all_noted state root statuses (drop 0 attestations) ≡ all_noted state root statuses attestations
-notes_begin state root statuses attestations = refl
 
 -- ---- what stands at a place
 
@@ -109,15 +56,15 @@ noted_twice : (status : Status) (shown : Shown) → noted (noted status shown) s
 unfolding noted
 noted_twice status shown = same_columns true true _ _ _ _ _ _ refl (or_twice status.target shown.target) (or_twice status.head shown.head) (idempotent status.inclusion shown.inclusion)
 
-pub length-noted_each : (statuses : List Status) (indices : List ℕ) (shown : Shown) → length (noted_each statuses indices shown) ≡ length statuses
+pub length-noted_each : (statuses : List Status) (indices : List ℕ) (shown : Shown) → length (noted_each absent noted statuses indices shown) ≡ length statuses
 unfolding noted_each
 length-noted_each statuses [] shown = refl
 length-noted_each statuses (index ∷ indices) shown = length-noted_each (set statuses index (noted (get_or statuses index absent) shown)) indices shown ∙ length-set statuses index (noted (get_or statuses index absent) shown)
 
-pub length-all_noted : (state : PlainState) (root : List ℕ) (statuses : List Status) (attestations : List PendingAttestation) → length (all_noted state root statuses attestations) ≡ length statuses
+pub length-all_noted : (state : PlainState) (root : List ℕ) (statuses : List Status) (attestations : List PendingAttestation) → length (all_noted absent noted state root statuses attestations) ≡ length statuses
 unfolding all_noted
 length-all_noted state root statuses [] = refl
-length-all_noted state root statuses (a ∷ attestations) = length-all_noted state root (noted_each statuses (get_attesting_indices state a.content a.aggregation_bits) (shown_by state root a)) attestations ∙ length-noted_each statuses _ _
+length-all_noted state root statuses (a ∷ attestations) = length-all_noted state root (noted_each absent noted statuses (get_attesting_indices state a.content a.aggregation_bits) (shown_by state root a)) attestations ∙ length-noted_each statuses _ _
 
 abbrev taken : Bool → Status → Shown → Status
 taken b status shown = cond b (noted status shown) status
@@ -126,7 +73,7 @@ same_taken : (b : Bool) (status : Status) (shown : Shown) → taken b (noted sta
 same_taken true status shown = noted_twice status shown
 same_taken false status shown = refl
 
-get_or-noted_each : (statuses : List Status) (indices : List ℕ) (shown : Shown) (k : ℕ) → k < length statuses → get_or (noted_each statuses indices shown) k absent ≡ taken (is_among k indices) (get_or statuses k absent) shown
+get_or-noted_each : (statuses : List Status) (indices : List ℕ) (shown : Shown) (k : ℕ) → k < length statuses → get_or (noted_each absent noted statuses indices shown) k absent ≡ taken (is_among k indices) (get_or statuses k absent) shown
 unfolding noted_each is_among
 get_or-noted_each statuses [] shown k less = refl
 get_or-noted_each statuses (index ∷ indices) shown k less =
@@ -154,12 +101,12 @@ module _ (state : PlainState) (root : List ℕ) where
   either_way true status a rest = refl
   either_way false status a rest = refl
 
-  get_or-all_noted : (statuses : List Status) (attestations : List PendingAttestation) (k : ℕ) → k < length statuses → get_or (all_noted state root statuses attestations) k absent ≡ all_shown (get_or statuses k absent) (filter (attests state k) attestations)
+  get_or-all_noted : (statuses : List Status) (attestations : List PendingAttestation) (k : ℕ) → k < length statuses → get_or (all_noted absent noted state root statuses attestations) k absent ≡ all_shown (get_or statuses k absent) (filter (attests state k) attestations)
   unfolding all_noted attests all_shown
   get_or-all_noted statuses [] k less = refl
   get_or-all_noted statuses (a ∷ attestations) k less =
       let indices = get_attesting_indices state a.content a.aggregation_bits in
-      get_or-all_noted (noted_each statuses indices (shown_by state root a)) attestations k (omega (arith, length-noted_each statuses indices (shown_by state root a)))
+      get_or-all_noted (noted_each absent noted statuses indices (shown_by state root a)) attestations k (omega (arith, length-noted_each statuses indices (shown_by state root a)))
       ∙ ap (λ status. all_shown status (filter (attests state k) attestations)) (get_or-noted_each statuses indices (shown_by state root a) k less)
       ∙ either_way (is_among k indices) (get_or statuses k absent) a (filter (attests state k) attestations)
 
@@ -217,14 +164,14 @@ module _ (state : PlainState) (epoch : ℕ) (root : List ℕ) (is : root ≡ get
   made_is = same_columns _ _ _ _ _ _ _ _ (vote_made Source refl) (vote_made Target refl) (vote_made Head refl)
       (inclusions_are state root absent (filter (attests state k) (get_matching_source_attestations state epoch)) ∙ best_is_first (filter (attests state k) (get_matching_source_attestations state epoch)))
 
-pub statuses_are : (state : PlainState) (epoch : ℕ) (root : List ℕ) → root ≡ get_block_root state epoch → all_noted state root (replicate (length state.validators) absent) (get_matching_source_attestations state epoch) ≡ statuses_of state epoch
+pub statuses_are : (state : PlainState) (epoch : ℕ) (root : List ℕ) → root ≡ get_block_root state epoch → all_noted absent noted state root (replicate (length state.validators) absent) (get_matching_source_attestations state epoch) ≡ statuses_of state epoch
 unfolding statuses_of validator_indices
 statuses_are state epoch root is =
     let count = length state.validators in
     let attestations = get_matching_source_attestations state epoch in
     let none : List Status = replicate count absent in
     let len : length none ≡ count = length-replicate count absent in
-    ext_get_or absent (all_noted state root none attestations) (map (status_of state epoch) (range_with_len 0 count))
+    ext_get_or absent (all_noted absent noted state root none attestations) (map (status_of state epoch) (range_with_len 0 count))
     (length-all_noted state root none attestations ∙ len ∙ sym (length-map-range_with_len (status_of state epoch) 0 count))
     (λ k less. let below : k < count = omega (arith, less, length-all_noted state root none attestations, len) in
     get_or-all_noted state root none attestations k (omega (arith, len))
@@ -238,4 +185,4 @@ nobody_attested state epoch none =
     let root = get_block_root state epoch in
     let attestations = get_matching_source_attestations state epoch in
     let all : List Status = replicate (length state.validators) absent in
-    sym (notes_end state root all attestations 0 (omega (arith, none))) ∙ statuses_are state epoch root refl
+    sym (notes_end absent noted all state root attestations 0 (omega (arith, none))) ∙ statuses_are state epoch root refl

@@ -3,3 +3,4 @@ pub mod Votes
 pub mod Marks
 pub mod Inclusions
 pub mod Statuses
+pub mod Notes

@@ -14,7 +14,7 @@ use epoch_close::process_participation_record_updates::process_rotation;
 use epoch_close::process_randao_mixes_reset::process_randao_reset;
 use epoch_close::process_slashings::process_slashings;
 use epoch_close::process_slashings_reset::process_slashings_reset;
-use participation::{current_statuses, previous_statuses};
+use participation::{current_flags, previous_statuses};
 use registry_queue::process_registry_updates;
 use stakes::{Stakes, gather};
 use std::alloc::Global;
@@ -31,7 +31,7 @@ fn justify(alloc: Global, state: &mut State, config: &Config) -> Result<Option<R
     let committees = committees_of_epoch(alloc, state, previous_epoch(state))?;
     let previous = previous_statuses(alloc, state, &committees)?;
     let committees = committees_of_epoch(alloc, state, current_epoch(state))?;
-    let current = current_statuses(alloc, state, &committees)?;
+    let current = current_flags(alloc, state, &committees)?;
     Ok(Some(justification::process_justification(state, &list, &previous, &current)))
 }
 

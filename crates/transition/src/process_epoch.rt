@@ -7,7 +7,8 @@ ghost use Rattle.bc_words.specs.Outcome.{Moves};
 ghost use Rattle.spec_state.specs.Accessors.{get_current_epoch, get_previous_epoch};
 ghost use Rattle.spec_state.specs.Soundness.{IsSound};
 ghost use Rattle.spec_epochs.specs.ProcessEpoch.{process_epoch};
-ghost use Rattle.participation.specs.inside.Statuses.{statuses_of};
+ghost use Rattle.participation.specs.declared.matching.Vote.TheVariants as votes;
+ghost use Rattle.participation.specs.inside.Statuses.{statuses_of, flags_of};
 ghost use Rattle.stakes.specs.inside.Stakes.{balances_read, effective_balances, stakes_of};
 ghost use Rattle.stakes.specs.inside.Stirring.{registry_stirs};
 ghost use Rattle.transition.specs.inside.Epochs.{resets, closing_parts};
@@ -25,7 +26,7 @@ use epoch_close::process_slashings::process_slashings;
 use epoch_close::process_slashings_reset::process_slashings_reset;
 use epoch_rewards::process_rewards;
 use justification::process_justification;
-use participation::{Status, current_table, previous_table};
+use participation::{Status, current_targets, previous_table};
 use registry_queue::process_registry_updates::process_registry;
 use stakes::{Stake, Stakes, gather};
 use std::alloc::Global;
@@ -40,16 +41,17 @@ fn keep_epoch_active(alloc: Global, state: &mut State) -> Result<(), NoMemory>
     Ok(())
 }
 
-/// How each validator attested in the previous and in the current epoch of a sound state, which is as before.
+/// How each validator attested in the previous epoch of a sound state, and whether it has the target right in the current one. The
+/// state is as before.
 #[tactic(auto, using(spec_epochs::proofs::SoundJustification::sound_within))]
-fn tables(alloc: Global, state: &mut State) -> Result<(Vec<Status>, Vec<Status>), NoMemory>
+fn tables(alloc: Global, state: &mut State) -> Result<(Vec<Status>, Vec<bool>), NoMemory>
     requires { IsSound state.old }
     ensures same { state.new ≡ state.old }
     ensures previous { IfOk result (λ tables. tables.0.items ≡ statuses_of state.old (get_previous_epoch state.old)) }
-    ensures current { IfOk result (λ tables. tables.1.items ≡ statuses_of state.old (get_current_epoch state.old)) }
+    ensures current { IfOk result (λ tables. tables.1.items ≡ flags_of votes.Target (statuses_of state.old (get_current_epoch state.old))) }
 {
     let previous = previous_table(alloc, state)?;
-    let current = current_table(alloc, state)?;
+    let current = current_targets(alloc, state)?;
     Ok((previous, current))
 }
 
@@ -87,13 +89,13 @@ fn take_parts(
     config: &Config,
     stakes: Stakes,
     previous: Vec<Status>,
-    current: Vec<Status>,
+    current: Vec<bool>,
 ) -> Result<(), Stop>
     requires sound { IsSound state.old }
     requires stakes { stakes.list.items ≡ stakes_of state.old }
     requires stirs { stakes.stirs ≡ registry_stirs state.old config.now }
     requires previous { previous.items ≡ statuses_of state.old (get_previous_epoch state.old) }
-    requires current { current.items ≡ statuses_of state.old (get_current_epoch state.old) }
+    requires current { current.items ≡ flags_of votes.Target (statuses_of state.old (get_current_epoch state.old)) }
     ensures { Moves result state.new (process_epoch state.old config.now) }
 {
     let Stakes { list, stirs } = stakes;
@@ -104,10 +106,10 @@ fn take_parts(
     close(alloc, state, list)
 }
 
-/// The parts of an epoch's end (beacon-chain.md, `process_epoch`), on a sound state. The table of how each validator attested is made
-/// once for the previous and once for the current epoch, by the committees that the state keeps where there is an attestation. Effective
-/// balances, who is slashed, whom rewards reach and whether the registry stirs are gathered once, since validators lie apart in memory
-/// and each part would walk them again. It leaves anything in the state after a stop.
+/// The parts of an epoch's end (beacon-chain.md, `process_epoch`), on a sound state. How each validator attested in the previous epoch,
+/// and who has the target right in the current one, is found once, by the committees that the state keeps where there is an
+/// attestation. Effective balances, who is slashed, whom rewards reach and whether the registry stirs are gathered once, since
+/// validators lie apart in memory and each part would walk them again. It leaves anything in the state after a stop.
 ///
 /// Refused where a part is: as an overflow where a sum or product does not fit, and as a full list of historical roots.
 pub fn process_epoch(alloc: Global, state: &mut State, config: &Config) -> Result<(), Stop>

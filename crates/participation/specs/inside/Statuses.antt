@@ -1,5 +1,5 @@
 -- How a validator attests in an epoch: with which votes right, and how it was first included.
-use Rattle.std.specs.Prelude.{ℕ, Bool, true, false, ◌||◌, List, [], ◌∷◌, Option, None, map, drop, slice_set, slice_index_or}
+use Rattle.std.specs.Prelude.{ℕ, Bool, true, false, ◌||◌, List, Option, None, map}
 use Rattle.std.specs.List.{list_any}
 use Rattle.std.specs.Option.{option_map}
 use Rattle.beacon_types.specs.declared.pending_attestation.PendingAttestation.{PendingAttestation}
@@ -13,7 +13,7 @@ use Rattle.participation.specs.declared.matching.Vote.TheVariants.{Source, Targe
 use Rattle.participation.specs.declared.table.Status.{Status}
 use Rattle.participation.specs.declared.table.Shown.{Shown}
 use Rattle.participation.specs.inside.Votes.{counts_for}
-use Rattle.participation.specs.inside.Inclusions.{entry_of, better, attesters_of}
+use Rattle.participation.specs.inside.Inclusions.{entry_of, better}
 
 -- whether a validator attests in one of the epoch's attestations that have the source, the target and the head right, and its
 -- first inclusion of the least delay among those with the source right
@@ -45,7 +45,7 @@ flags_of vote statuses = map (has_vote vote) statuses
 unfoldable pub entries_of : List Status → List (Option Inclusion)
 entries_of statuses = map (λ status. status.inclusion) statuses
 
--- ---- one pass over the attestations
+-- ---- one attestation
 
 -- one that attests in no attestation
 unfoldable pub absent : Status
@@ -64,16 +64,6 @@ noted status shown = record {
   inclusion = better status.inclusion shown.inclusion;
 }
 
--- the statuses with what an attestation shows of some validators
-unfoldable pub noted_each : List Status → List ℕ → Shown → List Status
-noted_each statuses [] shown = statuses
-noted_each statuses (index ∷ indices) shown = noted_each (slice_set statuses index (noted (slice_index_or statuses index absent) shown)) indices shown
-
--- the statuses with what some attestations show, in order
-unfoldable pub all_noted : PlainState → List ℕ → List Status → List PendingAttestation → List Status
-all_noted state root statuses [] = statuses
-all_noted state root statuses (a ∷ attestations) = all_noted state root (noted_each statuses (attesters_of state a) (shown_by state root a)) attestations
-
--- the same of those of an epoch from a place on
-abbrev pub noted_from : PlainState → List ℕ → List Status → ℕ → ℕ → List Status
-noted_from state root statuses epoch i = all_noted state root statuses (drop i (get_matching_source_attestations state epoch))
+-- a flag with what an attestation shows: whether the target is right
+unfoldable pub target_noted : Bool → Shown → Bool
+target_noted flag shown = flag || shown.target

@@ -5,7 +5,7 @@ use anyhow::{Result, bail};
 use balance_totals::{committees_of_epoch, current_epoch, previous_epoch};
 use bc_words::Stop;
 use beacon_state::State;
-use participation::{current_statuses, previous_statuses};
+use participation::{current_flags, previous_statuses};
 use stakes::{Stakes, gather};
 use std::alloc::Global;
 use transition::{is_sound, sound_within_epoch};
@@ -25,6 +25,6 @@ pub fn process_justification(
     let committees = committees_of_epoch(alloc, state, previous_epoch(state))?;
     let previous = previous_statuses(alloc, state, &committees)?;
     let committees = committees_of_epoch(alloc, state, current_epoch(state))?;
-    let current = current_statuses(alloc, state, &committees)?;
+    let current = current_flags(alloc, state, &committees)?;
     Ok(justification::process_justification(state, &list, &previous, &current))
 }

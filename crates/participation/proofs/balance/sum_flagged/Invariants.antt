@@ -2,11 +2,10 @@ use Rattle.std.proofs.Common.{◌≡◌}
 use Rattle.bc_words.specs.Outcome.{checked_sum_from, checked_sum_by}
 use Rattle.spec_state.specs.Misc.{effective_balance}
 use Rattle.participation.specs.inside.Marks.{flagged, flagged_from}
-use Rattle.participation.specs.inside.Statuses.{flags_of}
 use Rattle.participation.proofs.balance.sum_flagged.Given as goal
 
 abbrev pub invariant-loop-index : goal.invariant-loop-index
-invariant-loop-index l =
+invariant-loop-index g l =
     let balance = effective_balance l.state.validators in
-    let flags = flags_of l.vote l.statuses in
+    let flags = g.F.Flagged.flags l.by in
     checked_sum_from balance l.sum (flagged_from l.state flags l.index) ≡ checked_sum_by balance (flagged l.state flags)

@@ -3,11 +3,11 @@ use Rattle.std.specs.List.{AllByRecursion}
 use Rattle.spec_state.specs.Accessors.{get_current_epoch}
 use Rattle.spec_state.specs.Soundness.{IsSoundPending}
 use Rattle.spec_epochs.specs.Helpers.{get_matching_source_attestations}
-use Rattle.participation.proofs.Sound.{sound_current}
-use Rattle.participation.proofs.table.current_statuses.Goals as goal
+use Rattle.participation.proofs.Sound.{sound_previous}
+use Rattle.participation.proofs.notes.previous_statuses.Goals as goal
 
-pub statuses-requires-clause-sound : goal.statuses-requires-clause-sound
-statuses-requires-clause-sound c =
+pub note_all-requires-clause-sound : goal.note_all-requires-clause-sound
+note_all-requires-clause-sound c =
     let state = c.args.state.now in
     let P = λ (epoch : ℕ). AllByRecursion (IsSoundPending state epoch) (get_matching_source_attestations state epoch) in
-    subst P (sym c.current_epoch.ensures.exact) (sound_current (get_current_epoch state) state c.requires.sound)
+    subst P (sym c.previous_epoch-epoch.ensures.exact) (sound_previous (get_current_epoch state) state c.requires.sound)
