@@ -89,8 +89,7 @@ fn list_of(alloc: Global, state: &State) -> Result<(Vec<u64>, u128), NoMemory>
 {
     let epoch = current_epoch(state);
     state.preset().bounds();
-    let _count = state.validators_len();
-    let mut list = Vec::new(alloc);
+    let mut list = Vec::with_capacity(alloc, state.validators_len() as usize)?;
     let mut sum: u128 = 0;
     for validator in state.validator_list().iter() {
         let balance = balance_in(validator, epoch);
