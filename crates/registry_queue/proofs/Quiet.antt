@@ -17,6 +17,7 @@ use Rattle.spec_blocks.specs.Checks.{found, each_of}
 use Rattle.spec_blocks.specs.InitiateValidatorExit.{initiate_validator_exit}
 use Rattle.spec_epochs.specs.Each.{validator_indices}
 use Rattle.spec_epochs.specs.ProcessRegistryUpdates.{with_eligibility, eligibility_and_ejection, activation_queue, comes_before, is_dequeued, with_activations, process_registry_updates}
+use Rattle.registry_queue.specs.inside.Exits.{earliest_exit}
 use Rattle.registry_queue.proofs.Updates.{let_in, updates_are}
 
 -- ---- where nobody waits nobody is let in
@@ -88,8 +89,8 @@ module _ (state : PlainState) (config : ConfigValues) where
       let apart = or_parts (stirs_here v) (list_any stirs_here vs) none in
       or_from (is_eligible_for_activation state v) (list_any (is_eligible_for_activation state) vs) (waits_not v final apart.0) (none_waits vs final apart.1)
 
-  pub nothing_changes : (epoch : ℕ) → registry_stirs state config ≡ false → state.finalized_checkpoint.epoch < far_future_epoch → compute_activation_exit_epoch state.preset (get_current_epoch state) ≡ done epoch
+  pub nothing_changes : registry_stirs state config ≡ false → state.finalized_checkpoint.epoch < far_future_epoch → compute_activation_exit_epoch state.preset (get_current_epoch state) ≡ done (earliest_exit state)
       → process_registry_updates state config ≡ done state
   unfolding registry_stirs validator_indices
-  nothing_changes epoch none final comes =
-      updates_are config state state state epoch (steps_stay state.validators 0 refl none) comes (nobody_let_in state config epoch (none_waits state.validators final none))
+  nothing_changes none final comes =
+      updates_are config state state state (earliest_exit state) (steps_stay state.validators 0 refl none) comes (nobody_let_in state config (earliest_exit state) (none_waits state.validators final none))

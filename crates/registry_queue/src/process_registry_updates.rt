@@ -32,6 +32,7 @@ fn update(alloc: Global, state: &mut State, config: &Config) -> Result<(), Stop>
 ///
 /// Refused as an overflow exactly where the epoch of an ejection does not fit; the state is then as before. Its lists are
 /// shared first, which copies none.
+#[tactic(auto, using(crate::proofs::Quiet::nothing_changes))]
 pub fn process_registry(
     alloc: Global,
     state: &mut State,

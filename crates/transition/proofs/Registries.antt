@@ -1,9 +1,9 @@
 -- What was gathered of the validators holds until it was needed last: before the registry's updates justification changes bits and
 -- checkpoints alone, and rewards balances alone; behind them, up to the effective balances, slashings change balances alone, and a new
 -- period the eth1 votes alone.
-use Rattle.std.proofs.Common.{◌≡◌, ◌∙◌, ℕ, ◌+◌, ◌-◌, ◌%◌, ◌/◌, ◌==◌, min, List, [], ◌∷◌, map, refl, sym, ap, subst, inl, inr}
+use Rattle.std.proofs.Common.{◌≡◌, ◌∙◌, ℕ, ◌+◌, ◌-◌, ◌%◌, ◌/◌, ◌==◌, min, List, [], map, refl, sym, ap, subst, inl, inr}
 use Rattle.std.specs.List.{list_any}
-use Rattle.bc_words.specs.Outcome.{Outcome, done, checked_mul, checked_sum}
+use Rattle.bc_words.specs.Outcome.{done, checked_mul, checked_sum}
 use Rattle.bc_preset.specs.declared.presets.Preset.{Preset}
 use Rattle.bc_preset.specs.declared.configuration.ConfigValues.{ConfigValues}
 use Rattle.beacon_types.specs.declared.validator.Validator.{Validator}
@@ -80,8 +80,8 @@ votes_keep s = elim (chosen ((get_current_epoch s + 1) % s.preset.epochs_per_eth
 -- ---- what is lent to the parts
 
 module _ (s t : PlainState) (justified : process_justification_and_finalization s ≡ done t) where
-  pub justified_stakes : (stakes : List Stake) → stakes ≡ stakes_of s → stakes ≡ stakes_of t
-  justified_stakes stakes are = are ∙ sym (same_stakes s t (justification_keeps s t justified))
+  pub justified_stakes : stakes_of t ≡ stakes_of s
+  justified_stakes = same_stakes s t (justification_keeps s t justified)
 
   module _ (u : PlainState) (rewarded : process_rewards_and_penalties t ≡ done u) where
     rewarded_keeps : Keeps s u

@@ -1,5 +1,5 @@
 -- A visitor on the way through slots becomes what the states entered make of it.
-use Rattle.std.proofs.Common.{◌≡◌, ◌∙◌, ◌⊎◌, ℕ, zero, suc, ◌+◌, ◌-◌, ◌<◌, ◌≤◌, ◌^◌, Bool, true, false, not, Result, Ok, Err, List, [], ◌∷◌, ◌++◌, if◌then◌else◌, refl, sym, subst, ap, ap₂, arith, inl, inr, append-nil, append_assoc}
+use Rattle.std.proofs.Common.{◌≡◌, ◌∙◌, ℕ, zero, suc, ◌+◌, ◌-◌, ◌<◌, ◌≤◌, ◌^◌, Bool, true, false, not, Result, Ok, Err, List, [], ◌∷◌, ◌++◌, if◌then◌else◌, refl, sym, subst, ap, ap₂, arith, inl, inr, append-nil, append_assoc}
 use Rattle.std.specs.Prelude.{IfOk}
 use Rattle.std.proofs.lemmas.Bool.{lt-ltb, le-ltb}
 use Rattle.bc_words.specs.Outcome.{Outcome, done, refused, limited, bind, each_from, Stops, GivesBy}

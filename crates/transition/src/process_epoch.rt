@@ -82,7 +82,7 @@ fn close(alloc: Global, state: &mut State, stakes: Vec<Stake>) -> Result<(), Sto
 
 /// The parts of an epoch's end, one after another, on a sound state of which these tables and stakes are. Each is given up where it was
 /// needed last, since it takes more than the balances.
-#[tactic(auto, using(crate::proofs::Epochs::justified_statuses), unfolding(spec_epochs::specs::ProcessEpoch::process_epoch, crate::specs::inside::Epochs::closing_parts, crate::specs::inside::Epochs::resets))]
+#[tactic(auto, using(crate::proofs::Epochs::justified_statuses, crate::proofs::Registries::justified_stakes), unfolding(spec_epochs::specs::ProcessEpoch::process_epoch, crate::specs::inside::Epochs::closing_parts, crate::specs::inside::Epochs::resets))]
 fn take_parts(
     alloc: Global,
     state: &mut State,
