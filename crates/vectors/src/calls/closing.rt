@@ -22,7 +22,10 @@ pub fn process_effective_balances(
     given: &Given,
 ) -> Result<Result<(), Stop>> {
     let config = given.config()?;
-    let Stakes { list, .. } = gather(alloc, state, &config)?;
+    let Stakes {
+        list,
+        stirs: _stirs,
+    } = gather(alloc, state, &config)?;
     Ok(process_effective_balance_updates::process_effective_balances(alloc, state, &list))
 }
 
