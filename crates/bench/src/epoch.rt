@@ -148,10 +148,7 @@ fn time_justified(
     let latest = current_flags(rt.alloc(), state, current)?;
     let tables = time_since(rt, begin);
     let begin = now(rt);
-    let Stakes {
-        list,
-        stirs: _stirs,
-    } = gather(rt.alloc(), state, config)?;
+    let Stakes { list, stirs: _ } = gather(rt.alloc(), state, config)?;
     let gathering = time_since(rt, begin);
     let begin = now(rt);
     process_justification(state, &list, &before, &latest)?;
@@ -197,10 +194,7 @@ fn time_rewarded(
 {
     let previous = committees_of_epoch(rt.alloc(), state, previous_epoch(state))?;
     let statuses = previous_statuses(rt.alloc(), state, &previous)?;
-    let Stakes {
-        list,
-        stirs: _stirs,
-    } = gather(rt.alloc(), state, config)?;
+    let Stakes { list, stirs: _ } = gather(rt.alloc(), state, config)?;
     let begin = now(rt);
     process_rewards(rt.alloc(), state, &list, statuses)?;
     Ok(time_since(rt, begin))
@@ -236,10 +230,7 @@ fn time_effective_balances(
     state: &mut State,
     config: &Config,
 ) -> Result<Time, Stop> {
-    let Stakes {
-        list,
-        stirs: _stirs,
-    } = gather(rt.alloc(), state, config)?;
+    let Stakes { list, stirs: _ } = gather(rt.alloc(), state, config)?;
     let begin = now(rt);
     process_effective_balances(rt.alloc(), state, &list)?;
     Ok(time_since(rt, begin))

@@ -27,10 +27,7 @@ fn justify(alloc: Global, state: &mut State, config: &Config) -> Result<Option<R
         return Ok(None);
     }
     sound_within_epoch();
-    let Stakes {
-        list,
-        stirs: _stirs,
-    } = gather(alloc, state, config)?;
+    let Stakes { list, stirs: _ } = gather(alloc, state, config)?;
     let committees = committees_of_epoch(alloc, state, previous_epoch(state))?;
     let previous = previous_statuses(alloc, state, &committees)?;
     let committees = committees_of_epoch(alloc, state, current_epoch(state))?;
@@ -43,10 +40,7 @@ fn pay(alloc: Global, state: &mut State, config: &Config) -> Result<Option<Resul
     if !is_sound_within_epoch(alloc, state)? {
         return Ok(None);
     }
-    let Stakes {
-        list,
-        stirs: _stirs,
-    } = gather(alloc, state, config)?;
+    let Stakes { list, stirs: _ } = gather(alloc, state, config)?;
     let committees = committees_of_epoch(alloc, state, previous_epoch(state))?;
     let statuses = previous_statuses(alloc, state, &committees)?;
     Ok(Some(epoch_rewards::process_rewards(alloc, state, &list, statuses)))
@@ -66,10 +60,7 @@ fn process_effective_balances(
     state: &mut State,
     config: &Config,
 ) -> Result<(), Stop> {
-    let Stakes {
-        list,
-        stirs: _stirs,
-    } = gather(alloc, state, config)?;
+    let Stakes { list, stirs: _ } = gather(alloc, state, config)?;
     process_effective_balance_updates::process_effective_balances(alloc, state, &list)
 }
 

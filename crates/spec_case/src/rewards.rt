@@ -163,10 +163,7 @@ pub fn run(rt: &(impl Files + AllocGlobal), case: &Case, state: &State) -> Resul
     if !is_sound_within_epoch(rt.alloc(), state)? {
         return Ok(Verdict::Outside(Outside::Unsound));
     }
-    let Stakes {
-        list,
-        stirs: _stirs,
-    } = gather(rt.alloc(), state, case.config())?;
+    let Stakes { list, stirs: _ } = gather(rt.alloc(), state, case.config())?;
     let previous = committees_of_epoch(rt.alloc(), state, previous_epoch(state))?;
     let statuses = previous_statuses(rt.alloc(), state, &previous)?;
     run_parts(rt, case, state, &list, &statuses)

@@ -22,10 +22,7 @@ pub fn process_effective_balances(
     given: &Given,
 ) -> Result<Result<(), Stop>> {
     let config = given.config()?;
-    let Stakes {
-        list,
-        stirs: _stirs,
-    } = gather(alloc, state, &config)?;
+    let Stakes { list, stirs: _ } = gather(alloc, state, &config)?;
     Ok(process_effective_balance_updates::process_effective_balances(alloc, state, &list))
 }
 

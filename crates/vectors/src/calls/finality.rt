@@ -21,10 +21,7 @@ pub fn process_justification(
     }
     sound_within_epoch();
     let config = given.config()?;
-    let Stakes {
-        list,
-        stirs: _stirs,
-    } = gather(alloc, state, &config)?;
+    let Stakes { list, stirs: _ } = gather(alloc, state, &config)?;
     let committees = committees_of_epoch(alloc, state, previous_epoch(state))?;
     let previous = previous_statuses(alloc, state, &committees)?;
     let committees = committees_of_epoch(alloc, state, current_epoch(state))?;

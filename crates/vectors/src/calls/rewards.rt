@@ -31,10 +31,7 @@ pub fn process_rewards(
         bail!("the state isn't sound");
     }
     let config = given.config()?;
-    let Stakes {
-        list,
-        stirs: _stirs,
-    } = gather(alloc, state, &config)?;
+    let Stakes { list, stirs: _ } = gather(alloc, state, &config)?;
     let previous = committees_of_epoch(alloc, state, previous_epoch(state))?;
     let statuses = previous_statuses(alloc, state, &previous)?;
     Ok(epoch_rewards::process_rewards(alloc, state, &list, statuses))
@@ -112,10 +109,7 @@ pub fn deltas_answer(alloc: Global, state: &State, given: &Given) -> Result<Stri
         bail!("the state isn't sound");
     }
     let config = given.config()?;
-    let Stakes {
-        list,
-        stirs: _stirs,
-    } = gather(alloc, state, &config)?;
+    let Stakes { list, stirs: _ } = gather(alloc, state, &config)?;
     let previous = committees_of_epoch(alloc, state, previous_epoch(state))?;
     let statuses = previous_statuses(alloc, state, &previous)?;
     match part(alloc, state, &list, &statuses, given.name.as_str()) {
