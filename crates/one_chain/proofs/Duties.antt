@@ -1,16 +1,13 @@
 -- The run of `duties`: the configuration's file, the state's file, and the lines of the duties.
-use Rattle.std.proofs.Common.{◌≡◌, ◌≢◌, ◌<◌, ◌≤◌, ◌+◌, ◌*◌, ◌^◌, ℕ, Bool, true, false, List, [], ◌∷◌, ◌++◌, length, take, nat_lt, Option, Some, None, Result, Ok, Err, IsTrue, ◌↔◌, refl, sym, ap, ap₂, ◌∙◌, inl, inr, append-nil, arith}
+use Rattle.std.proofs.Common.{◌≡◌, ◌<◌, ◌≤◌, ◌+◌, ◌*◌, ◌^◌, ℕ, true, false, List, [], ◌∷◌, length, take, Option, Some, None, Result, Ok, Err, IsTrue, ◌↔◌, refl, sym, ap, ap₂, ◌∙◌, inl, inr, arith}
 use Rattle.std.specs.Prelude.{flat_map}
 use Rattle.std.specs.List.{range_with_len}
 use Rattle.std.proofs.lemmas.Bool.{cases_lt, cases_Bool, lt-ltb}
-use Rattle.std.proofs.lemmas.Grind.{common_steps}
 use Rattle.std.proofs.lemmas.List.{length-take, take_all}
 use Rattle.std.proofs.Math.Nat.{suc-mul}
 use Rattle.bc_outside.specs.Told.{ShelfTold, SinkTold}
-use Rattle.bc_outside.specs.Calls.{ShelfKeeps}
 use Rattle.bc_outside.specs.declared.trouble.Trouble.{Trouble}
-use Rattle.bc_outside.specs.declared.trouble.Trouble.TheVariants as troubles
-use Rattle.bc_outside.proofs.Keeping.{agreed_front, sink_keeps_none}
+use Rattle.bc_outside.proofs.Keeping.{agreed_front}
 use Rattle.bc_preset.specs.Configs.{config_of}
 use Rattle.bc_preset.specs.declared.configuration.ConfigValues.{ConfigValues}
 use Rattle.bc_preset.specs.declared.faults.ConfigFault.{ConfigFault}
@@ -18,24 +15,23 @@ use Rattle.bc_preset.specs.declared.presets.Preset.{Preset}
 use Rattle.bc_words.specs.Outcome.{Outcome, checked_mul}
 use Rattle.bc_words.specs.Outcome as outcomes
 use Rattle.committees.specs.Committees.{Committees, committees_of}
-use Rattle.duties.specs.Duties.{DutyLists, AnswersDuties, can_be_asked, current_proposers, duty_lists, get_duties}
+use Rattle.duties.specs.Duties.{DutyLists, AnswersDuties, can_be_asked, duty_lists, get_duties}
 use Rattle.duties.specs.declared.duties.Duties.{Duties}
 use Rattle.duties.specs.declared.duties.DutyStop.{DutyStop}
 use Rattle.duties.specs.declared.duties.DutyStop.TheVariants as stops
-use Rattle.duties.specs.declared.fault.DutiesFault.{DutiesFault}
 use Rattle.duties.specs.declared.fault.DutiesFault.TheVariants as reasons
 use Rattle.duties.proofs.Telling.{end_fits}
 use Rattle.spec_state.specs.declared.plain.PlainState.{PlainState}
 use Rattle.spec_state.specs.Misc.{compute_start_slot_at_epoch}
 use Rattle.spec_state.specs.Soundness.{IsSound}
 use Rattle.spec_state.specs.inside.EpochCommittees.{epoch_committees}
-use Rattle.spec_replay.specs.Run.{Run, End, done, limited, bad_duties, after_file, after_lines, over}
+use Rattle.spec_replay.specs.Run.{limited, bad_duties}
 use Rattle.spec_replay.specs.Duties.{checked_state, duties_lines, duties_run, slot_lines, sound_state_of, with_config, with_duties, with_epoch, with_file, with_state}
 use Rattle.one_chain.specs.declared.status.Status.{Status}
 use Rattle.one_chain.specs.declared.status.Status.TheVariants as statuses
 use Rattle.one_chain.specs.declared.tell_duties.StateStop.{StateStop}
 use Rattle.one_chain.specs.declared.tell_duties.StateStop.TheVariants as files
-use Rattle.one_chain.specs.Answers.{HasCauses, OutsideKeeps, Replayed, breaks_off, end_of, whole_of}
+use Rattle.one_chain.specs.Answers.{HasCauses, Replayed, whole_of}
 use Rattle.one_chain.specs.inside.AtEnd.{Concludes}
 use Rattle.one_chain.specs.inside.Duties.{GivesState, no_duties, no_state, table_lines}
 use Rattle.one_chain.specs.inside.Reading.{ReadOf, Unread}
@@ -43,7 +39,7 @@ use Rattle.one_chain.specs.inside.Statuses.{unread, written}
 use Rattle.one_chain.specs.inside.Texts.{WritesText}
 use Rattle.one_chain.proofs.DutyTables.{all_lines}
 use Rattle.one_chain.proofs.Prefixes.{config_of-prefix}
-use Rattle.one_chain.proofs.Reaching.{reaches_none, reaches_all, is_prefix, no_lines, lines_behind, lines_prefix}
+use Rattle.one_chain.proofs.Reaching.{reaches_none, reaches_all, is_prefix}
 use Rattle.spec_fork_choice.proofs.Soundness.{tested}
 use Rattle.one_chain.proofs.Steps.{held_prefix, over_after, opened_more}
 use Rattle.one_chain.proofs.Whole.{ends_whole, goes_on_whole, unread_whole, out_of_memory, over_concludes, text_concludes}

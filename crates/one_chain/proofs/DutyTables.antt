@@ -1,5 +1,5 @@
 -- The committees of a slot among all of an epoch are those that its table has for the slot.
-use Rattle.std.proofs.Common.{◌≡◌, ◌≢◌, ◌<◌, ◌≤◌, ◌+◌, ◌⊎◌, ℕ, zero, suc, true, false, List, [], ◌∷◌, ◌++◌, map, refl, ap, ap₂, ◌∙◌, inl, inr, append-nil, arith}
+use Rattle.std.proofs.Common.{◌≡◌, ◌≢◌, ◌<◌, ◌≤◌, ◌+◌, ℕ, zero, suc, true, false, List, [], ◌∷◌, ◌++◌, map, refl, ap, ap₂, ◌∙◌, inl, inr, append-nil, arith}
 use Rattle.std.specs.Prelude.{◌==◌, filter, flat_map}
 use Rattle.std.specs.List.{range_with_len}
 use Rattle.std.proofs.lemmas.Bool.{cases_lt}
@@ -8,7 +8,7 @@ use Rattle.std.proofs.lemmas.List.Elements.{filter-append}
 use Rattle.committees.specs.Committees.{Committees}
 use Rattle.duties.specs.Duties.{CommitteeDuty, table_committees, duty_lists}
 use Rattle.duties.proofs.Telling.{flat_same}
-use Rattle.spec_replay.specs.Duties.{committee_line, slot_lines}
+use Rattle.spec_replay.specs.Duties.{slot_lines}
 use Rattle.one_chain.specs.inside.Duties.{table_lines}
 use Rattle.duties.specs.declared.duties.Duties.{Duties}
 use Rattle.one_chain.proofs.DutyLines.{duty_at}

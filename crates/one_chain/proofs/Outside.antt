@@ -1,5 +1,5 @@
 -- What a run did to the outside so far, and how it ends there.
-use Rattle.std.proofs.Common.{◌≡◌, ◌≢◌, ◌≤◌, ℕ, List, [], ◌++◌, Option, Some, None, IfSome, Err, inl, inr, arith}
+use Rattle.std.proofs.Common.{◌≢◌, ◌≤◌, ℕ, List, [], ◌++◌, Option, Some, None, IfSome, Err, inl, inr, arith}
 use Rattle.bc_outside.specs.Told.{ShelfTold, SinkTold}
 use Rattle.bc_outside.specs.Calls.{Rose, FailsOnlyBy, HasCause, ShelfKeeps, SinkKeeps}
 use Rattle.bc_outside.specs.declared.trouble.Trouble.{Trouble}

@@ -1,5 +1,5 @@
 -- Runs that write once all their files are read.
-use Rattle.std.proofs.Common.{◌≡◌, ◌≢◌, ◌⊎◌, ◌≤◌, ◌∙◌, ℕ, Bool, true, false, List, [], ◌∷◌, ◌++◌, length, Option, Some, None, Result, Ok, Err, refl, sym, ap, append-nil, inl, inr, arith}
+use Rattle.std.proofs.Common.{◌≡◌, ◌≢◌, ◌⊎◌, ◌≤◌, ℕ, true, false, List, [], ◌∷◌, ◌++◌, Some, Result, Ok, Err, refl, sym, append-nil, arith}
 use Rattle.bc_outside.specs.Told.{ShelfTold, SinkTold}
 use Rattle.bc_outside.specs.Calls.{ShelfKeeps}
 use Rattle.bc_outside.specs.declared.trouble.Trouble.{Trouble}

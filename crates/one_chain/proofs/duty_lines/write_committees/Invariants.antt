@@ -1,7 +1,6 @@
 -- The lines in front were written.
-use Rattle.std.proofs.Common.{◌-◌, map, [], ℕ}
-use Rattle.std.specs.Prelude.{flat_map, unwrap_or}
-use Rattle.std.specs.List.{range_with_len}
+use Rattle.std.proofs.Common.{◌-◌}
+use Rattle.std.specs.Prelude.{flat_map}
 use Rattle.duties.specs.Duties.{table_committees}
 use Rattle.spec_replay.specs.Duties.{committee_line}
 use Rattle.one_chain.specs.inside.Texts.{WritesFront}
