@@ -1,5 +1,5 @@
 -- Both makers are of the plan, and so is the genesis.
-use Rattle.beacon_node.proofs.Drilled.{begins, split_of}
+use Rattle.two_chains.proofs.Drilled.{begins, split_of}
 use Rattle.beacon_node.proofs.nodes.split_of.Goals as goal
 
 pub returns : goal.returns
