@@ -13,11 +13,12 @@ use Rattle.spec_replay.specs.Forensic.{forensic_run, slasher_run}
 use Rattle.spec_replay.specs.Genesis.{genesis_run}
 use Rattle.spec_replay.specs.Nodes.{nodes_run}
 use Rattle.spec_replay.specs.Run.{Run, with_files}
-use Rattle.beacon_node.specs.declared.status.Status.{Status}
-use Rattle.beacon_node.specs.declared.status.Status.TheVariants as statuses
-use Rattle.beacon_node.specs.Answers.{Replayed, taken_of, taken_run_of, whole_of}
-use Rattle.beacon_node.proofs.Reaching.{reaches_none, is_prefix, no_lines}
-use Rattle.beacon_node.proofs.Steps.{asks_none}
+use Rattle.one_chain.specs.declared.status.Status.{Status}
+use Rattle.one_chain.specs.declared.status.Status.TheVariants as statuses
+use Rattle.one_chain.specs.Answers.{Replayed, taken_of, whole_of}
+use Rattle.beacon_node.specs.Pace.{taken_run_of}
+use Rattle.one_chain.proofs.Reaching.{reaches_none, is_prefix, no_lines}
+use Rattle.one_chain.proofs.Steps.{asks_none}
 
 -- the words are the command `replay`
 pub replay_answers : (words : List (List ℕ)) (files : ReplayFiles) (status : Status) (s t : ShelfTold) (w x : List ℕ) → command_of words ≡ Some (replay files)

@@ -34,11 +34,11 @@ use Rattle.spec_replay.specs.Forensic.{Followed, clash_of_accepted, follow, foll
 use Rattle.spec_replay.specs.Nodes.{all_of, node_line, node_text}
 use Rattle.beacon_node.specs.declared.node.Node as code
 use Rattle.beacon_node.specs.declared.node.NodeBlock.{NodeBlock}
-use Rattle.beacon_node.specs.declared.status.Status.{Status}
-use Rattle.beacon_node.specs.declared.status.Status.TheVariants as statuses
+use Rattle.one_chain.specs.declared.status.Status.{Status}
+use Rattle.one_chain.specs.declared.status.Status.TheVariants as statuses
 use Rattle.beacon_node.specs.inside.Following.{EventFollowed, IsInside}
 use Rattle.beacon_node.specs.inside.Histories.{IsGenesis, IsOpened, OpeningEnds}
-use Rattle.beacon_node.specs.inside.Progress.{HasLine, IsCounted, outcome_of}
+use Rattle.one_chain.specs.inside.Progress.{HasLine, IsCounted, outcome_of}
 use Rattle.beacon_node.specs.inside.Nodes.{AreKept, CanKeep, HasRun, IsNode, NodeEnds, OneTaken, StopsAt, added_of, followed_in, history_in, lines_left, node_left, plain_node, tally_left}
 use Rattle.beacon_node.proofs.Beginnings.{begins}
 use Rattle.beacon_node.proofs.Following.{none_among}

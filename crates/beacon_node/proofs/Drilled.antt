@@ -38,20 +38,21 @@ use Rattle.spec_replay.specs.Drill.{Chains, Tally, tally_of, six_lines, two_line
 use Rattle.spec_replay.specs.Forensic.{Followed, follow}
 use Rattle.beacon_node.specs.declared.drill.Makers.{Makers}
 use Rattle.beacon_node.specs.declared.follow.Side.{Side}
-use Rattle.beacon_node.specs.declared.status.Status.{Status}
-use Rattle.beacon_node.specs.declared.status.Status.TheVariants as statuses
-use Rattle.beacon_node.specs.Answers.{HasCauses, OutsideKeeps, WritesLines, breaks_off, may_lack_lines, end_of, whole_of}
-use Rattle.beacon_node.specs.inside.AtEnd.{EndsOver}
-use Rattle.beacon_node.specs.inside.Statuses.{unread, unwritten}
-use Rattle.beacon_node.specs.inside.Reading.{ReadOf, Unread}
-use Rattle.beacon_node.specs.inside.Progress.{Ended, EventsOver}
+use Rattle.one_chain.specs.declared.status.Status.{Status}
+use Rattle.one_chain.specs.declared.status.Status.TheVariants as statuses
+use Rattle.one_chain.specs.Answers.{HasCauses, OutsideKeeps, WritesLines, breaks_off, may_lack_lines, end_of, whole_of}
+use Rattle.beacon_node.specs.inside.ByFiles.{EndsOver}
+use Rattle.one_chain.specs.inside.Statuses.{unread, unwritten}
+use Rattle.one_chain.specs.inside.Reading.{ReadOf, Unread}
+use Rattle.one_chain.specs.inside.Progress.{Ended, EventsOver}
 use Rattle.beacon_node.specs.inside.Drilled.{AreMakers, Digested, DrillEnds, Finished, OwnEnds, SplitEnds, WritesOut, chains_to_come, is_done, own_lines}
 use Rattle.beacon_node.specs.inside.Following.{FollowedToEnd, FollowsOutside, Leaves, others_of, which_of}
 use Rattle.beacon_node.specs.inside.Histories.{IsGenesis, OpeningEnds}
-use Rattle.beacon_node.proofs.Reaching.{reaches_none, is_prefix, reaches_all, no_lines}
-use Rattle.beacon_node.proofs.Outside.{no_fault, unwritten_causes}
-use Rattle.beacon_node.proofs.Prefixes.{config_of-prefix}
-use Rattle.beacon_node.proofs.Whole.{breaks_at_file, ends_whole, goes_on_behind, handed_of, pace_none, unread_breaks}
+use Rattle.one_chain.proofs.Reaching.{reaches_none, is_prefix, reaches_all, no_lines}
+use Rattle.one_chain.proofs.Outside.{no_fault, unwritten_causes}
+use Rattle.one_chain.proofs.Prefixes.{config_of-prefix}
+use Rattle.one_chain.proofs.Whole.{ends_whole}
+use Rattle.beacon_node.proofs.ByFiles.{breaks_at_file, goes_on_behind, handed_of, pace_none, unread_breaks}
 
 -- ---- nothing is written
 

@@ -26,19 +26,18 @@ use Rattle.spec_replay.specs.Drill.{line_of, two_lines}
 use Rattle.safety_law.specs.Finals.{IsFinalOf}
 use Rattle.safety_law.specs.Follows.{Follows}
 use Rattle.forensics.specs.Books.{PlainBook, history_of, verdict_on, votes_of, with_finalized}
-use Rattle.beacon_node.specs.declared.genesis.GenesisStop.{GenesisStop}
-use Rattle.beacon_node.specs.declared.genesis.GenesisStop.TheVariants as stops
+use Rattle.one_chain.specs.declared.genesis.GenesisStop.{GenesisStop}
+use Rattle.one_chain.specs.declared.genesis.GenesisStop.TheVariants as stops
 use Rattle.beacon_node.specs.declared.histories.Findings as code
-use Rattle.beacon_node.specs.declared.status.Status.{Status}
-use Rattle.beacon_node.specs.declared.status.Status.TheVariants as statuses
+use Rattle.one_chain.specs.declared.status.Status.{Status}
+use Rattle.one_chain.specs.declared.status.Status.TheVariants as statuses
 use Rattle.beacon_node.specs.Findings.{IsThird, WritesFindings}
-use Rattle.beacon_node.specs.inside.AtEnd.{Concludes}
-use Rattle.beacon_node.specs.inside.Duties.{written}
-use Rattle.beacon_node.specs.inside.GenesisAnswers.{no_genesis}
+use Rattle.one_chain.specs.inside.AtEnd.{Concludes}
+use Rattle.one_chain.specs.inside.GenesisAnswers.{no_genesis}
 use Rattle.beacon_node.specs.inside.Histories.{HasFound}
-use Rattle.beacon_node.specs.inside.Statuses.{unread}
-use Rattle.beacon_node.specs.inside.Texts.{WritesText}
-use Rattle.beacon_node.proofs.Whole.{out_of_memory, text_concludes}
+use Rattle.one_chain.specs.inside.Statuses.{unread, written}
+use Rattle.one_chain.specs.inside.Texts.{WritesText}
+use Rattle.one_chain.proofs.Whole.{out_of_memory, text_concludes}
 
 -- ---- a book that is closed
 

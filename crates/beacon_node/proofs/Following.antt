@@ -43,12 +43,12 @@ use Rattle.spec_replay.specs.Run.{End, bad_record, limited, clash}
 use Rattle.spec_replay.specs.Forensic.{Followed, clash_of_accepted, follow_events, follow_then, unless_clash}
 use Rattle.beacon_node.specs.declared.follow.Side.{Side}
 use Rattle.beacon_node.specs.declared.follow.Side.TheVariants.{First, Second}
-use Rattle.beacon_node.specs.declared.status.Status.{Status}
-use Rattle.beacon_node.specs.declared.status.Status.TheVariants as statuses
-use Rattle.beacon_node.specs.Answers.{breaks_off, end_of}
-use Rattle.beacon_node.specs.inside.Statuses.{no_event_of, unread}
-use Rattle.beacon_node.proofs.Outside.{rose_behind}
-use Rattle.beacon_node.specs.inside.Progress.{outcome_of}
+use Rattle.one_chain.specs.declared.status.Status.{Status}
+use Rattle.one_chain.specs.declared.status.Status.TheVariants as statuses
+use Rattle.one_chain.specs.Answers.{breaks_off, end_of}
+use Rattle.one_chain.specs.inside.Statuses.{no_event_of, unread}
+use Rattle.one_chain.proofs.Outside.{rose_behind}
+use Rattle.one_chain.specs.inside.Progress.{outcome_of}
 use Rattle.beacon_node.specs.inside.Following.{BlockFollowed, ClashesBy, EndsBy, EventEnds, EventFollowed, FollowedSoFar, FollowedToEnd, FollowsOutside, IsBeside, IsFollowing, IsInside, Leaves, SameBeside, followed_by, left_by, others_of, which_of}
 
 -- ---- the events of a source

@@ -24,21 +24,22 @@ use Rattle.spec_replay.specs.declared.report.Report.{Report}
 use Rattle.command_words.specs.Commands.{ForensicFiles}
 use Rattle.beacon_node.specs.declared.follow.Side.{Side}
 use Rattle.beacon_node.specs.declared.follow.Side.TheVariants.{First, Second}
-use Rattle.beacon_node.specs.declared.genesis.GenesisStop.{GenesisStop}
-use Rattle.beacon_node.specs.declared.genesis.GenesisStop.TheVariants as stops
-use Rattle.beacon_node.specs.declared.status.Status.{Status}
-use Rattle.beacon_node.specs.declared.status.Status.TheVariants as statuses
-use Rattle.beacon_node.specs.Answers.{OutsideKeeps, breaks_off, end_of}
-use Rattle.beacon_node.specs.inside.AtEnd.{Concludes, EndsOver, Handed}
+use Rattle.one_chain.specs.declared.genesis.GenesisStop.{GenesisStop}
+use Rattle.one_chain.specs.declared.genesis.GenesisStop.TheVariants as stops
+use Rattle.one_chain.specs.declared.status.Status.{Status}
+use Rattle.one_chain.specs.declared.status.Status.TheVariants as statuses
+use Rattle.one_chain.specs.Answers.{OutsideKeeps, breaks_off, end_of}
+use Rattle.one_chain.specs.inside.AtEnd.{Concludes}
+use Rattle.beacon_node.specs.inside.ByFiles.{EndsOver, Handed}
 use Rattle.beacon_node.specs.inside.Following.{EndsBy, FollowedToEnd, FollowsOutside, HandedSo, Leaves, RecordFollowed, left_by, others_of, which_of}
-use Rattle.beacon_node.specs.inside.GenesisAnswers.{GivesGenesis, no_genesis}
+use Rattle.one_chain.specs.inside.GenesisAnswers.{GivesGenesis, no_genesis}
 use Rattle.beacon_node.specs.inside.Histories.{OpeningEnds, run_of_records}
-use Rattle.beacon_node.specs.inside.Reading.{ReadOf, Unread}
-use Rattle.beacon_node.specs.inside.Statuses.{unread}
-use Rattle.beacon_node.proofs.Prefixes.{config_of-prefix, genesis_of-prefix}
-use Rattle.beacon_node.proofs.Outside.{ends_here, no_fault, only_shelf, untouched}
-use Rattle.beacon_node.proofs.Steps.{held_as, last_taken}
-use Rattle.beacon_node.proofs.Whole.{breaks_at_file, concluded, ends_at_once, goes_on_behind, handed_of, stops_at_file, unread_breaks}
+use Rattle.one_chain.specs.inside.Reading.{ReadOf, Unread}
+use Rattle.one_chain.specs.inside.Statuses.{unread}
+use Rattle.one_chain.proofs.Prefixes.{config_of-prefix, genesis_of-prefix}
+use Rattle.one_chain.proofs.Outside.{ends_here, no_fault, only_shelf, untouched}
+use Rattle.one_chain.proofs.Steps.{held_as, last_taken}
+use Rattle.beacon_node.proofs.ByFiles.{breaks_at_file, concluded, ends_at_once, goes_on_behind, handed_of, stops_at_file, unread_breaks}
 
 -- ---- the configuration's file
 

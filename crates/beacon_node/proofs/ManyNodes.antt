@@ -39,21 +39,21 @@ use Rattle.spec_replay.specs.Forensic.{Followed, follow}
 use Rattle.spec_replay.specs.Nodes.{Node, all_of, all_or_end, behind_events, chain_of_node, followed_by, node_line, node_of, nodes_config, nodes_of_chains, nodes_on, nodes_plan, nodes_run, nodes_store, pair_line, pair_of, pairs_of, split_events, with_nodes, with_pairs}
 use Rattle.beacon_node.specs.declared.node.Delivered.{Delivered}
 use Rattle.beacon_node.specs.declared.nodes.Split.{Split}
-use Rattle.beacon_node.specs.declared.status.Status.{Status}
-use Rattle.beacon_node.specs.declared.status.Status.TheVariants as statuses
-use Rattle.beacon_node.specs.Answers.{OutsideKeeps, breaks_off, end_of}
-use Rattle.beacon_node.specs.inside.AtEnd.{EndsOver}
+use Rattle.one_chain.specs.declared.status.Status.{Status}
+use Rattle.one_chain.specs.declared.status.Status.TheVariants as statuses
+use Rattle.one_chain.specs.Answers.{OutsideKeeps, breaks_off, end_of}
+use Rattle.beacon_node.specs.inside.ByFiles.{EndsOver}
 use Rattle.beacon_node.specs.inside.Drilled.{DrillEnds, DrillTold, Finished}
 use Rattle.beacon_node.specs.inside.Following.{FollowsOutside, IsInside}
 use Rattle.beacon_node.specs.inside.Histories.{IsGenesis, OpeningEnds}
-use Rattle.beacon_node.specs.inside.Reading.{ReadOf, Unread}
-use Rattle.beacon_node.specs.inside.Statuses.{no_event_of, unread}
+use Rattle.one_chain.specs.inside.Reading.{ReadOf, Unread}
+use Rattle.one_chain.specs.inside.Statuses.{no_event_of, unread}
 use Rattle.beacon_node.specs.inside.Nodes.{EndsMaking, IsSplit, LinesTold, NodeEnds, behind_ones, followed_in, node_given, plain_node}
 use Rattle.beacon_node.proofs.Drilled.{finished, given_by, no_memory, nothing_written}
-use Rattle.beacon_node.proofs.Outside.{ends_here, no_fault, untouched}
+use Rattle.one_chain.proofs.Outside.{ends_here, no_fault, untouched}
 use Rattle.beacon_node.proofs.Pairing.{first_ends, first_made, none_of_all, pairs_next}
-use Rattle.beacon_node.proofs.Prefixes.{config_of-prefix}
-use Rattle.beacon_node.proofs.Whole.{breaks_at_file, goes_on_behind, handed_of, unread_breaks}
+use Rattle.one_chain.proofs.Prefixes.{config_of-prefix}
+use Rattle.beacon_node.proofs.ByFiles.{breaks_at_file, goes_on_behind, handed_of, unread_breaks}
 
 -- ---- the events of a chain
 

@@ -19,12 +19,12 @@ use Rattle.forensics.specs.Books.{PlainBook, begun, history_of}
 use Rattle.beacon_node.specs.declared.follow.Side.{Side}
 use Rattle.beacon_node.specs.declared.follow.Side.TheVariants.{First, Second}
 use Rattle.beacon_node.specs.declared.histories.Histories.{Histories}
-use Rattle.beacon_node.specs.declared.status.Status.{Status}
-use Rattle.beacon_node.specs.declared.status.Status.TheVariants as statuses
+use Rattle.one_chain.specs.declared.status.Status.{Status}
+use Rattle.one_chain.specs.declared.status.Status.TheVariants as statuses
 use Rattle.beacon_node.specs.inside.Following.{IsBeside, IsFollowing, SameBeside, followed_by, others_of, which_of}
-use Rattle.beacon_node.specs.inside.GenesisAnswers.{no_store}
+use Rattle.one_chain.specs.inside.GenesisAnswers.{no_store}
 use Rattle.beacon_node.specs.inside.Histories.{AreOpened, IsOpened, OpeningEnds}
-use Rattle.beacon_node.proofs.Readers.{clash_of_opening, opened_without}
+use Rattle.one_chain.proofs.Readers.{clash_of_opening, opened_without}
 
 -- memory ran out
 pub no_memory_opens : (clash : Option ClashKind) → OpeningEnds statuses.NoMemory clash

@@ -22,8 +22,8 @@ use Rattle.beacon_node.specs.declared.histories.Findings.{Findings}
 use Rattle.beacon_node.specs.declared.node.Node as code
 use Rattle.beacon_node.specs.declared.node.NodeBlock.{NodeBlock}
 use Rattle.beacon_node.specs.declared.node.Delivered.{Delivered}
-use Rattle.beacon_node.specs.declared.status.Status.{Status}
-use Rattle.beacon_node.specs.declared.status.Status.TheVariants as statuses
+use Rattle.one_chain.specs.declared.status.Status.{Status}
+use Rattle.one_chain.specs.declared.status.Status.TheVariants as statuses
 use Rattle.beacon_node.specs.inside.Histories.{HasFound}
 use Rattle.beacon_node.specs.inside.Nodes.{AreClear, IsNode, LinesSoFar, NodeEnds, added_of, behind_ones, history_in, plain_node}
 use Rattle.beacon_node.proofs.Delivering.{history_more}

@@ -25,8 +25,8 @@ use Rattle.spec_replay.specs.Slasher.{slashing_record}
 use Rattle.spec_replay.specs.declared.report.Report.TheVariants.{Slashings}
 use Rattle.safety_law.specs.Follows.{Follows}
 use Rattle.forensics.specs.Books.{PlainBook, history_of}
-use Rattle.beacon_node.specs.declared.status.Status.{Status}
-use Rattle.beacon_node.specs.inside.AtEnd.{Concludes}
+use Rattle.one_chain.specs.declared.status.Status.{Status}
+use Rattle.one_chain.specs.inside.AtEnd.{Concludes}
 use Rattle.beacon_node.specs.Slashings.{Accuses, WritesSlashings}
 
 -- ---- how long a writing is

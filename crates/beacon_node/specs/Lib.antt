@@ -1,6 +1,5 @@
-pub mod Answers
 pub mod Findings
+pub mod Pace
 pub mod Slashings
-pub mod Statuses
 pub mod inside
 pub mod laws

@@ -1,5 +1,3 @@
 pub mod Convictions
-pub mod MadeGenesis
 pub mod Memory
-pub mod Soundness
 pub mod Versions

@@ -14,21 +14,18 @@ ghost use Rattle.spec_replay.specs.Forensic.{follow};
 ghost use Rattle.spec_replay.specs.Run.{with_events};
 ghost use Rattle.forensics.specs.Books.{history_of};
 ghost use Rattle.safety_law.specs.Follows.{Follows};
-ghost use Rattle.beacon_node.specs.Answers.{OutsideKeeps, Replayed, whole_of};
+ghost use Rattle.one_chain.specs.Answers.{OutsideKeeps, Replayed, whole_of};
 ghost use Rattle.chain_maker.specs.Source.{begun, made_source};
 ghost use Rattle.beacon_node.specs.inside.Drilled.{AreMakers, Digested, DrillTold, Finished, OwnTold, SplitTold, WritesOut, chains_to_come, is_done, own_lines};
 ghost use Rattle.beacon_node.specs.inside.Feeds.{Keeps};
 ghost use Rattle.beacon_node.specs.inside.Following.{FollowsOutside, IsFollowing, Leaves, SameBeside, followed_by, others_of, which_of};
 ghost use Rattle.beacon_node.specs.inside.Histories.{IsGenesis};
-ghost use Rattle.beacon_node.specs.inside.Progress.{tally_at};
+ghost use Rattle.one_chain.specs.inside.Progress.{tally_at};
 
-use crate::events::{Counts, replay_events, unwritten};
-use crate::feed::MadeFeed;
+use crate::drill_lines::{six_lines, two_lines};
 use crate::follow::{Side, follow_events};
 use crate::histories::{Histories, find, open_histories, store_at};
-use crate::lines::{six_lines, two_lines};
-use crate::reading::{read_named, unread};
-use crate::status::Status;
+use crate::made_feed::MadeFeed;
 use bc_outside::{HashSink, Shelf, Sink, write_all};
 use bc_preset::{Config, ConfigFault, Key, MAX_CONFIG_LEN};
 use bc_words::NoMemory;
@@ -38,6 +35,7 @@ use command_words::DrillWords;
 use forensics::VoteBook;
 use fork_store::Store;
 use hash_tree::Root;
+use one_chain::{Counts, Status, read_named, replay_events, unread, unwritten};
 use std::alloc::Global;
 
 /// The balance of the made validators, in Gwei, below which the configuration's ejection balance must be.

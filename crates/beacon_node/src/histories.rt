@@ -7,13 +7,12 @@ ghost use Rattle.safety_law.specs.Follows.{Follows};
 ghost use Rattle.forensics.specs.Books.{begun, history_of};
 ghost use Rattle.beacon_node.specs.inside.Histories.{AreOpened, HasFound, IsGenesis, IsOpened, OpeningEnds};
 
-use crate::replay::no_store;
-use crate::status::Status;
 use bc_preset::Config;
 use bc_words::NoMemory;
 use beacon_state::State;
 use forensics::VoteBook;
 use fork_store::Store;
+use one_chain::{Status, no_store};
 use spec_forensics::{Offence, Verdict};
 use std::alloc::Global;
 

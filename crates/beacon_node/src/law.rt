@@ -1,20 +1,12 @@
-//! Laws: what the program does with files that lie in memory, what it makes of deposits, whom two records convict, that the versions of a
-//! record run alike, and what the test of soundness says.
+//! Laws: what the program does with files that lie in memory, whom two records convict, and that the versions of a record run alike.
 
 ghost use Rattle.beacon_node.specs.laws.Convictions.{ConvictsOfTheRecords};
-ghost use Rattle.beacon_node.specs.laws.MadeGenesis.{MakesWhatIsReplayed};
 ghost use Rattle.beacon_node.specs.laws.Memory.{RunsInMemory};
-ghost use Rattle.beacon_node.specs.laws.Soundness.{SoundnessIsTested};
 ghost use Rattle.beacon_node.specs.laws.Versions.{VersionsRunAlike};
 
 /// The clauses of `beacon_main`, over a `MemoryShelf` of given files, are of the run of exactly these files' bytes.
 pub fn runs_in_memory()
     ensures { RunsInMemory }
-{}
-
-/// What `genesis` writes is a genesis file that `replay` takes, under either preset.
-pub fn made_genesis_is_replayed()
-    ensures { MakesWhatIsReplayed }
 {}
 
 /// What `forensic` and `slasher` write is found out of exactly the files that they read: the histories of their events, the offences of these,
@@ -28,10 +20,4 @@ pub fn findings_are_of_the_records()
 /// 1 doesn't have.
 pub fn versions_run_alike()
     ensures { VersionsRunAlike }
-{}
-
-/// The law that the test by which the definitions of `duties` take a state is true exactly of the sound states. It does
-/// nothing when it runs.
-pub fn soundness_is_tested()
-    ensures { SoundnessIsTested }
 {}

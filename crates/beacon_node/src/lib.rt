@@ -1,36 +1,23 @@
-//! The program: command words, files and a sink in, lines and a status out.
+//! The program: command words, files and a sink in, lines and a status out; and its commands on two chains and many stores.
 #![tactic(auto)]
 
-mod anchor;
 mod drill;
-mod duty_lines;
-mod events;
-mod feed;
+mod drill_lines;
 mod follow;
 mod forensic;
-mod genesis;
-mod head;
 mod histories;
 mod law;
-mod lines;
 mod made_events;
-mod make_genesis;
+mod made_feed;
 mod node;
 mod node_lines;
 mod node_pairs;
 mod nodes;
 mod offence_lines;
-mod reading;
-mod replay;
 mod slashings;
-mod status;
-mod tell_duties;
 mod top;
 
-pub use law::{
-    findings_are_of_the_records, made_genesis_is_replayed, runs_in_memory, soundness_is_tested,
-    versions_run_alike,
-};
+pub use law::{findings_are_of_the_records, runs_in_memory, versions_run_alike};
 pub use offence_lines::{offence_line, verdict_line};
-pub use status::Status;
+pub use one_chain::{Status, made_genesis_is_replayed, soundness_is_tested};
 pub use top::beacon_main;

@@ -6,10 +6,10 @@ ghost use Rattle.spec_drill.specs.AsEvents.{events_to_come};
 ghost use Rattle.spec_drill.specs.Maker.{new_maker, to_come};
 ghost use Rattle.spec_replay.specs.Nodes.{all_of};
 ghost use Rattle.beacon_node.specs.inside.Nodes.{EndsMaking};
-ghost use Rattle.beacon_node.specs.inside.Statuses.{no_event_of};
+ghost use Rattle.one_chain.specs.inside.Statuses.{no_event_of};
 
-use crate::status::Status;
 use chain_maker::{Given, MadeEvents, Maker};
+use one_chain::Status;
 use record_file::{Event, SourceStop};
 use std::alloc::Global;
 

@@ -13,11 +13,11 @@ ghost use Rattle.beacon_node.specs.inside.Nodes.{HasRun, IsNode, LinesTold, Node
 use crate::histories::{Findings, book_at, find};
 use crate::node::{Delivered, Node};
 use crate::node_lines::pair_text;
-use crate::status::Status;
 use bc_preset::Config;
 use bc_words::{ClashKind, NoMemory};
 use beacon_state::State;
 use forensics::VoteBook;
+use one_chain::Status;
 use std::alloc::Global;
 
 /// The first event of the second node whose block has the root of another block of the first one, with that block's place.

@@ -10,25 +10,23 @@ ghost use Rattle.spec_fork_choice.specs.OnEvent.{genesis_clash};
 ghost use Rattle.spec_drill.specs.AsEvents.{events_to_come};
 ghost use Rattle.spec_drill.specs.Maker.{new_maker, to_come};
 ghost use Rattle.spec_replay.specs.Nodes.{all_or_end, chain_of_node, node_line, node_of, nodes_config, nodes_run, nodes_store, pair_of, pairs_of};
-ghost use Rattle.beacon_node.specs.Answers.{OutsideKeeps, Replayed, whole_of};
+ghost use Rattle.one_chain.specs.Answers.{OutsideKeeps, Replayed, whole_of};
 ghost use Rattle.beacon_node.specs.inside.Drilled.{DrillTold, Finished};
 ghost use Rattle.beacon_node.specs.inside.Following.{IsInside};
 ghost use Rattle.beacon_node.specs.inside.Histories.{IsGenesis};
 ghost use Rattle.beacon_node.specs.inside.Nodes.{HasRun, IsSplit, LinesTold, NodeEnds, behind_ones, node_given, plain_node};
 
-use crate::events::unwritten;
 use crate::histories::store_at;
 use crate::made_events::made_events;
 use crate::node::{Delivered, delivered_node};
 use crate::node_pairs::pair_lines;
-use crate::reading::{read_named, unread};
-use crate::status::Status;
 use bc_outside::{Shelf, Sink, write_all};
 use bc_preset::{Config, ConfigFault, Key, MAX_CONFIG_LEN};
 use bc_words::NoMemory;
 use beacon_state::State;
 use chain_maker::Maker;
 use command_words::NodesWords;
+use one_chain::{Status, read_named, unread, unwritten};
 use record_file::Event;
 use std::alloc::Global;
 

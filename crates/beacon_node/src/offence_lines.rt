@@ -7,9 +7,9 @@ ghost use Rattle.spec_replay.specs.Lines.{root_text, checkpoint_text};
 ghost use Rattle.spec_replay.specs.OffenceLines.{history_text, offence_kind_text, offence_line, vote_text};
 ghost use Rattle.beacon_node.specs.inside.OffenceTexts.{content_text, place_text};
 
-use crate::lines::{push_checkpoint, push_number, push_root};
 use beacon_types::{AttestationData, Checkpoint};
 use hash_tree::Root;
+use one_chain::{push_checkpoint, push_number, push_root};
 use spec_forensics::{Offence, OffenceKind, Verdict, Vote};
 use std::alloc::{AllocError, Global};
 

@@ -8,16 +8,15 @@ ghost use Rattle.beacon_body.specs.Containers.{attester_slashing_codec};
 ghost use Rattle.spec_slasher.specs.Operations.{operations};
 ghost use Rattle.spec_replay.specs.Run.{after_lines, done, over};
 ghost use Rattle.spec_replay.specs.Slasher.{slashing_frame, slashing_record};
-ghost use Rattle.beacon_node.specs.inside.AtEnd.{Concludes};
-ghost use Rattle.beacon_node.specs.inside.Texts.{WritesText};
+ghost use Rattle.one_chain.specs.inside.AtEnd.{Concludes};
+ghost use Rattle.one_chain.specs.inside.Texts.{WritesText};
 
-use crate::status::Status;
-use crate::tell_duties::written;
 use bc_outside::{Sink, Trouble, write_all};
 use bc_words::NoMemory;
 use beacon_body::AttesterSlashing;
 use beacon_types::{AttestationData, IndexedAttestation};
 use forensics::{VoteBook, operations};
+use one_chain::{Status, written};
 use ssz_codec::Ssz;
 use std::alloc::Global;
 

@@ -3,20 +3,21 @@
 ghost use Rattle.std.specs.Prelude.{◌≡◌, ◌<◌, ◌+◌, ◌^◌, ◌↔◌, length, map, string_bytes, Some, None};
 ghost use Rattle.spec_replay.specs.Commands.{run_of};
 ghost use Rattle.command_words.specs.Commands.{ForensicFiles, IsDeclined, command_of, forensic, names_of, slasher};
-ghost use Rattle.beacon_node.specs.Answers.{OutsideKeeps, Replayed, taken_run_of};
+ghost use Rattle.one_chain.specs.Answers.{OutsideKeeps, Replayed};
+ghost use Rattle.beacon_node.specs.Pace.{taken_run_of};
 ghost use Rattle.beacon_node.specs.Findings.{WritesFindings};
 ghost use Rattle.beacon_node.specs.Slashings.{WritesSlashings};
 
-use crate::anchor::anchor;
 use crate::drill::drill;
 use crate::forensic::forensic;
-use crate::make_genesis::make_genesis;
 use crate::nodes::nodes;
-use crate::replay::replay;
-use crate::status::Status;
-use crate::tell_duties::tell_duties;
 use bc_outside::{Shelf, Sink};
 use command_words::{Command, WordsStop, read_command};
+use one_chain::Status;
+use one_chain::anchor::anchor;
+use one_chain::make_genesis::make_genesis;
+use one_chain::replay::replay;
+use one_chain::tell_duties::tell_duties;
 use spec_replay::Report;
 use std::alloc::Global;
 

@@ -13,10 +13,10 @@ use Rattle.spec_drill.specs.Plan.{Plan}
 use Rattle.spec_replay.specs.Run.{Run, End, done, over, with_events}
 use Rattle.spec_replay.specs.Drill.{Chains, Tally, six_lines, tally_of}
 use Rattle.beacon_node.specs.declared.drill.Makers.{Makers}
-use Rattle.beacon_node.specs.declared.status.Status.{Status}
-use Rattle.beacon_node.specs.declared.status.Status.TheVariants as statuses
-use Rattle.beacon_node.specs.Answers.{breaks_off, may_lack_lines, end_of, whole_of, WritesLines, HasCauses}
-use Rattle.beacon_node.specs.inside.Progress.{EventsOver}
+use Rattle.one_chain.specs.declared.status.Status.{Status}
+use Rattle.one_chain.specs.declared.status.Status.TheVariants as statuses
+use Rattle.one_chain.specs.Answers.{breaks_off, may_lack_lines, end_of, whole_of, WritesLines, HasCauses}
+use Rattle.one_chain.specs.inside.Progress.{EventsOver}
 
 -- whether all was done
 abbrev pub is_done : Status → Bool

@@ -20,11 +20,11 @@ use Rattle.safety_law.specs.Follows.{Follows}
 use Rattle.forensics.specs.Books.{PlainBook, history_of}
 use Rattle.beacon_node.specs.declared.follow.Side.{Side}
 use Rattle.beacon_node.specs.declared.follow.Side.TheVariants.{First, Second}
-use Rattle.beacon_node.specs.declared.status.Status.{Status}
-use Rattle.beacon_node.specs.declared.status.Status.TheVariants as statuses
-use Rattle.beacon_node.specs.Answers.{breaks_off, end_of}
-use Rattle.beacon_node.specs.inside.AtEnd.{Handed}
-use Rattle.beacon_node.specs.inside.Reading.{Unread}
+use Rattle.one_chain.specs.declared.status.Status.{Status}
+use Rattle.one_chain.specs.declared.status.Status.TheVariants as statuses
+use Rattle.one_chain.specs.Answers.{breaks_off, end_of}
+use Rattle.beacon_node.specs.inside.ByFiles.{Handed}
+use Rattle.one_chain.specs.inside.Reading.{Unread}
 
 -- ---- the record
 

@@ -20,9 +20,9 @@ use Rattle.safety_law.specs.Histories.{Begins}
 use Rattle.forensics.specs.Books.{begun}
 use Rattle.beacon_node.specs.declared.histories.Histories.{Histories}
 use Rattle.beacon_node.specs.declared.histories.Findings.{Findings}
-use Rattle.beacon_node.specs.declared.status.Status.{Status}
-use Rattle.beacon_node.specs.declared.status.Status.TheVariants as statuses
-use Rattle.beacon_node.specs.Answers.{breaks_off}
+use Rattle.one_chain.specs.declared.status.Status.{Status}
+use Rattle.one_chain.specs.declared.status.Status.TheVariants as statuses
+use Rattle.one_chain.specs.Answers.{breaks_off}
 use Rattle.beacon_node.specs.inside.Following.{IsInside}
 
 -- A state of a configuration's preset begins histories: it was checked, it lies within the limits of a state, and its total fits.

@@ -25,9 +25,9 @@ use Rattle.beacon_node.specs.declared.node.Node as code
 use Rattle.beacon_node.specs.declared.node.NodeBlock.{NodeBlock}
 use Rattle.beacon_node.specs.declared.node.Delivered.{Delivered}
 use Rattle.beacon_node.specs.declared.nodes.Split.{Split}
-use Rattle.beacon_node.specs.declared.status.Status.{Status}
-use Rattle.beacon_node.specs.declared.status.Status.TheVariants as statuses
-use Rattle.beacon_node.specs.Answers.{breaks_off, end_of}
+use Rattle.one_chain.specs.declared.status.Status.{Status}
+use Rattle.one_chain.specs.declared.status.Status.TheVariants as statuses
+use Rattle.one_chain.specs.Answers.{breaks_off, end_of}
 use Rattle.beacon_node.specs.inside.Following.{IsInside}
 
 -- ---- a node's blocks

@@ -4,8 +4,9 @@ use Rattle.bc_outside.specs.Told.{ShelfTold, SinkTold}
 use Rattle.bc_outside.specs.Memory.{NamedFile, held_in, told_by, unopened}
 use Rattle.spec_replay.specs.Commands.{run_of}
 use Rattle.command_words.specs.Commands.{command_of, names_of}
-use Rattle.beacon_node.specs.declared.status.Status.{Status}
-use Rattle.beacon_node.specs.Answers.{Answers, OutsideKeeps, Replayed, taken_run_of}
+use Rattle.one_chain.specs.declared.status.Status.{Status}
+use Rattle.one_chain.specs.Answers.{Answers, OutsideKeeps, Replayed}
+use Rattle.beacon_node.specs.Pace.{taken_run_of}
 
 -- The shelf in memory was just made of these files, may fail at any call and hand out any pieces, and told this after the
 -- call. The clauses `answers` and `outside` then say what became of the run of exactly the bytes that the files hold.

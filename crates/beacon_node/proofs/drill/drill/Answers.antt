@@ -1,8 +1,8 @@
 -- The configuration could not be read, has a fault, or the chain is made.
 use Rattle.std.proofs.Common.{◌≡◌, [], ◌∷◌, Err, Ok, refl}
 use Rattle.bc_preset.specs.Configs.{config_of}
-use Rattle.beacon_node.specs.declared.status.Status.TheVariants as statuses
-use Rattle.beacon_node.proofs.Outside.{only_shelf, outside_then, ends_here, no_fault, unread_causes}
+use Rattle.one_chain.specs.declared.status.Status.TheVariants as statuses
+use Rattle.one_chain.proofs.Outside.{only_shelf, outside_then, ends_here, no_fault, unread_causes}
 use Rattle.beacon_node.proofs.Drilled.{unread_drill, config_drills, bad_file}
 use Rattle.beacon_node.proofs.drill.drill.Goals as goal
 

@@ -1,6 +1,6 @@
 -- The run ends before its lines, or they are written, or some of them.
 use Rattle.std.proofs.Common.{[]}
-use Rattle.beacon_node.specs.declared.status.Status.TheVariants as statuses
+use Rattle.one_chain.specs.declared.status.Status.TheVariants as statuses
 use Rattle.beacon_node.proofs.Drilled.{drill_over, wrote_all, wrote_not_all, wrote_out, wrote_well, writes_then, unwritten_is_no_fault_of_reading}
 use Rattle.beacon_node.proofs.Forensics.{follows_outside}
 use Rattle.beacon_node.proofs.drill.drill_from.Goals as goal

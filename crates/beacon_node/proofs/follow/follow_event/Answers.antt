@@ -1,7 +1,7 @@
 -- The store accepted a block or another event, refused the event, or the run ends at it.
 use Rattle.std.proofs.Common.{◌∙◌, refl}
 use Rattle.beacon_node.specs.inside.Following.{followed_by, others_of, which_of}
-use Rattle.beacon_node.specs.inside.Progress.{outcome_of}
+use Rattle.one_chain.specs.inside.Progress.{outcome_of}
 use Rattle.beacon_node.proofs.Following.{block_follows, block_goes_on, block_stops, block_to_add, clash_ends, limit_ends, other_followed, other_follows, refused_followed, watch_saw}
 use Rattle.beacon_node.proofs.follow.follow_event.Goals as goal
 

@@ -2,8 +2,8 @@
 use Rattle.std.proofs.Common.{[], ◌∷◌, inl}
 use Rattle.beacon_node.proofs.Following.{outside_behind, unopened_outside}
 use Rattle.beacon_node.proofs.Forensics.{record_followed}
-use Rattle.beacon_node.proofs.Steps.{unopened}
-use Rattle.beacon_node.proofs.Whole.{unread_breaks}
+use Rattle.one_chain.proofs.Steps.{unopened}
+use Rattle.beacon_node.proofs.ByFiles.{unread_breaks}
 use Rattle.beacon_node.proofs.follow.follow_record.Goals as goal
 
 pub returns-in-Err-clause-followed : goal.returns-in-Err-clause-followed

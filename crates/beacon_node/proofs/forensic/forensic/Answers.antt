@@ -2,10 +2,10 @@
 use Rattle.std.proofs.Common.{◌≡◌, [], ◌∷◌, Err, Ok}
 use Rattle.bc_preset.specs.Configs.{config_of}
 use Rattle.beacon_node.specs.inside.Files.{records_named}
-use Rattle.beacon_node.specs.declared.status.Status.TheVariants as statuses
+use Rattle.one_chain.specs.declared.status.Status.TheVariants as statuses
 use Rattle.beacon_node.proofs.Findings.{unread_is_not_done}
 use Rattle.beacon_node.proofs.Forensics.{unread_config, config_stops, config_goes_on}
-use Rattle.beacon_node.proofs.Outside.{only_shelf, outside_then, ends_here, no_fault, unread_causes}
+use Rattle.one_chain.proofs.Outside.{only_shelf, outside_then, ends_here, no_fault, unread_causes}
 use Rattle.beacon_node.proofs.forensic.forensic.Goals as goal
 
 pub returns-in-Err-clause-answers : goal.returns-in-Err-clause-answers

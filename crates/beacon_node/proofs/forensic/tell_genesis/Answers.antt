@@ -2,11 +2,11 @@
 use Rattle.std.proofs.Common.{◌∙◌, [], ◌∷◌, Err, Ok}
 use Rattle.spec_state.specs.Genesis.{genesis_of}
 use Rattle.beacon_node.specs.inside.Files.{records_named}
-use Rattle.beacon_node.specs.inside.GenesisAnswers.{GivesGenesis}
+use Rattle.one_chain.specs.inside.GenesisAnswers.{GivesGenesis}
 use Rattle.beacon_node.proofs.Beginnings.{few_validators}
 use Rattle.beacon_node.proofs.Findings.{no_genesis_is_not_done, unread_is_not_done}
 use Rattle.beacon_node.proofs.Forensics.{unread_genesis, genesis_stops, genesis_goes_on}
-use Rattle.beacon_node.proofs.Outside.{only_shelf, outside_then, ends_here, unread_causes, genesis_causes}
+use Rattle.one_chain.proofs.Outside.{only_shelf, outside_then, ends_here, unread_causes, genesis_causes}
 use Rattle.beacon_node.proofs.forensic.tell_genesis.Goals as goal
 
 pub tell_from-requires-clause-genesis : goal.tell_from-requires-clause-genesis

@@ -5,7 +5,7 @@ use Rattle.beacon_node.specs.declared.follow.Side.TheVariants.{First}
 use Rattle.beacon_node.specs.inside.Following.{followed_by}
 use Rattle.beacon_node.proofs.Forensics.{first_goes_on, first_stops, follows_outside}
 use Rattle.beacon_node.proofs.Openings.{first_begins, nothing_in, one_kept, second_begins, then_second}
-use Rattle.beacon_node.proofs.Outside.{only_shelf, outside_then}
+use Rattle.one_chain.proofs.Outside.{only_shelf, outside_then}
 use Rattle.beacon_node.proofs.forensic.tell_records.Goals as goal
 
 pub follow_record-requires-clause-few : goal.follow_record-requires-clause-few

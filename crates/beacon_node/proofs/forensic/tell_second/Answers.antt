@@ -5,7 +5,7 @@ use Rattle.beacon_node.specs.declared.follow.Side.TheVariants.{Second}
 use Rattle.beacon_node.specs.inside.Following.{followed_by}
 use Rattle.beacon_node.proofs.Forensics.{follows_outside, second_concludes, second_stops}
 use Rattle.beacon_node.proofs.Openings.{beside_first, judge_of, second_follows, still_first}
-use Rattle.beacon_node.proofs.Whole.{concludes_outside}
+use Rattle.one_chain.proofs.Whole.{concludes_outside}
 use Rattle.beacon_node.proofs.forensic.tell_second.Goals as goal
 
 pub follow_record-requires-clause-following : goal.follow_record-requires-clause-following

@@ -1,6 +1,6 @@
 -- The offences, and then the verdict.
 use Rattle.std.proofs.lemmas.Result.{err_from_is_err_and}
-use Rattle.beacon_node.proofs.Texts.{written_then, first_partly}
+use Rattle.one_chain.proofs.Texts.{written_then, first_partly}
 use Rattle.beacon_node.proofs.forensic.write_findings.Goals as goal
 
 pub returns-in_err-write_offences : goal.returns-in_err-write_offences

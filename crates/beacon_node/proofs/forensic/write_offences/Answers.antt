@@ -8,7 +8,7 @@ use Rattle.spec_forensics.specs.declared.offence.Offence.{Offence}
 use Rattle.spec_forensics.specs.declared.offence.OffenceKind.TheVariants.{Double}
 use Rattle.spec_forensics.specs.declared.vote.Vote.{Vote}
 use Rattle.spec_replay.specs.OffenceLines.{offence_line}
-use Rattle.beacon_node.proofs.Texts.{written_partly}
+use Rattle.one_chain.proofs.Texts.{written_partly}
 use Rattle.beacon_node.proofs.forensic.write_offences.Goals as goal
 
 no_content : AttestationData

@@ -2,7 +2,7 @@
 use Rattle.std.proofs.Common.{drop}
 use Rattle.std.specs.Prelude.{flat_map}
 use Rattle.spec_replay.specs.OffenceLines.{offence_line}
-use Rattle.beacon_node.specs.inside.Texts.{WritesFront}
+use Rattle.one_chain.specs.inside.Texts.{WritesFront}
 use Rattle.beacon_node.proofs.forensic.write_offences.Given as goal
 
 abbrev pub invariant-loop-offence : goal.invariant-loop-offence

@@ -1,9 +1,9 @@
 -- The configuration could not be read, has a fault, or the nodes run.
 use Rattle.std.proofs.Common.{◌≡◌, [], ◌∷◌, Err, Ok}
 use Rattle.bc_preset.specs.Configs.{config_of}
-use Rattle.beacon_node.specs.declared.status.Status.TheVariants as statuses
+use Rattle.one_chain.specs.declared.status.Status.TheVariants as statuses
 use Rattle.beacon_node.proofs.ManyNodes.{bad_file, config_nodes, unread_nodes}
-use Rattle.beacon_node.proofs.Outside.{ends_here, no_fault, only_shelf, outside_then, unread_causes}
+use Rattle.one_chain.proofs.Outside.{ends_here, no_fault, only_shelf, outside_then, unread_causes}
 use Rattle.beacon_node.proofs.nodes.nodes.Goals as goal
 
 pub returns-in-Err-clause-answers : goal.returns-in-Err-clause-answers

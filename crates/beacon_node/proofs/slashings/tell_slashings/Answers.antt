@@ -1,7 +1,7 @@
 -- The record is written, or memory ran out.
 use Rattle.std.proofs.Common.{◌∙◌, sym}
 use Rattle.beacon_node.proofs.Findings.{wrote_all}
-use Rattle.beacon_node.proofs.Whole.{text_concludes}
+use Rattle.one_chain.proofs.Whole.{text_concludes}
 use Rattle.beacon_node.proofs.slashings.tell_slashings.Goals as goal
 
 pub returns-in-Ok-clause-told : goal.returns-in-Ok-clause-told

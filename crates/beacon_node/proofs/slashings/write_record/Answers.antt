@@ -1,7 +1,7 @@
 -- The first bytes, and then the frames.
 use Rattle.std.proofs.lemmas.Result.{err_from_is_err_and}
 use Rattle.spec_replay.specs.Slasher.{slashing_record}
-use Rattle.beacon_node.proofs.Texts.{written_then, first_partly}
+use Rattle.one_chain.proofs.Texts.{written_then, first_partly}
 use Rattle.beacon_node.proofs.slashings.write_record.Goals as goal
 
 pub returns-in_err-write_magic : goal.returns-in_err-write_magic

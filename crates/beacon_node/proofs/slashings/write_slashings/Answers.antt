@@ -5,7 +5,7 @@ use Rattle.std.proofs.Math.Seq.{drop-cons}
 use Rattle.std.proofs.lemmas.Result.{err_from_is_err_and}
 use Rattle.beacon_body.specs.declared.attester_slashing.AttesterSlashing.{AttesterSlashing}
 use Rattle.spec_replay.specs.Slasher.{slashing_frame}
-use Rattle.beacon_node.proofs.Texts.{written_partly}
+use Rattle.one_chain.proofs.Texts.{written_partly}
 use Rattle.beacon_node.proofs.slashings.write_slashings.Goals as goal
 
 one_more : (slashings : List AttesterSlashing) (i : ℕ) (here d : AttesterSlashing) → i < length slashings → here ≡ get_or slashings i d

@@ -2,7 +2,7 @@
 use Rattle.std.proofs.Common.{drop}
 use Rattle.std.specs.Prelude.{flat_map}
 use Rattle.spec_replay.specs.Slasher.{slashing_frame}
-use Rattle.beacon_node.specs.inside.Texts.{WritesFront}
+use Rattle.one_chain.specs.inside.Texts.{WritesFront}
 use Rattle.beacon_node.proofs.slashings.write_slashings.Given as goal
 
 abbrev pub invariant-loop-slashing : goal.invariant-loop-slashing

@@ -1,0 +1,13 @@
+pub mod Prefixes
+pub mod Reaching
+pub mod Steps
+pub mod OneByOne
+pub mod Readers
+pub mod Outside
+pub mod AnchorReaders
+pub mod MakingGenesis
+pub mod Texts
+pub mod DutyLines
+pub mod DutyTables
+pub mod Whole
+pub mod Duties

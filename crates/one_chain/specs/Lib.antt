@@ -1,0 +1,4 @@
+pub mod Answers
+pub mod Statuses
+pub mod inside
+pub mod laws

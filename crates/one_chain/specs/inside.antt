@@ -1,0 +1,10 @@
+pub mod AnchorAnswers
+pub mod AtEnd
+pub mod Duties
+pub mod Files
+pub mod GenesisAnswers
+pub mod Making
+pub mod Progress
+pub mod Reading
+pub mod Statuses
+pub mod Texts

@@ -1,0 +1,2 @@
+pub mod MadeGenesis
+pub mod Soundness
