@@ -13,6 +13,7 @@ ghost use Rattle.block_array.specs.inside.Held.{IsPlain};
 use crate::facts::Facts;
 use crate::list::{make_room, push_item};
 use crate::node::{Message, Node};
+use crate::stored_message::StoredMessage;
 use crate::validator_set::ValidatorSet;
 use bc_words::NoMemory;
 use beacon_types::Checkpoint;
@@ -27,7 +28,7 @@ pub(crate) struct Inputs {
     slots_per_epoch: u64,
     percent: u64,
     nodes: Vec<Node>,
-    messages: Vec<Option<Message>>,
+    messages: Vec<StoredMessage>,
     balances: Vec<u64>,
     active_count: u64,
     total: u128,
@@ -113,7 +114,7 @@ impl Inputs {
         ensures { result ≡ message_of self.now.array validator }
     {
         match self.messages.get(validator as usize) {
-            Some(message) => *message,
+            Some(stored) => stored.message(),
             None => None,
         }
     }
@@ -158,6 +159,14 @@ impl Inputs {
             Some(balance) => *balance,
             None => 0,
         }
+    }
+
+    /// How many balances there are, one for each validator of the justified checkpoint's state.
+    pub(crate) fn balances(&self) -> usize
+        ensures same { result ≡ length self.now.array.balances }
+        ensures few { length self.now.array.balances ≤ 2 ^ 40 }
+    {
+        self.balances.len()
     }
 
     /// The boost, in Gwei.
@@ -402,17 +411,17 @@ fn committee_weight(active: u64, slots: u64, total: u128) -> u128
 }
 
 /// Puts a message into a validator's place, with empty places before it where there were none. There is room for it.
-fn put(items: &mut Vec<Option<Message>>, validator: usize, message: Message)
+fn put(items: &mut Vec<StoredMessage>, validator: usize, message: Message)
     requires { validator < vec_capacity items.old }
     ensures exact { items.new.items ≡ with_message items.old.items validator message }
     ensures room { vec_capacity items.old ≤ vec_capacity items.new }
 {
     for place in items.len()..validator {
-        push_item(items, None);
+        push_item(items, StoredMessage::none());
     }
     if validator < items.len() {
-        items[validator] = Some(message);
+        items[validator] = StoredMessage::of(message);
     } else {
-        push_item(items, Some(message));
+        push_item(items, StoredMessage::of(message));
     }
 }

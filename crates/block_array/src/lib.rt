@@ -16,6 +16,7 @@ mod list;
 mod node;
 mod note;
 mod room;
+mod stored_message;
 mod tally;
 mod validator_set;
 mod weight;

@@ -62,7 +62,8 @@ pub(crate) fn room_for_node(
     }
 }
 
-/// Makes room for so many validators in all.
+/// Makes room for so many validators in all, and then at once for each that has a balance: a list that grows once more takes twice
+/// its places. For no validator none is made.
 pub(crate) fn grow_validators(
     inputs: &mut Inputs,
     tally: &mut Tally,
@@ -80,11 +81,15 @@ pub(crate) fn grow_validators(
     ensures tally_room { OnOk result (places ≤ tally.new.validator_room) }
     ensures few { OnOk result (places ≤ 2 ^ 40) }
 {
+    if places == 0 {
+        return Ok(());
+    }
     if places > VALIDATOR_LIMIT {
         return Err(NoMemory);
     }
-    match inputs.reserve_validators(places as usize) {
-        Ok(()) => tally.reserve_validators(places as usize),
+    let all = inputs.balances().max(places as usize);
+    match inputs.reserve_validators(all) {
+        Ok(()) => tally.reserve_validators(all),
         Err(refused) => Err(refused),
     }
 }

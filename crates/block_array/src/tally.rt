@@ -21,6 +21,8 @@ pub(crate) struct Counted {
     pub(crate) balance: u64,
 }
 
+const _: () = prove!(size_of::<Counted>() == 16);
+
 /// What is counted of each validator, and of the boost, in Gwei; and for each node what is counted at it.
 #[derive(Drop)]
 pub(crate) struct Tally {
