@@ -1,20 +1,16 @@
-//! Runs recorded cases, and compares what they give with what an independent implementation gives: runs of the program,
-//! single calls of its layers, lists of votes, and pairs of histories.
+//! Runs recorded cases, and compares what they give with what an independent implementation gives: runs of the program, lists of
+//! votes, and pairs of histories.
 //!
-//! `cases` lists the cases, each a folder of `data`: those below `calls` are calls, those below `offences` lists of votes, those
-//! below `books` pairs of histories, and all others are runs; the file `third_shared` has calls of its own. Behind `hostile/` stands
-//! what is tried on a case, many times over.
+//! `cases` lists the cases, each a folder of `data`: those below `offences` are lists of votes, those below `books` pairs of histories,
+//! and all others are runs. Behind `hostile/` stands what is tried on a case, many times over.
 #![tactic(auto)]
 
 mod beginning;
 mod books;
-mod calls;
-mod case_files;
 mod chain_book;
 mod chain_stop;
 mod offences;
 mod runs;
-mod shared_weights;
 
 use anyhow::Result;
 use std::fs;
@@ -23,11 +19,9 @@ use std::rt::Files;
 /// Runs the case of this name, and prints one line.
 fn run_case(rt: &(impl Files + Print + AllocGlobal), name: &str) -> Result<bool> {
     match name.split_once('/') {
-        Some(("calls", _)) => calls::run_case(rt, name),
         Some(("books", _)) => books::run_case(rt, name),
         Some(("hostile", case)) => runs::hostile::run_case(rt, case),
         Some(("offences", _)) => offences::run_case(rt, name),
-        None => shared_weights::run_case(rt, name),
         _ => runs::run_case(rt, name),
     }
 }

@@ -1,6 +1,5 @@
 //! One case: its words, the files that they name, and what is expected of them.
 
-use crate::case_files::bytes_at;
 use crate::runs::expected::status_text;
 use anyhow::{Context, Result};
 use bc_outside::{MemoryFile, MemoryShelf, MemorySink};
@@ -28,6 +27,15 @@ pub struct Case {
 pub struct Answer {
     lines: Vec<u8>,
     status: String,
+}
+
+/// The bytes of a file, None where there is no such file.
+fn bytes_at<R: Files + AllocGlobal>(rt: &R, path: &str) -> Result<Option<Vec<u8>>> {
+    match fs::read(rt, path) {
+        Ok(bytes) => Ok(Some(bytes)),
+        Err(error) if error.kind() == io::ErrorKind::NotFound => Ok(None),
+        Err(error) => Err(error.into()),
+    }
 }
 
 /// The text of a file.

@@ -1,6 +1,6 @@
 -- The rest is shorter.
 use Rattle.std.proofs.Common.{length}
-use Rattle.vectors.proofs.shared_weights.+total.Given as goal
+use Rattle.call_vectors.proofs.shared_weights.+total.Given as goal
 
 abbrev pub decreases-total : goal.decreases-total
 decreases-total l = length l.weights.now

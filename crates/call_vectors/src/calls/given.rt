@@ -1,11 +1,10 @@
 //! What a case holds.
 
-use crate::case_files::bytes_at;
 use anyhow::{Context, Result};
 use bc_preset::Config;
 use std::alloc::Global;
-use std::fs;
 use std::rt::Files;
+use std::{fs, io};
 
 /// A recorded call and what it takes.
 #[derive(Drop)]
@@ -22,8 +21,11 @@ pub struct Given {
 
 /// A file of a case. None where there is no such file.
 fn read_file<R: Files + AllocGlobal>(rt: &R, case: &str, name: &str) -> Result<Option<Vec<u8>>> {
-    let path = format!(in rt.alloc(); "{case}/{name}")?;
-    bytes_at(rt, path.as_str())
+    match fs::read(rt, format!(in rt.alloc(); "{case}/{name}")?.as_str()) {
+        Ok(bytes) => Ok(Some(bytes)),
+        Err(error) if error.kind() == io::ErrorKind::NotFound => Ok(None),
+        Err(error) => Err(error.into()),
+    }
 }
 
 /// The line that names the call of a case.

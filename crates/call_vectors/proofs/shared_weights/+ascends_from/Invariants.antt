@@ -1,6 +1,6 @@
 -- The rest is shorter.
 use Rattle.std.proofs.Common.{length}
-use Rattle.vectors.proofs.shared_weights.+ascends_from.Given as goal
+use Rattle.call_vectors.proofs.shared_weights.+ascends_from.Given as goal
 
 abbrev pub decreases-ascends_from : goal.decreases-ascends_from
 decreases-ascends_from l = length l.indices.now
