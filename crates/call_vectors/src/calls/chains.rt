@@ -23,11 +23,18 @@ fn maker_of(alloc: Global, number: u64, config: &Config) -> Result<Maker> {
     Ok(Maker::new(alloc, number, config)?)
 }
 
+/// The maker of one of two chains of a split.
+fn split_of(alloc: Global, maker: &Maker, which: u8) -> Result<Maker>
+    requires { which < 2 }
+{
+    Ok(maker.split(alloc, which)?)
+}
+
 /// The maker of the chain that a call names: the number's own, or one of its split.
 fn maker_named(alloc: Global, name: &str, maker: Maker) -> Result<Maker> {
     match name {
-        "first_of_split" => Ok(maker.split(alloc, 0)?),
-        "second_of_split" => Ok(maker.split(alloc, 1)?),
+        "first_of_split" => split_of(alloc, &maker, 0),
+        "second_of_split" => split_of(alloc, &maker, 1),
         _ => Ok(maker),
     }
 }
@@ -65,11 +72,11 @@ fn is_genesis(alloc: Global, maker: &Maker, config: &Config, bytes: &[u8]) -> Re
 }
 
 /// What the maker makes of what is recorded.
-fn told(alloc: Global, mut maker: Maker, config: &Config, given: &Given) -> Result<String> {
-    if !is_genesis(alloc, &maker, config, given.state()?)? {
+fn told(alloc: Global, maker: &mut Maker, config: &Config, given: &Given) -> Result<String> {
+    if !is_genesis(alloc, maker, config, given.state()?)? {
         return Ok(String::from_str(alloc, "another genesis")?);
     }
-    let record = record_of(alloc, &mut maker)?;
+    let record = record_of(alloc, maker)?;
     if record.as_slice() != given.input()?.as_slice() {
         return Ok(String::from_str(alloc, "another record")?);
     }
@@ -80,6 +87,6 @@ fn told(alloc: Global, mut maker: Maker, config: &Config, given: &Given) -> Resu
 pub fn answer(alloc: Global, given: &Given) -> Result<String> {
     let config = given.config()?;
     let maker = maker_of(alloc, given.number()?, &config)?;
-    let maker = maker_named(alloc, given.name.as_str(), maker)?;
-    told(alloc, maker, &config, given)
+    let mut maker = maker_named(alloc, given.name.as_str(), maker)?;
+    told(alloc, &mut maker, &config, given)
 }

@@ -51,17 +51,33 @@ fn places_of(alloc: Global, number: u64, node: u64, events: &[Event]) -> Result<
     }
 }
 
-/// The answer of delivering the record's events to a node.
-pub fn answer(alloc: Global, given: &Given) -> Result<String> {
-    let (number, node) = given.word.as_str().split_once(' ').context("no node")?;
-    let events = events_of(alloc, given.record()?)?;
-    let places = places_of(alloc, number.parse::<u64>()?, node.parse::<u64>()?, &events)?;
-    let mut text = String::from_str(alloc, "ok")?;
+/// Adds the line of places.
+fn push_places(alloc: Global, places: &[u32], text: &mut String) -> Result<()> {
     let mut before = "\n";
-    for place in &places {
+    for place in places {
         text.push_str(before)?;
         text.push_str(format!(in alloc; "{place}")?.as_str())?;
         before = " ";
     }
-    Ok(text)
+    Ok(())
+}
+
+/// The answer that these places are.
+fn places_answer(alloc: Global, places: &[u32]) -> Result<String> {
+    let mut text = String::from_str(alloc, "ok")?;
+    match push_places(alloc, places, &mut text) {
+        Ok(()) => Ok(text),
+        Err(error) => Err(error),
+    }
+}
+
+/// The answer of delivering the record's events to a node.
+pub fn answer(alloc: Global, given: &Given) -> Result<String> {
+    let (number, node) = given.word.as_str().split_once(' ').context("no node")?;
+    let (number, node) = (number.parse::<u64>()?, node.parse::<u64>()?);
+    let events = events_of(alloc, given.record()?)?;
+    match places_of(alloc, number, node, &events) {
+        Ok(places) => places_answer(alloc, &places),
+        Err(error) => Err(error),
+    }
 }

@@ -24,18 +24,21 @@ fn root_line(alloc: Global, tree: &DepositTree, text: &mut String) -> Result<()>
     push_root(alloc, &tree.root(), text)
 }
 
+/// Adds the roots of a branch to a line.
+fn push_roots(alloc: Global, roots: &[Root], text: &mut String) -> Result<()> {
+    for root in roots {
+        push_root(alloc, root, text)?;
+    }
+    Ok(())
+}
+
 /// Adds the line of a leaf's branch.
 fn branch_line(alloc: Global, tree: &DepositTree, index: u64, text: &mut String) -> Result<()> {
     text.push_str(format!(in alloc; "\nbranch {index}")?.as_str())?;
     match tree.branch(index) {
-        Some(branch) => {
-            for root in &branch {
-                push_root(alloc, root, text)?;
-            }
-        }
-        None => text.push_str(" none")?,
+        Some(branch) => push_roots(alloc, &branch, text),
+        None => Ok(text.push_str(" none")?),
     }
-    Ok(())
 }
 
 /// Pushes the leaf that these bytes are.
@@ -52,21 +55,47 @@ fn push_leaf(tree: &mut DepositTree, bytes: &[u8]) -> Result<()> {
     }
 }
 
-/// The answer of pushing the leaves in their order.
-pub fn answer(alloc: Global, given: &Given) -> Result<String> {
-    let mut tree = DepositTree::new(alloc);
-    let mut text = String::from_str(alloc, "ok")?;
-    root_line(alloc, &tree, &mut text)?;
-    for leaf in given.input()?.chunks(32) {
-        push_leaf(&mut tree, leaf)?;
-        root_line(alloc, &tree, &mut text)?;
+/// Pushes the leaves, with the line of the root behind each number of them.
+fn push_leaves(
+    alloc: Global,
+    tree: &mut DepositTree,
+    leaves: &[u8],
+    text: &mut String,
+) -> Result<()> {
+    root_line(alloc, tree, text)?;
+    for leaf in leaves.chunks(32) {
+        push_leaf(tree, leaf)?;
+        root_line(alloc, tree, text)?;
     }
-    let count = tree.len();
-    for index in 0..count.saturating_add(2) {
-        branch_line(alloc, &tree, index, &mut text)?;
+    Ok(())
+}
+
+/// Adds the lines of all branches, and of some that there aren't.
+fn branch_lines(alloc: Global, tree: &DepositTree, text: &mut String) -> Result<()> {
+    for index in 0..tree.len().saturating_add(2) {
+        branch_line(alloc, tree, index, text)?;
     }
     for index in FAR {
-        branch_line(alloc, &tree, index, &mut text)?;
+        branch_line(alloc, tree, index, text)?;
     }
-    Ok(text)
+    Ok(())
+}
+
+/// Adds the lines of a tree of these leaves.
+fn tree_lines(alloc: Global, leaves: &[u8], text: &mut String) -> Result<()> {
+    let mut tree = DepositTree::new(alloc);
+    match push_leaves(alloc, &mut tree, leaves, text) {
+        Ok(()) => branch_lines(alloc, &tree, text),
+        Err(error) => Err(error),
+    }
+}
+
+/// The answer of pushing the leaves in their order.
+pub fn answer(alloc: Global, given: &Given) -> Result<String> {
+    let leaves = given.input()?;
+    let mut text = String::from_str(alloc, "ok")?;
+    match tree_lines(alloc, leaves, &mut text) {
+        Ok(()) => Ok(text),
+        Err(error) => Err(error),
+    }
 }
