@@ -9,17 +9,22 @@ use deposit_ops::PubkeyIndex;
 use ssz_codec::Ssz;
 use std::alloc::Global;
 
-/// Reads a deposit, and processes it with the index of the state's keys.
+/// Processes a deposit with the index of the state's keys.
+fn processed(alloc: Global, state: &mut State, deposit: &Deposit) -> Result<Result<(), Stop>> {
+    match PubkeyIndex::of(alloc, state) {
+        Ok(mut keys) => Ok(deposit_ops::process_deposit::process_deposit(
+            state, deposit, &mut keys,
+        )),
+        Err(_) => bail!("out of memory"),
+    }
+}
+
+/// Reads a deposit, and processes it.
 pub fn process_deposit(
     alloc: Global,
     state: &mut State,
     given: &Given,
 ) -> Result<Result<(), Stop>> {
     let deposit = Deposit::read(alloc, given.input()?)?;
-    match PubkeyIndex::of(alloc, state) {
-        Ok(mut keys) => Ok(deposit_ops::process_deposit::process_deposit(
-            state, &deposit, &mut keys,
-        )),
-        Err(_) => bail!("out of memory"),
-    }
+    processed(alloc, state, &deposit)
 }

@@ -2,10 +2,9 @@
 
 use crate::calls::given::Given;
 use anyhow::{Result, bail};
-use balance_totals::{committees_of_epoch, current_epoch, previous_epoch};
 use bc_words::Stop;
 use beacon_state::State;
-use participation::{current_flags, previous_statuses};
+use participation::{current_targets, previous_table};
 use stakes::{Stakes, gather};
 use std::alloc::Global;
 use transition::{is_sound, sound_within_epoch};
@@ -22,9 +21,7 @@ pub fn process_justification(
     sound_within_epoch();
     let config = given.config()?;
     let Stakes { list, stirs: _ } = gather(alloc, state, &config)?;
-    let committees = committees_of_epoch(alloc, state, previous_epoch(state))?;
-    let previous = previous_statuses(alloc, state, &committees)?;
-    let committees = committees_of_epoch(alloc, state, current_epoch(state))?;
-    let current = current_flags(alloc, state, &committees)?;
+    let previous = previous_table(alloc, state)?;
+    let current = current_targets(alloc, state)?;
     Ok(justification::process_justification(state, &list, &previous, &current))
 }

@@ -9,13 +9,12 @@ ghost use Rattle.participation.specs.inside.Statuses.{statuses_of};
 use crate::calls::answers::stop_line;
 use crate::calls::given::Given;
 use anyhow::{Result, bail};
-use balance_totals::{committees_of_epoch, previous_epoch};
 use bc_words::Stop;
 use beacon_state::State;
 use epoch_rewards::{
     Deltas, head_deltas, inactivity_deltas, inclusion_deltas, source_deltas, target_deltas,
 };
-use participation::{Status, previous_statuses};
+use participation::{Status, previous_table};
 use ssz_codec::Items;
 use stakes::{Stake, Stakes, gather};
 use std::alloc::Global;
@@ -32,8 +31,7 @@ pub fn process_rewards(
     }
     let config = given.config()?;
     let Stakes { list, stirs: _ } = gather(alloc, state, &config)?;
-    let previous = committees_of_epoch(alloc, state, previous_epoch(state))?;
-    let statuses = previous_statuses(alloc, state, &previous)?;
+    let statuses = previous_table(alloc, state)?;
     Ok(epoch_rewards::process_rewards(alloc, state, &list, statuses))
 }
 
@@ -103,17 +101,31 @@ pub fn is_part(call: &str) -> bool {
     )
 }
 
+/// The answer of a part of rewards and penalties, by what was gathered of a sound state.
+fn part_answer(
+    alloc: Global,
+    state: &State,
+    stakes: &[Stake],
+    statuses: &[Status],
+    call: &str,
+) -> Result<String>
+    requires sound { IsSoundWithinEpoch state.now }
+    requires stakes { stakes.now ≡ stakes_of state.now }
+    requires statuses { statuses.now ≡ statuses_of state.now (get_previous_epoch state.now) }
+{
+    match part(alloc, state, stakes, statuses, call) {
+        Some(outcome) => lines_of(alloc, &outcome),
+        None => bail!("no such part"),
+    }
+}
+
 /// The answer of a part of rewards and penalties.
-pub fn deltas_answer(alloc: Global, state: &State, given: &Given) -> Result<String> {
+pub fn deltas_answer(alloc: Global, state: &mut State, given: &Given) -> Result<String> {
     if !is_sound_within_epoch(alloc, state)? {
         bail!("the state isn't sound");
     }
     let config = given.config()?;
     let Stakes { list, stirs: _ } = gather(alloc, state, &config)?;
-    let previous = committees_of_epoch(alloc, state, previous_epoch(state))?;
-    let statuses = previous_statuses(alloc, state, &previous)?;
-    match part(alloc, state, &list, &statuses, given.name.as_str()) {
-        Some(outcome) => lines_of(alloc, &outcome),
-        None => bail!("no such part"),
-    }
+    let statuses = previous_table(alloc, state)?;
+    part_answer(alloc, state, &list, &statuses, given.name.as_str())
 }
