@@ -3,7 +3,6 @@
 use crate::case::Case;
 use crate::verdict::{Outside, Verdict, judged};
 use anyhow::Result;
-use balance_totals::{committees_of_epoch, current_epoch, previous_epoch};
 use bc_preset::Config;
 use bc_words::Stop;
 use beacon_state::State;
@@ -14,7 +13,7 @@ use epoch_close::process_participation_record_updates::process_rotation;
 use epoch_close::process_randao_mixes_reset::process_randao_reset;
 use epoch_close::process_slashings::process_slashings;
 use epoch_close::process_slashings_reset::process_slashings_reset;
-use participation::{current_flags, previous_statuses};
+use participation::{current_targets, previous_table};
 use registry_queue::process_registry_updates;
 use stakes::{Stakes, gather};
 use std::alloc::Global;
@@ -28,10 +27,8 @@ fn justify(alloc: Global, state: &mut State, config: &Config) -> Result<Option<R
     }
     sound_within_epoch();
     let Stakes { list, stirs: _ } = gather(alloc, state, config)?;
-    let committees = committees_of_epoch(alloc, state, previous_epoch(state))?;
-    let previous = previous_statuses(alloc, state, &committees)?;
-    let committees = committees_of_epoch(alloc, state, current_epoch(state))?;
-    let current = current_flags(alloc, state, &committees)?;
+    let previous = previous_table(alloc, state)?;
+    let current = current_targets(alloc, state)?;
     Ok(Some(justification::process_justification(state, &list, &previous, &current)))
 }
 
@@ -41,8 +38,7 @@ fn pay(alloc: Global, state: &mut State, config: &Config) -> Result<Option<Resul
         return Ok(None);
     }
     let Stakes { list, stirs: _ } = gather(alloc, state, config)?;
-    let committees = committees_of_epoch(alloc, state, previous_epoch(state))?;
-    let statuses = previous_statuses(alloc, state, &committees)?;
+    let statuses = previous_table(alloc, state)?;
     Ok(Some(epoch_rewards::process_rewards(alloc, state, &list, statuses)))
 }
 

@@ -39,18 +39,31 @@ fn add_deposit(
     Ok(deposit.content.write_to(out)?)
 }
 
+/// Adds a deposit of a case by its number.
+fn take_deposit(
+    rt: &(impl Files + AllocGlobal),
+    case: &Case,
+    index: u64,
+    tree: &mut DepositTree,
+    out: &mut Writer,
+    difference: &mut Difference,
+) -> Result<()> {
+    let name = format!(in rt.alloc(); "deposits_{index}")?;
+    let deposit = case.value(rt, name.as_str())?;
+    add_deposit(name.as_str(), &deposit, tree, out, difference)
+}
+
 /// The deposits of a case, one behind the other, whose branches lead to the tree's roots.
 fn deposits_of(
     rt: &(impl Files + AllocGlobal),
     case: &Case,
     difference: &mut Difference,
 ) -> Result<Vec<u8>> {
+    let count = case.number("deposits_count")?;
     let mut tree = DepositTree::new(rt.alloc());
     let mut out = Writer::new(rt.alloc());
-    for index in 0..case.number("deposits_count")? {
-        let name = format!(in rt.alloc(); "deposits_{index}")?;
-        let deposit = case.value(rt, name.as_str())?;
-        add_deposit(name.as_str(), &deposit, &mut tree, &mut out, difference)?;
+    for index in 0..count {
+        take_deposit(rt, case, index, &mut tree, &mut out, difference)?;
     }
     Ok(out.finish())
 }
