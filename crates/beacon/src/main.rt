@@ -2,12 +2,9 @@
 //! and ends with the status's number.
 #![tactic(auto)]
 
-mod explanation;
 mod program;
 mod progress;
 mod stack;
-#[cfg(test)]
-mod tests;
 
 use crate::program::run;
 use crate::progress::Progress;

@@ -1,10 +1,10 @@
 //! The program over a runtime: its words, the disk and standard output go to `beacon_main`, and its status to the caller.
 
-use crate::explanation::{Cause, Explanation};
 use crate::progress::{Progress, Watch, WatchedOut, WatchedShelf, WatchedSink};
 use bc_outside::{DiskShelf, StdSink};
 use beacon_node::{Status, beacon_main};
 use command_words::{Command, read_command, what_is_wrong};
+use status_words::{Cause, Explanation};
 use std::alloc::Global;
 use std::io::{Eprint, Print};
 use std::rt::{Env, Files};

@@ -36,6 +36,8 @@ mod spans;
 #[cfg(test)]
 mod ssz;
 #[cfg(test)]
+mod statuses;
+#[cfg(test)]
 mod totals;
 #[cfg(test)]
 mod trees;

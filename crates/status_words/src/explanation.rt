@@ -3,11 +3,11 @@
 use bc_preset::constants::{MAX_PROPOSER_CANDIDATES, MAX_SLOTS};
 use bc_preset::{ConfigFault, Key, Preset};
 use bc_words::{ClashKind, Limit, Refusal};
-use beacon_node::Status;
 use beacon_state::shortest_state;
 use command_words::{COMMANDS, Command};
 use duties::DutiesFault;
 use genesis_maker::{DEPOSIT_LEN, DEPOSITS_HEAD_LEN};
+use one_chain::Status;
 use spec_fork_choice::AnchorFault;
 use spec_genesis::DepositsFault;
 use spec_state::GenesisFault;

@@ -1,15 +1,15 @@
 //! What the statuses say.
 
-use crate::explanation::{Cause, Explanation};
 use bc_preset::{ConfigFault, Key};
 use bc_words::{ClashKind, Limit, Refusal};
-use beacon_node::Status;
 use command_words::{Command, read_command};
 use duties::DutiesFault;
+use one_chain::Status;
 use record_file::RecordFault;
 use spec_fork_choice::AnchorFault;
 use spec_genesis::DepositsFault;
 use spec_state::GenesisFault;
+use status_words::{Cause, Explanation};
 use std::alloc::{AllocError, Global};
 use std::io::{Error, ErrorKind};
 use std::test::Fail;
