@@ -4,7 +4,7 @@ use Rattle.fork_store.proofs.Preparing.{given_made}
 use Rattle.fork_store.proofs.on_block.prepare.Goals as goal
 
 pub prepare_best-requires : goal.prepare_best-requires
-prepare_best-requires c = keeper_same c.args.store.now c.args.keeper.now c.balances_of.new.keeper c.requires.keeper c.in_ok-justified.ensures.same
+prepare_best-requires c = record { keeper = keeper_same c.args.store.now c.args.keeper.now c.balances_of.new.keeper c.requires.keeper c.in_ok-justified.ensures.same }
 
 pub returns-clause-given : goal.returns-clause-given
 returns-clause-given c =
