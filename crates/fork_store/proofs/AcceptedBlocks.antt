@@ -17,7 +17,7 @@ use Rattle.fork_store.specs.Arrays.{Balances, balances_of, node_number, IsArrayO
 use Rattle.fork_store.specs.Stores.{IsStore, IsLate, first_epoch}
 use Rattle.fork_store.specs.inside.Chains.{IsLinked, IsChained}
 use Rattle.fork_store.specs.inside.Wholes.{balances_for, IsReady, IsWhole}
-use Rattle.fork_store.specs.inside.Following.{may_move, AreGiven}
+use Rattle.fork_store.specs.inside.Following.{may_move, may_be_left, AreGiven}
 use Rattle.fork_store.proofs.FirstSlots.{some_kept, epoch_stays}
 use Rattle.fork_store.proofs.Following.{number_kept}
 use Rattle.fork_store.proofs.Settling.{settle_blocks}
@@ -102,10 +102,10 @@ module _ (old mid : Store) (a : PlainArray) (ready : Option Balances) (root : Li
       either_true false y h = inr h
 
   pub mid_given : (given best : Option Balances) → AreGiven old given best state.current_justified_checkpoint state.finalized_checkpoint → AreGiven mid given best state.current_justified_checkpoint state.finalized_checkpoint
-  unfolding AreGiven may_move
+  unfolding AreGiven may_move may_be_left
   mid_given given best g = of_mid (λ (s : Store). AreGiven s given best state.current_justified_checkpoint state.finalized_checkpoint) g (λ may other.
       let both = g may other in
-      (both.0 ∙ ap Some (sym (balances_more old kept state.current_justified_checkpoint (moves_kept may))), both.1 ∙ ap Some (sym (balances_more old kept old.best_justified_checkpoint (chained_best_justified_is_kept old whole.chained)))))
+      (both.0 ∙ ap Some (sym (balances_more old kept state.current_justified_checkpoint (moves_kept may))), λ left. both.1 left ∙ ap Some (sym (balances_more old kept old.best_justified_checkpoint (chained_best_justified_is_kept old whole.chained)))))
 
   pub mid_known : may_move mid state.current_justified_checkpoint state.finalized_checkpoint ≡ true → is_kept mid.blocks state.current_justified_checkpoint.root ≡ true
   unfolding may_move

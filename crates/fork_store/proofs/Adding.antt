@@ -1,5 +1,5 @@
 -- A block that isn't kept yet, and its node in the array.
-use Rattle.std.proofs.Common.{◌≡◌, ◌∙◌, ◌<◌, ◌-◌, ◌^◌, ℕ, max, false, List, [], ◌∷◌, ◌++◌, length, Option, Some, None, Result, Ok, Err, is_some, IsOk, sym, ap, subst, arith}
+use Rattle.std.proofs.Common.{◌≡◌, ◌∙◌, ◌<◌, ◌-◌, ◌^◌, ℕ, max, false, List, [], ◌∷◌, ◌++◌, length, Option, Some, Result, Ok, Err, IsOk, sym, ap, subst, arith}
 use Rattle.std.proofs.lemmas.Bool.{false≢true}
 use Rattle.std.specs.Option.{option_map_or}
 use Rattle.bc_words.specs.Outcome.{Becomes}
@@ -10,7 +10,7 @@ use Rattle.block_array.specs.PlainArray.{PlainArray, slot_at}
 use Rattle.block_array.specs.Calls.{with_node, with_spare}
 use Rattle.spec_state.specs.declared.plain.PlainState.{PlainState}
 use Rattle.spec_state.specs.Genesis.{zero_root}
-use Rattle.spec_fork_choice.specs.Store.{KeptBlock, Store, is_kept, slot_of}
+use Rattle.spec_fork_choice.specs.Store.{KeptBlock, Store, slot_of}
 use Rattle.fork_store.specs.Trees.{HasParent, IsTree}
 use Rattle.fork_store.specs.Arrays.{node_number, facts_of, IsArrayOf}
 use Rattle.fork_store.proofs.Following.{number_fits}

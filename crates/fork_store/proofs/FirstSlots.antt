@@ -1,5 +1,5 @@
 -- No kept block and no checkpoint is before the first kept block, which stays the first one.
-use Rattle.std.proofs.Common.{◌≡◌, ◌≤◌, ◌<◌, ◌+◌, ◌*◌, ◌/◌, ◌%◌, ℕ, zero, suc, List, [], ◌∷◌, ◌++◌, length, length-append, Option, Some, None, true, is_some, sym, subst, ap, arith, inl, inr, refl}
+use Rattle.std.proofs.Common.{◌≡◌, ◌≤◌, ◌<◌, ◌+◌, ◌*◌, ◌/◌, ℕ, zero, suc, List, [], ◌∷◌, ◌++◌, length, length-append, Option, Some, None, true, is_some, sym, ap, arith, inl, inr, refl}
 use Rattle.std.specs.List.{AllByRecursion}
 use Rattle.std.specs.Option.{option_map_or}
 use Rattle.std.proofs.Math.Nat.{div-mul-le_self, div-zero, lt-div-mul-add, mul-le-mul_right, suc-mul}
@@ -7,7 +7,7 @@ use Rattle.std.proofs.lemmas.Nat.{le-div}
 use Rattle.state_parts.proofs.Within.{all_push}
 use Rattle.bc_preset.specs.declared.presets.Preset.{Preset}
 use Rattle.beacon_types.specs.declared.checkpoint.Checkpoint.{Checkpoint}
-use Rattle.spec_state.specs.Misc.{compute_epoch_at_slot, compute_start_slot_at_epoch}
+use Rattle.spec_state.specs.Misc.{compute_epoch_at_slot}
 use Rattle.spec_fork_choice.specs.Store.{KeptBlock, Store, block_of, first_slot, is_kept, slot_of}
 use Rattle.spec_fork_choice.specs.Slots.{start_slot_of}
 use Rattle.fork_store.specs.Stores.{IsStore, IsLate, first_epoch}

@@ -1,7 +1,7 @@
 -- The array follows a store whose checkpoints and boost moved.
-use Rattle.std.proofs.Common.{◌≡◌, ◌⊎◌, ℕ, ◌<◌, ◌&&◌, if◌then◌else◌, Bool, true, false, List, length, Option, Some, None, is_some, IfSome, refl, sym, ap, ◌∙◌, subst, inl, inr, arith}
+use Rattle.std.proofs.Common.{◌≡◌, ◌⊎◌, ℕ, ◌<◌, ◌&&◌, if◌then◌else◌, Bool, true, false, nat_lt, leb, List, length, Option, Some, None, is_some, IfSome, refl, sym, ap, ◌∙◌, subst, inl, inr, arith}
 use Rattle.std.specs.Cmp.Lexicographic.{bytes_decides}
-use Rattle.std.proofs.lemmas.Bool.{false≢true, cases_Bool, and_parts}
+use Rattle.std.proofs.lemmas.Bool.{false≢true, cases_Bool, and_parts, ltb-false, le-leb}
 use Rattle.beacon_types.specs.Equality.{same_root, same_checkpoint}
 use Rattle.beacon_types.specs.declared.checkpoint.Checkpoint.{Checkpoint}
 use Rattle.beacon_types.proofs.Equality.{checkpoint_decides}
@@ -15,7 +15,7 @@ use Rattle.fork_store.specs.declared.follow.Told.{Told}
 use Rattle.fork_store.specs.Arrays.{Balances, balances_at, node_number, nodes_of, IsArrayOf, IsBoostedNode}
 use Rattle.fork_store.specs.inside.Boosts.{IsZeroOrKept}
 use Rattle.fork_store.specs.inside.Wholes.{balances_for, AreReady, IsReady}
-use Rattle.fork_store.specs.inside.Following.{with_told, IsFed, may_move, IsMoved, AreGiven}
+use Rattle.fork_store.specs.inside.Following.{with_told, IsFed, may_move, may_be_left, IsMoved, AreGiven}
 use Rattle.fork_store.proofs.ArraysPlaces.{number_inside}
 use Rattle.fork_store.proofs.ArraysNodes.{length_nodes}
 
@@ -295,12 +295,12 @@ module _ (store : Store) (told : Told) (root : List ℕ) (justified finalized : 
 
   -- it isn't
   given_of : (given best : Option Balances) → IsMoved old store root justified finalized → AreGiven old given best justified finalized → same_checkpoint store.justified_checkpoint told.justified ≡ false → same_checkpoint store.justified_checkpoint told.best_justified ≡ false
-      → AreReady store given store.justified_checkpoint × AreReady store best told.best_justified
+      → AreReady store given store.justified_checkpoint × (may_be_left old justified ≡ true → AreReady store best told.best_justified)
   unfolding AreGiven
   given_of given best m g other another =
       let block = to_block other m in
       let both = g block.1 (differs store told store.justified_checkpoint justified told.best_justified block.0 another) in
-      (both.0 ∙ ap Some (told_balances store told justified ∙ ap (balances_for store) (sym block.0)), both.1 ∙ ap Some (told_balances store told told.best_justified))
+      (both.0 ∙ ap Some (told_balances store told justified ∙ ap (balances_for store) (sym block.0)), λ left. both.1 left ∙ ap Some (told_balances store told told.best_justified))
 
   pub given_some : (given best : Option Balances) → IsMoved old store root justified finalized → AreGiven old given best justified finalized → same_checkpoint store.justified_checkpoint told.justified ≡ false → same_checkpoint store.justified_checkpoint told.best_justified ≡ false → is_some given ≡ true
   given_some given best m g other another = ap is_some (given_of given best m g other another).0
@@ -311,12 +311,46 @@ module _ (store : Store) (told : Told) (root : List ℕ) (justified finalized : 
       fed_given store told array new (balances_for store store.justified_checkpoint) a refl
       (subst (λ (r : Option Balances). IfSome r (λ b. new ≡ with_balances array b.list b.count b.total)) (given_of given best m g other another).0 is)
 
-  pub given_ready : (given best ready : Option Balances) → ready ≡ best → IsMoved old store root justified finalized → AreGiven old given best justified finalized → same_checkpoint store.justified_checkpoint told.justified ≡ false → same_checkpoint store.justified_checkpoint told.best_justified ≡ false → IsReady store ready
-  unfolding IsReady
-  given_ready given best ready is m g other another = elim (either_best m) [
-    | inl same ↦ λ _. is ∙ (given_of given best m g other another).1 ∙ ap (λ c. Some (balances_for store c)) (sym same)
-    | inr same ↦ none_needed store told ready (same ∙ sym (to_block other m).0)
+  -- the best justified one isn't the justified one then: it stayed
+  best_left : IsMoved old store root justified finalized → same_checkpoint store.justified_checkpoint told.justified ≡ false → same_checkpoint store.best_justified_checkpoint store.justified_checkpoint ≡ false → store.best_justified_checkpoint ≡ told.best_justified
+  best_left m other apart = elim (either_best m) [
+    | inl same ↦ same
+    | inr same ↦ absurd (false≢true (sym apart ∙ is_same store.best_justified_checkpoint store.justified_checkpoint (same ∙ sym (to_block other m).0)))
   ]
+
+  -- so where it was the justified one, the block's isn't of a greater epoch
+  left_low : IsMoved old store root justified finalized → same_checkpoint store.justified_checkpoint told.justified ≡ false → same_checkpoint store.best_justified_checkpoint store.justified_checkpoint ≡ false → same_checkpoint told.best_justified told.justified ≡ true
+      → leb justified.epoch told.justified.epoch ≡ true
+  left_low m other apart was = elim (cases_Bool (nat_lt told.justified.epoch justified.epoch)) [
+    | inl newer ↦ absurd (
+        let low : nat_lt told.best_justified.epoch justified.epoch ≡ true = subst (λ (c : Checkpoint). nat_lt c.epoch justified.epoch ≡ true) (sym (same_is told.best_justified told.justified was)) newer in
+        false≢true (sym apart ∙ is_same store.best_justified_checkpoint store.justified_checkpoint (m.best_rises newer low ∙ sym (to_block other m).0))
+        )
+    | inr older ↦ le-leb justified.epoch told.justified.epoch (ltb-false told.justified.epoch justified.epoch older)
+  ]
+
+  both_true : (a b : Bool) → a ≡ true → b ≡ true → (a && b) ≡ true
+  both_true true b one other = other
+  both_true false b one other = one
+
+  was_left : IsMoved old store root justified finalized → same_checkpoint store.justified_checkpoint told.justified ≡ false → same_checkpoint store.best_justified_checkpoint store.justified_checkpoint ≡ false → same_checkpoint told.best_justified told.justified ≡ true
+      → may_be_left old justified ≡ true
+  unfolding may_be_left
+  was_left m other apart was = both_true (same_checkpoint told.best_justified told.justified) (leb justified.epoch told.justified.epoch) was (left_low m other apart was)
+
+  pub left_none : (ready : Option Balances) → same_checkpoint store.best_justified_checkpoint store.justified_checkpoint ≡ true → IsReady store ready
+  left_none ready same = none_needed store told ready (same_is store.best_justified_checkpoint store.justified_checkpoint same)
+
+  pub left_given : (given best ready : Option Balances) → ready ≡ best → IsMoved old store root justified finalized → AreGiven old given best justified finalized → same_checkpoint store.justified_checkpoint told.justified ≡ false → same_checkpoint store.justified_checkpoint told.best_justified ≡ false
+      → same_checkpoint store.best_justified_checkpoint store.justified_checkpoint ≡ false → same_checkpoint told.best_justified told.justified ≡ true → IsReady store ready
+  unfolding IsReady
+  left_given given best ready is m g other another apart was =
+      λ _. is ∙ (given_of given best m g other another).1 (was_left m other apart was) ∙ ap (λ c. Some (balances_for store c)) (sym (best_left m other apart))
+
+  pub left_held : (ready : Option Balances) → IsReady old ready → IsMoved old store root justified finalized → same_checkpoint store.justified_checkpoint told.justified ≡ false
+      → same_checkpoint store.best_justified_checkpoint store.justified_checkpoint ≡ false → same_checkpoint told.best_justified told.justified ≡ false → IsReady store ready
+  unfolding IsReady
+  left_held ready held m other apart was = λ _. whole_ready store told ready held was ∙ ap (λ c. Some (balances_for store c)) (sym (best_left m other apart))
 
   -- the best justified checkpoint alone moved
   pub held : (given best : Option Balances) → IsMoved old store root justified finalized → AreGiven old given best justified finalized → same_checkpoint store.best_justified_checkpoint told.best_justified ≡ false → IsReady store given
@@ -326,7 +360,9 @@ module _ (store : Store) (told : Told) (root : List ℕ) (justified finalized : 
     | inr block ↦ λ _. (g block.1 (differs store told store.best_justified_checkpoint justified told.best_justified block.0 other)).0 ∙ ap Some (told_balances store told justified ∙ ap (balances_for store) (sym block.0))
   ]
 
-pub ruleset justifying = (best_some, best_given, best_needs, given_some, given_fed, given_ready)
+pub ruleset justifying = (best_some, best_given, best_needs, given_some, given_fed)
+
+pub ruleset leaving = (left_none, left_given, left_held)
 
 pub ruleset holding = (held, held_same)
 

@@ -1,5 +1,5 @@
 -- The kept blocks as the keeper has them, and the states behind them.
-use Rattle.std.proofs.Common.{◌≡◌, ◌∙◌, ℕ, ◌<◌, ◌-◌, ◌^◌, false, List, [], ◌∷◌, ◌++◌, length, Option, Some, None, Result, Ok, Err, IfSome, IsOk, option_map, slice_get, refl, sym, ap, subst, arith, length-append}
+use Rattle.std.proofs.Common.{◌≡◌, ◌∙◌, ℕ, ◌<◌, ◌-◌, ◌^◌, List, [], ◌∷◌, ◌++◌, length, Option, Some, None, Result, Ok, Err, IfSome, IsOk, option_map, slice_get, refl, sym, ap, subst, arith, length-append}
 use Rattle.std.specs.List.{AllByRecursion}
 use Rattle.std.specs.Option.{option_map_or}
 use Rattle.std.proofs.lemmas.List.{length-map}
@@ -20,7 +20,7 @@ use Rattle.spec_state.specs.declared.plain.PlainState.{PlainState}
 use Rattle.spec_state.specs.Soundness.{IsSound}
 use Rattle.spec_transition.specs.ProcessSlots.{Stepped}
 use Rattle.spec_transition.specs.StateTransition.{IsLatest, state_transition}
-use Rattle.spec_fork_choice.specs.Store.{KeptBlock, Store, block_of, is_kept, slot_of}
+use Rattle.spec_fork_choice.specs.Store.{KeptBlock, Store, block_of, slot_of}
 use Rattle.spec_fork_choice.specs.Clash.{place_of, clash_with, clash_of}
 use Rattle.spec_fork_choice.specs.Slots.{start_slot_of}
 use Rattle.spec_fork_choice.specs.GetForkchoiceStore.{get_forkchoice_store}

@@ -70,21 +70,54 @@ module _ (old : Store) (slot : ℕ) (root : List ℕ) (justified finalized : Che
     | inr older ↦ subst IsMovedSo older.1 so
   ]
 
-  finalized_so : (store : Store) → IsMovedSo store → IsMoved old (finalized_by store finalized justified) root justified finalized
+  boosted_best : (boosted old slot root).best_justified_checkpoint ≡ old.best_justified_checkpoint
+  unfolding boosted
+  boosted_best = elim (chosen ((get_current_slot old == slot) && is_before_attesting_interval old) (record old { proposer_boost_root = root }) old _ refl) [
+    | inl timely ↦ sym (ap (λ (s : Store). s.best_justified_checkpoint) timely.1)
+    | inr late ↦ sym (ap (λ (s : Store). s.best_justified_checkpoint) late.1)
+  ]
+
+  -- the best justified checkpoint is the block's where that is of a greater epoch than both
+  best_taken : (store : Store) → nat_lt store.best_justified_checkpoint.epoch justified.epoch ≡ true → (with_best_justified store justified).best_justified_checkpoint ≡ justified
+  unfolding with_best_justified
+  best_taken store low = rw low refl
+
+  better_taken : (store : Store) → nat_lt store.best_justified_checkpoint.epoch justified.epoch ≡ true → (with_better_justified store justified).best_justified_checkpoint ≡ justified
+  unfolding with_better_justified
+  better_taken store low =
+      let best : Store = with_best_justified store justified in
+      elim (chosen (should_update_justified_checkpoint best justified) (record best { justified_checkpoint = justified }) best _ refl) [
+        | inl now ↦ subst (λ (s : Store). s.best_justified_checkpoint ≡ justified) now.1 (best_taken store low)
+        | inr later ↦ subst (λ (s : Store). s.best_justified_checkpoint ≡ justified) later.1 (best_taken store low)
+      ]
+
+  justified_taken : (store : Store) → nat_lt store.justified_checkpoint.epoch justified.epoch ≡ true → nat_lt store.best_justified_checkpoint.epoch justified.epoch ≡ true → (justified_by store justified).best_justified_checkpoint ≡ justified
+  unfolding justified_by
+  justified_taken store newer low = rw newer (better_taken store low)
+
+  boosted_taken : nat_lt old.justified_checkpoint.epoch justified.epoch ≡ true → nat_lt old.best_justified_checkpoint.epoch justified.epoch ≡ true → (justified_by (boosted old slot root) justified).best_justified_checkpoint ≡ justified
+  boosted_taken newer low =
+      justified_taken (boosted old slot root)
+      (subst (λ (c : Checkpoint). nat_lt c.epoch justified.epoch ≡ true) (sym boosted_justified) newer)
+      (subst (λ (c : Checkpoint). nat_lt c.epoch justified.epoch ≡ true) (sym boosted_best) low)
+
+  finalized_so : (store : Store) → (nat_lt old.justified_checkpoint.epoch justified.epoch ≡ true → nat_lt old.best_justified_checkpoint.epoch justified.epoch ≡ true → store.best_justified_checkpoint ≡ justified)
+      → IsMovedSo store → IsMoved old (finalized_by store finalized justified) root justified finalized
   unfolding finalized_by may_move
-  finalized_so store so = elim (chosen (nat_lt store.finalized_checkpoint.epoch finalized.epoch) (record store { finalized_checkpoint = finalized; justified_checkpoint = justified }) store _ refl) [
+  finalized_so store rises so = elim (chosen (nat_lt store.finalized_checkpoint.epoch finalized.epoch) (record store { finalized_checkpoint = finalized; justified_checkpoint = justified }) store _ refl) [
     | inl newer ↦ subst (λ (s : Store). IsMoved old s root justified finalized) newer.1 (record {
       same = so.same;
       justified_is = inr (refl, or_right (nat_lt old.justified_checkpoint.epoch justified.epoch) (nat_lt old.finalized_checkpoint.epoch finalized.epoch) (subst (λ (c : Checkpoint). nat_lt c.epoch finalized.epoch ≡ true) so.final newer.0));
       best_is = so.best_is;
+      best_rises = rises;
       boost_is = so.boost_is;
     })
-    | inr older ↦ subst (λ (s : Store). IsMoved old s root justified finalized) older.1 (record { same = so.same; justified_is = so.justified_is; best_is = so.best_is; boost_is = so.boost_is })
+    | inr older ↦ subst (λ (s : Store). IsMoved old s root justified finalized) older.1 (record { same = so.same; justified_is = so.justified_is; best_is = so.best_is; best_rises = rises; boost_is = so.boost_is })
   ]
 
   settled_so : IsMoved old (settled old slot root justified finalized) root justified finalized
   unfolding settled
-  settled_so = finalized_so (justified_by (boosted old slot root) justified) (justified_so (boosted old slot root) boosted_justified boosted_so)
+  settled_so = finalized_so (justified_by (boosted old slot root) justified) boosted_taken (justified_so (boosted old slot root) boosted_justified boosted_so)
 
   -- ---- of the store that settling made
 

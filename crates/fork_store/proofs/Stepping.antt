@@ -1,5 +1,5 @@
 -- The checks of a block and the step of its parent's state, one after another.
-use Rattle.std.proofs.Common.{◌≡◌, ◌∙◌, ◌<◌, ◌^◌, ℕ, true, false, leb, nat_lt, List, Option, Some, None, Result, Ok, Err, IfOk, is_some, refl, sym, ap, subst}
+use Rattle.std.proofs.Common.{◌≡◌, ◌∙◌, ◌<◌, ◌^◌, ℕ, true, leb, nat_lt, List, Option, Some, None, Result, Ok, Err, IfOk, is_some, refl, sym, ap, subst}
 use Rattle.bc_words.specs.Outcome.{Outcome, done, refused, bind, Stops, StopsExactly, Gives}
 use Rattle.bc_words.specs.declared.stop.Stop.{Stop}
 use Rattle.bc_words.specs.declared.store_stop.StoreStop.{StoreStop}

@@ -1,5 +1,5 @@
 -- What the states of kept blocks have.
-use Rattle.std.proofs.Common.{◌≡◌, ◌==◌, ◌<◌, ◌^◌, ℕ, Bool, true, false, cond, List, [], Option, Some, None, if◌then◌else◌, refl, ap, subst, arith}
+use Rattle.std.proofs.Common.{◌≡◌, ◌<◌, ◌^◌, ℕ, Bool, true, false, cond, List, Option, Some, None, if◌then◌else◌, refl, ap, subst}
 use Rattle.std.specs.Cmp.Lexicographic.{bytes_decides}
 use Rattle.std.proofs.lemmas.Bool.{and_parts, eqb-true}
 use Rattle.bc_words.specs.Outcome.{done}
@@ -13,7 +13,7 @@ use Rattle.beacon_body.specs.declared.block.BeaconBlock.{BeaconBlock}
 use Rattle.beacon_body.specs.declared.signed_block.SignedBeaconBlock.{SignedBeaconBlock}
 use Rattle.spec_state.specs.declared.plain.PlainState.{PlainState}
 use Rattle.spec_state.specs.States.{state_codec}
-use Rattle.spec_state.specs.Genesis.{block_header_of, header_root_of, genesis_fault, is_genesis_header, zero_root}
+use Rattle.spec_state.specs.Genesis.{block_header_of, header_root_of, is_genesis_header, zero_root}
 use Rattle.spec_blocks.specs.Checks.{check}
 use Rattle.spec_blocks.specs.ProcessBlockHeader.{header_of}
 use Rattle.spec_blocks.specs.ProcessBlock.{process_block}
@@ -23,10 +23,7 @@ use Rattle.spec_transition.specs.StateTransition.{IsLatest, state_transition}
 use Rattle.spec_fork_choice.specs.Store.{KeptBlock}
 use Rattle.spec_fork_choice.specs.Clash.{clash_with, clash_of}
 use Rattle.spec_fork_choice.specs.GetForkchoiceStore.{genesis_block}
-use Rattle.spec_fork_choice.specs.OnEvent.{genesis_clash}
-use Rattle.spec_state.proofs.Genesis.{genesis_sound}
 use Rattle.fork_store.specs.Stores.{IsRootOf, IsBehind, IsKept}
-use Rattle.fork_store.proofs.Chains.{passed}
 
 -- a state that a block was taken to has the block's state root
 pub state_root_is : (s : PlainState) (block : SignedBeaconBlock) (config : ConfigValues) (t : Stepped) → state_transition s block config ≡ done t → same_root block.message.state_root ((state_codec t.state.preset).hash_tree_root t.state) ≡ true

@@ -49,22 +49,49 @@ pub(crate) fn feed_best(
     }
 }
 
-/// The balances that a block's justified checkpoint may need: its own, and those of the best justified one of the time before.
-#[derive(Drop)]
+/// The balances that a block's justified checkpoint may need: its own, and those of the best justified one of the time before, where
+/// it may be left behind with none held ready.
 pub(crate) struct Given {
     pub(crate) justified: Option<ReadyBalances>,
     pub(crate) best_justified: Option<ReadyBalances>,
 }
 
-/// Gives the array the balances of a justified checkpoint that isn't the best justified one of the time before, and holds ready
-/// those of that one.
-fn give_given(array: &mut BlockArray, ready: &mut Option<ReadyBalances>, given: &mut Given)
-    requires { is_some given.old.justified ≡ true }
-    ensures array { IfSome given.old.justified (λ balances. array.new ≡ with_balances array.old balances.list balances.count balances.total) }
-    ensures ready { ready.new ≡ given.old.best_justified }
+// Written by hand, so that a call that lets one go is one call, and not one for each of its parts.
+impl Drop for Given {
+    fn drop(self) {
+        let Given {
+            justified,
+            best_justified,
+        } = self;
+        drop(justified);
+        drop(best_justified);
+    }
+}
+
+/// Holds ready the balances of the best justified checkpoint, where one that it wasn't became the justified one. None are needed
+/// where it is the justified one now, and they are held already where it wasn't that before.
+#[tactic(auto, using(crate::proofs::Following::leaving))]
+fn hold_left(
+    store: &StoreFields,
+    ready: &mut Option<ReadyBalances>,
+    given: &mut Given,
+    before: &Told,
+    root: Root,
+    facts: Facts,
+)
+    requires ready { IsReady (with_told store.now before.now) ready.old }
+    requires moved { IsMoved (with_told store.now before.now) store.now root facts.justified facts.finalized }
+    requires given { AreGiven (with_told store.now before.now) given.old.justified given.old.best_justified facts.justified facts.finalized }
+    requires other { same_checkpoint store.now.justified_checkpoint before.now.justified ≡ false }
+    requires another { same_checkpoint store.now.justified_checkpoint before.now.best_justified ≡ false }
+    ensures ready { IsReady store.now ready.new }
+    ensures same { given.new.justified ≡ given.old.justified }
 {
-    *ready = given.best_justified.take();
-    give_ready(array, &mut given.justified);
+    if same_checkpoint(&store.best_justified(), &store.justified()) {
+        *ready = None;
+    } else if same_checkpoint(&before.best_justified, &before.justified) {
+        *ready = given.best_justified.take();
+    }
 }
 
 /// Gives the array the balances of another justified checkpoint, which is that of a block's state.
@@ -89,7 +116,8 @@ fn feed_justified(
     if same_checkpoint(&store.justified(), &before.best_justified) {
         give_ready(array, ready);
     } else {
-        give_given(array, ready, given);
+        hold_left(store, ready, given, before, root, facts);
+        give_ready(array, &mut given.justified);
     }
 }
 

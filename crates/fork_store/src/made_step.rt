@@ -20,9 +20,16 @@ pub enum Way {
 }
 
 /// The states that a step entered, in order, which only clauses see.
-#[derive(Drop)]
 pub struct Entered {
     way: Way,
+}
+
+// Written by hand, so that a call that lets one go is one call, and not one for each of its parts.
+impl Drop for Entered {
+    fn drop(self) {
+        let Entered { way } = self;
+        drop(way);
+    }
 }
 
 impl Model for Entered {

@@ -11,9 +11,9 @@ ghost use Rattle.beacon_types.specs.Equality.{same_root};
 ghost use Rattle.spec_state.specs.Genesis.{zero_root};
 ghost use Rattle.spec_state.specs.Soundness.{IsSound};
 ghost use Rattle.spec_fork_choice.specs.Store.{is_kept};
-ghost use Rattle.fork_store.specs.inside.Wholes.{AreParts, IsReady};
+ghost use Rattle.fork_store.specs.inside.Wholes.{AreParts, AreReady, IsReady};
 ghost use Rattle.fork_store.specs.inside.Chains.{IsLinked, IsChained};
-ghost use Rattle.fork_store.specs.inside.Following.{may_move, AreGiven};
+ghost use Rattle.fork_store.specs.inside.Following.{may_move, may_be_left, AreGiven};
 ghost use Rattle.fork_store.specs.Keepers.{IsKeeperOf};
 ghost use Rattle.fork_store.specs.inside.Keepers.{IsStepOn, IsStateBehind};
 ghost use Rattle.fork_store.specs.Stays.{ArrayStays, KeeperStays};
@@ -37,7 +37,7 @@ use crate::kept_blocks::node_number;
 use crate::kept_state::kept_state;
 use crate::made_step::MadeStep;
 use crate::ready_balances::{ReadyBalances, balances_of};
-use crate::settle::{boost, facts_of, justify, may_move};
+use crate::settle::{boost, facts_of, justify, may_be_left, may_move};
 use crate::slots::{current_slot, start_slot};
 use crate::step_again::step_again;
 use crate::store::Store;
@@ -209,6 +209,24 @@ fn keep_justified(
     }
 }
 
+/// The balances of the best justified checkpoint, where this one may leave it behind with none held ready. The keeper is as before.
+fn prepare_best(
+    alloc: Global,
+    store: &StoreFields,
+    keeper: &mut Keeper<ChainStepper>,
+    justified: Checkpoint,
+) -> Result<Option<ReadyBalances>, NoMemory>
+    requires keeper { IsKeeperOf store.now keeper.old }
+    ensures best { IfOk result (λ best. may_be_left store.now justified ≡ true → AreReady store.now best store.now.best_justified_checkpoint) }
+    ensures same { keeper.new ≡ keeper.old }
+{
+    if !may_be_left(store, justified) {
+        return Ok(None);
+    }
+    let best = balances_of(alloc, store, keeper, store.best_justified())?;
+    Ok(Some(best))
+}
+
 /// The balances that a block's justified checkpoint may need, where it may move the store's and isn't the best justified one. The
 /// keeper is as before.
 #[tactic(auto, using(crate::proofs::Preparing::preparing))]
@@ -223,18 +241,17 @@ fn prepare(
     ensures given { IfOk result (λ given. AreGiven store.now given.justified given.best_justified facts.justified facts.finalized) }
     ensures same { keeper.new ≡ keeper.old }
 {
-    let best_justified = store.best_justified();
-    if !may_move(store, facts) || same_checkpoint(&facts.justified, &best_justified) {
+    if !may_move(store, facts) || same_checkpoint(&facts.justified, &store.best_justified()) {
         return Ok(Given {
             justified: None,
             best_justified: None,
         });
     }
     let justified = balances_of(alloc, store, keeper, facts.justified)?;
-    let best_justified = balances_of(alloc, store, keeper, best_justified)?;
+    let best_justified = prepare_best(alloc, store, keeper, facts.justified)?;
     Ok(Given {
         justified: Some(justified),
-        best_justified: Some(best_justified),
+        best_justified,
     })
 }
 

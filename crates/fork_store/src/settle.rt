@@ -6,13 +6,13 @@ ghost use Rattle.std.specs.Prelude.{◌≡◌, ◌<◌, ◌^◌};
 ghost use Rattle.fork_store.specs.inside.Accepted.{boosted, justified_by};
 ghost use Rattle.fork_store.specs.Arrays.{AreNodesOf};
 ghost use Rattle.fork_store.specs.Stores.{IsLate};
-ghost use Rattle.fork_store.specs.inside.Following.{may_move};
+ghost use Rattle.fork_store.specs.inside.Following.{may_move, may_be_left};
 
 use crate::should_update_justified_checkpoint::should_update_justified_checkpoint;
 use crate::slots::current_slot;
 use crate::store_fields::StoreFields;
 use beacon_state::State;
-use beacon_types::Checkpoint;
+use beacon_types::{Checkpoint, same_checkpoint};
 use block_array::{BlockArray, Facts};
 use hash_tree::Root;
 
@@ -33,6 +33,15 @@ pub fn may_move(store: &StoreFields, facts: Facts) -> bool
 {
     store.justified().epoch < facts.justified.epoch
         || store.finalized().epoch < facts.finalized.epoch
+}
+
+/// Whether the best justified checkpoint may be left behind by this one with no balances held ready.
+#[tactic(auto, unfolding(crate::specs::inside::Following::may_be_left))]
+pub fn may_be_left(store: &StoreFields, justified: Checkpoint) -> bool
+    ensures { result ≡ may_be_left store.now justified }
+{
+    same_checkpoint(&store.best_justified(), &store.justified())
+        && justified.epoch <= store.justified().epoch
 }
 
 /// In how many intervals a slot is cut (fork-choice.md, "Constants").

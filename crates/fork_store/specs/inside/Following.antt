@@ -1,5 +1,5 @@
 -- How the array follows a store whose checkpoints and boost moved.
-use Rattle.std.specs.Prelude.{◌≡◌, ◌⊎◌, ℕ, ◌<◌, ◌^◌, ◌||◌, Bool, true, false, nat_lt, List, length, Option, Some}
+use Rattle.std.specs.Prelude.{◌≡◌, ◌⊎◌, ℕ, ◌<◌, ◌^◌, ◌||◌, ◌&&◌, Bool, true, false, nat_lt, leb, List, length, Option, Some}
 use Rattle.std.specs.List.{AllByRecursion}
 use Rattle.beacon_types.specs.Equality.{same_checkpoint}
 use Rattle.beacon_types.specs.declared.checkpoint.Checkpoint.{Checkpoint}
@@ -59,11 +59,18 @@ pub record IsMoved (old new : Store) (root : List ℕ) (justified finalized : Ch
   pub same : with_told new (told_of old) ≡ old
   pub justified_is : (new.justified_checkpoint ≡ old.justified_checkpoint) ⊎ ((new.justified_checkpoint ≡ justified) × (may_move old justified finalized ≡ true))
   pub best_is : (new.best_justified_checkpoint ≡ old.best_justified_checkpoint) ⊎ ((new.best_justified_checkpoint ≡ justified) × (may_move old justified finalized ≡ true))
+  pub best_rises : nat_lt old.justified_checkpoint.epoch justified.epoch ≡ true → nat_lt old.best_justified_checkpoint.epoch justified.epoch ≡ true → new.best_justified_checkpoint ≡ justified
   pub boost_is : (new.proposer_boost_root ≡ old.proposer_boost_root) ⊎ (new.proposer_boost_root ≡ root)
 
--- the balances of a state's justified checkpoint and of the best justified one are at hand, where the first may move the store's
--- and isn't the second
+-- whether the best justified checkpoint may be left behind by a state's justified one with no balances held ready: it is the
+-- justified one, and the state's isn't of a greater epoch
+unfoldable pub may_be_left : Store → Checkpoint → Bool
+may_be_left store justified =
+    same_checkpoint store.best_justified_checkpoint store.justified_checkpoint && leb justified.epoch store.justified_checkpoint.epoch
+
+-- the balances of a state's justified checkpoint are at hand, where it may move the store's and isn't the best justified one; and
+-- those of that one, where it may be left behind
 unfoldable pub AreGiven : Store → Option Balances → Option Balances → Checkpoint → Checkpoint → Type 0
 AreGiven store given best justified finalized =
     may_move store justified finalized ≡ true → same_checkpoint justified store.best_justified_checkpoint ≡ false
-    → AreReady store given justified × AreReady store best store.best_justified_checkpoint
+    → AreReady store given justified × (may_be_left store justified ≡ true → AreReady store best store.best_justified_checkpoint)

@@ -1,10 +1,13 @@
-use Rattle.std.proofs.Common.{rules}
-use Rattle.fork_store.proofs.Following.{best_given, best_needs, given_some, given_fed, given_ready}
+use Rattle.std.proofs.Common.{◌≡◌, Option, IfSome, rules, subst}
+use Rattle.block_array.specs.Calls.{with_balances}
+use Rattle.fork_store.specs.Arrays.{Balances}
+use Rattle.fork_store.proofs.Following.{best_given, best_needs, given_some, given_fed}
 use Rattle.fork_store.proofs.feed.feed_justified.Goals as goal
 
-pub give_given-requires : goal.give_given-requires
-give_given-requires c =
-    given_some c.args.store.now c.args.before.now c.args.root c.args.facts.justified c.args.facts.finalized c.args.given.now.justified c.args.given.now.best_justified c.requires.moved c.requires.given c.requires.other (search rules)
+pub give_ready-requires-else-same_checkpoint : goal.give_ready-requires-else-same_checkpoint
+give_ready-requires-else-same_checkpoint c =
+    rw c.hold_left.ensures.same
+    (given_some c.args.store.now c.args.before.now c.args.root c.args.facts.justified c.args.facts.finalized c.args.given.now.justified c.args.given.now.best_justified c.requires.moved c.requires.given c.requires.other (search rules))
 
 pub returns-then-same_checkpoint-clause-fed : goal.returns-then-same_checkpoint-clause-fed
 returns-then-same_checkpoint-clause-fed c =
@@ -15,9 +18,5 @@ returns-then-same_checkpoint-clause-ready c = best_needs c.args.store.now c.args
 
 pub returns-else-same_checkpoint-clause-fed : goal.returns-else-same_checkpoint-clause-fed
 returns-else-same_checkpoint-clause-fed c =
-    given_fed c.args.store.now c.args.before.now c.args.root c.args.facts.justified c.args.facts.finalized c.args.given.now.justified c.args.given.now.best_justified c.args.array.now c.give_given.new.array c.requires.array c.requires.moved c.requires.given c.requires.other (search rules)
-    c.give_given.ensures.array
-
-pub returns-else-same_checkpoint-clause-ready : goal.returns-else-same_checkpoint-clause-ready
-returns-else-same_checkpoint-clause-ready c =
-    given_ready c.args.store.now c.args.before.now c.args.root c.args.facts.justified c.args.facts.finalized c.args.given.now.justified c.args.given.now.best_justified c.give_given.new.ready c.give_given.ensures.ready c.requires.moved c.requires.given c.requires.other (search rules)
+    given_fed c.args.store.now c.args.before.now c.args.root c.args.facts.justified c.args.facts.finalized c.args.given.now.justified c.args.given.now.best_justified c.args.array.now c.give_ready-else-same_checkpoint.new.array c.requires.array c.requires.moved c.requires.given c.requires.other (search rules)
+    (subst (λ (r : Option Balances). IfSome r (λ b. c.give_ready-else-same_checkpoint.new.array ≡ with_balances c.args.array.now b.list b.count b.total)) c.hold_left.ensures.same c.give_ready-else-same_checkpoint.ensures)

@@ -1,6 +1,5 @@
 -- The one block of the keeper is that of the store.
 use Rattle.std.proofs.Common.{◌≡◌, ◌∙◌, ◌<◌, ◌≤◌, ◌^◌, ℕ, List, [], ◌∷◌, subst, sym}
-use Rattle.spec_state.specs.Accessors.{get_current_epoch}
 use Rattle.spec_state.specs.Misc.{compute_start_slot_at_epoch}
 use Rattle.spec_fork_choice.specs.Store.{KeptBlock, first_slot}
 use Rattle.fork_store.specs.inside.Accepted.{kept_of}

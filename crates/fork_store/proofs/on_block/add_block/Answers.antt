@@ -1,8 +1,8 @@
-use Rattle.std.proofs.Common.{◌≡◌, ◌∙◌, ◌<◌, ◌^◌, List, [], ◌∷◌, ◌++◌, length, Some, None, arith, refl, sym, ap, subst}
+use Rattle.std.proofs.Common.{◌≡◌, ◌∙◌, [], ◌∷◌, ◌++◌, Some, refl, sym, ap, subst}
 use Rattle.block_array.specs.PlainArray.{PlainArray}
 use Rattle.block_array.specs.declared.facts.Facts.{Facts}
 use Rattle.block_array.specs.Calls.{with_node}
-use Rattle.spec_fork_choice.specs.Store.{KeptBlock, Store}
+use Rattle.spec_fork_choice.specs.Store.{Store}
 use Rattle.beacon_body.specs.declared.signed_block.SignedBeaconBlock.{SignedBeaconBlock}
 use Rattle.fork_store.specs.inside.Accepted.{kept_of}
 use Rattle.fork_store.specs.Arrays.{node_number, IsArrayOf}

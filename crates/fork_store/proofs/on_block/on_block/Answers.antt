@@ -1,7 +1,7 @@
 use Rattle.std.proofs.Common.{IfErr, refl, subst}
 use Rattle.fork_store.specs.Stays.{KeeperStays}
 use Rattle.fork_store.proofs.Keepers.{keeper_same}
-use Rattle.fork_store.proofs.Stays.{keeper_behind, keeper_unchanged, stop_leaves}
+use Rattle.fork_store.proofs.Stays.{keeper_unchanged, stop_leaves}
 use Rattle.fork_store.proofs.Stepping.{shown_by}
 use Rattle.fork_store.proofs.Walks.{whole_nodes}
 use Rattle.fork_store.proofs.on_block.on_block.Goals as goal

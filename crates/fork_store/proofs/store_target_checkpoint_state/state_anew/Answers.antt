@@ -2,7 +2,7 @@ use Rattle.std.proofs.Common.{◌≡◌, ◌∙◌, ◌<◌, ◌^◌, List, Some
 use Rattle.spec_fork_choice.specs.Store.{KeptBlock}
 use Rattle.fork_store.specs.Arrays.{node_number}
 use Rattle.fork_store.proofs.Finds.{inside}
-use Rattle.fork_store.proofs.Keepers.{behind_sound, behind_preset, behind_number, gives_target, target_unknown}
+use Rattle.fork_store.proofs.Keepers.{behind_sound, behind_preset, behind_number, gives_target}
 use Rattle.fork_store.proofs.store_target_checkpoint_state.state_anew.Goals as goal
 
 pub state_at-requires-clause-sound : goal.state_at-requires-clause-sound
