@@ -17,23 +17,11 @@ use std::marker::Model;
 use std::rc::Rc;
 
 /// The state of a checkpoint with the committees of the checkpoint's epoch. Clauses see checkpoint and state.
+#[derive(Drop)]
 pub struct CheckpointState {
     checkpoint: Checkpoint,
     state: State,
     committees: Rc<EpochCommittees>,
-}
-
-// Written by hand, so that a call that lets one go is one call, and not one for each of its parts.
-impl Drop for CheckpointState {
-    fn drop(self) {
-        let CheckpointState {
-            checkpoint: _,
-            state,
-            committees,
-        } = self;
-        drop(state);
-        drop(committees);
-    }
 }
 
 impl Model for CheckpointState {

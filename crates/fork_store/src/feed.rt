@@ -51,21 +51,10 @@ pub(crate) fn feed_best(
 
 /// The balances that a block's justified checkpoint may need: its own, and those of the best justified one of the time before, where
 /// it may be left behind with none held ready.
+#[derive(Drop)]
 pub(crate) struct Given {
     pub(crate) justified: Option<ReadyBalances>,
     pub(crate) best_justified: Option<ReadyBalances>,
-}
-
-// Written by hand, so that a call that lets one go is one call, and not one for each of its parts.
-impl Drop for Given {
-    fn drop(self) {
-        let Given {
-            justified,
-            best_justified,
-        } = self;
-        drop(justified);
-        drop(best_justified);
-    }
 }
 
 /// Holds ready the balances of the best justified checkpoint, where one that it wasn't became the justified one. None are needed

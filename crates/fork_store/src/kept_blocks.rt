@@ -30,18 +30,10 @@ use std::snapshot::Snapshot;
 ///
 /// The blocks and the states behind them are in the keeper alone. What is here are their roots, in the same order, as a map from a
 /// root to its number, and the keeper as it was when a block was last kept, which only clauses read.
+#[derive(Drop)]
 pub struct KeptBlocks {
     roots: IndexSet<Root>,
     seen: Snapshot<Keeper<ChainStepper>>,
-}
-
-// Written by hand, so that a call that lets one go is one call, and not one for each of its parts.
-impl Drop for KeptBlocks {
-    fn drop(self) {
-        let KeptBlocks { roots, seen } = self;
-        drop(roots);
-        drop(seen);
-    }
 }
 
 impl Model for KeptBlocks {

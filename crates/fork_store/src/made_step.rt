@@ -24,7 +24,7 @@ pub struct Entered {
     way: Way,
 }
 
-// Written by hand, so that a call that lets one go is one call, and not one for each of its parts.
+// Written by hand, so that a call that lets them go is one call, and not one for each way.
 impl Drop for Entered {
     fn drop(self) {
         let Entered { way } = self;

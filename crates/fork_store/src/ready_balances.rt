@@ -27,22 +27,11 @@ use std::marker::Model;
 
 /// A balance for each validator of a state, in Gwei, 0 where it isn't active at the state's epoch; how many are active; and their
 /// total balance, of at least one increment.
+#[derive(Drop)]
 pub struct ReadyBalances {
     list: Vec<u64>,
     count: u64,
     total: u128,
-}
-
-// Written by hand, so that a call that lets one go is one call, and not one for each of its parts.
-impl Drop for ReadyBalances {
-    fn drop(self) {
-        let ReadyBalances {
-            list,
-            count: _,
-            total: _,
-        } = self;
-        drop(list);
-    }
 }
 
 impl Model for ReadyBalances {
