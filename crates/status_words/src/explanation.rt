@@ -1,5 +1,6 @@
 //! What a status says to a person: its name, the file, the place in it, and the cause.
 
+use crate::origin::{Origin, block_of, config_of, first_block, genesis_of, record_of};
 use bc_preset::constants::{MAX_PROPOSER_CANDIDATES, MAX_SLOTS};
 use bc_preset::{ConfigFault, Key, Preset};
 use bc_words::{ClashKind, Limit, Refusal};
@@ -8,6 +9,7 @@ use command_words::{COMMANDS, Command};
 use duties::DutiesFault;
 use genesis_maker::{DEPOSIT_LEN, DEPOSITS_HEAD_LEN};
 use one_chain::Status;
+use record_file::RecordFault;
 use spec_fork_choice::AnchorFault;
 use spec_genesis::DepositsFault;
 use spec_state::GenesisFault;
@@ -40,92 +42,10 @@ pub struct Explanation<'a, 'b> {
     pub genesis_len: Option<usize>,
 }
 
-/// Where a genesis or events are from. It prints a file's name in quotes.
-#[derive(Clone, Copy)]
-enum Origin<'a> {
-    /// The file of this name.
-    File(&'a str),
-    /// What the program makes itself.
-    Made(&'a str),
-}
-
-impl fmt::Display for Origin<'_> {
-    fn fmt<W: fmt::Write>(&self, f: &mut fmt::Formatter<W>) -> fmt::Result {
-        match self {
-            Origin::File(name) => write!(f, "{name:?}"),
-            Origin::Made(what) => write!(f, "{what}"),
-        }
-    }
-}
-
-/// What a command reads or makes: the configuration, the genesis or what stands in its place, and the events of its records.
-#[derive(Clone, Copy)]
-struct Origins<'a> {
-    config: Origin<'a>,
-    genesis: Origin<'a>,
-    events: Origin<'a>,
-    second: Origin<'a>,
-}
-
-impl<'a> Origins<'a> {
-    /// The record with a number: 0 is the only or the first one.
-    fn record(&self, which: u8) -> Origin<'a> {
-        if which == 0 { self.events } else { self.second }
-    }
-}
-
-/// What the command reads or makes, or placeholders where it has none or the words are no command.
-fn origins_of<'a>(command: &Option<Command<'a>>) -> Origins<'a> {
-    let none = Origin::File("RECORD");
-    let (config, genesis, events, second) = match command {
-        Some(Command::Replay(files)) => (
-            files.config,
-            Origin::File(files.genesis),
-            Origin::File(files.events),
-            none,
-        ),
-        Some(Command::Drill(words)) => (
-            words.config,
-            Origin::Made("the made genesis"),
-            Origin::Made("the made chain"),
-            Origin::Made("the second chain of the split"),
-        ),
-        Some(Command::Nodes(words)) => (
-            words.config,
-            Origin::Made("the made genesis"),
-            Origin::Made("the events of the first chain or node"),
-            Origin::Made("the events of a later chain or node"),
-        ),
-        Some(Command::Genesis(files)) => (files.config, Origin::File(files.deposits), none, none),
-        Some(Command::Duties(words)) => (words.config, Origin::File(words.state), none, none),
-        Some(Command::Forensic(files) | Command::Slasher(files)) => (
-            files.config,
-            Origin::File(files.genesis),
-            Origin::File(files.first),
-            Origin::File(files.second),
-        ),
-        Some(Command::Anchor(files)) => (
-            files.config,
-            Origin::File(files.state),
-            Origin::File(files.events),
-            none,
-        ),
-        None => ("CONFIG", Origin::File("GENESIS"), none, none),
-    };
-    Origins {
-        config: Origin::File(config),
-        genesis,
-        events,
-        second,
-    }
-}
-
 /// What is wrong with the words, and the commands with their arguments.
 fn write_words<W: fmt::Write>(f: &mut fmt::Formatter<W>, wrong: Option<&str>) -> fmt::Result {
-    match wrong {
-        Some(wrong) => write!(f, "Words: {wrong}; the commands are")?,
-        None => write!(f, "Words: no command is named; the commands are")?,
-    }
+    f.write_str(wrong.unwrap_or("no command is named"))?;
+    f.write_str("; the commands are")?;
     for form in COMMANDS.iter() {
         write!(f, " `{form}`")?;
     }
@@ -135,15 +55,14 @@ fn write_words<W: fmt::Write>(f: &mut fmt::Formatter<W>, wrong: Option<&str>) ->
 /// A fault of the outside, with what is known of its cause.
 fn write_cause<W: fmt::Write>(
     f: &mut fmt::Formatter<W>,
-    status: &str,
     what: &str,
-    explanation: &Explanation<'_, '_>,
+    event: Option<u64>,
+    cause: Option<Cause<'_>>,
 ) -> fmt::Result {
-    write!(f, "{status}: ")?;
-    if let Some(event) = explanation.event {
+    if let Some(event) = event {
         write!(f, "event {event}: ")?;
     }
-    match explanation.cause {
+    match cause {
         Some(
             Cause {
                 name: Some(name),
@@ -151,45 +70,49 @@ fn write_cause<W: fmt::Write>(
             },
         ) => write!(f, "{name:?}: {error}"),
         Some(Cause { name: None, error }) => write!(f, "{what}: {error}"),
-        None => write!(f, "{what}"),
+        None => f.write_str(what),
     }
+}
+
+/// An event of a record.
+fn write_event<W: fmt::Write>(
+    f: &mut fmt::Formatter<W>,
+    record: Origin<'_>,
+    event: u64,
+) -> fmt::Result {
+    write!(f, "{record}: event {event}: ")
 }
 
 /// Where memory ran out, as far as it is known: the event of the record, or the state or deposits that were read.
 fn write_no_memory<W: fmt::Write>(
     f: &mut fmt::Formatter<W>,
-    explanation: &Explanation<'_, '_>,
+    command: &Option<Command<'_>>,
+    event: Option<u64>,
+    len: Option<usize>,
 ) -> fmt::Result {
-    let Origins {
-        genesis,
-        events,
-        ..
-    } = origins_of(&explanation.command);
-    write!(f, "NoMemory: ")?;
-    match (explanation.event, explanation.genesis_len) {
-        (Some(event), _) => write!(f, "{events}: event {event}: ")?,
-        (None, Some(_)) => write!(f, "{genesis}: ")?,
+    match (event, len) {
+        (Some(event), _) => write_event(f, record_of(command, 0), event)?,
+        (None, Some(_)) => write!(f, "{}: ", genesis_of(command))?,
         (None, None) => {}
     }
-    write!(f, "memory ran out")
+    f.write_str("memory ran out")
 }
 
 /// A fault of the configuration. A chain is made only where its validators aren't ejected, whatever else the key allows.
 fn write_config<W: fmt::Write>(
     f: &mut fmt::Formatter<W>,
     command: &Option<Command<'_>>,
-    config: Origin<'_>,
     fault: ConfigFault,
 ) -> fmt::Result {
+    write!(f, "{:?}: ", config_of(command))?;
     match (command, fault) {
         (
             Some(Command::Drill(_) | Command::Nodes(_)),
             ConfigFault::OutOfRange(Key::EjectionBalance),
-        ) => write!(
-            f,
-            "Config: {config}: EJECTION_BALANCE is out of range: expected less than 32000000000, the balance of the made validators"
+        ) => f.write_str(
+            "EJECTION_BALANCE is out of range: expected less than 32000000000, the balance of the made validators",
         ),
-        _ => write!(f, "Config: {config}: {fault}"),
+        _ => write!(f, "{fault}"),
     }
 }
 
@@ -215,10 +138,25 @@ fn write_genesis<W: fmt::Write>(
     part: GenesisFault,
     len: Option<usize>,
 ) -> fmt::Result {
-    write!(f, "Genesis: {name}: {part}")?;
+    write!(f, "{name}: {part}")?;
     match part {
         GenesisFault::NotAWriting => write_sizes(f, len),
         _ => Ok(()),
+    }
+}
+
+/// A fault of a record, at its head or in an event.
+fn write_record<W: fmt::Write>(
+    f: &mut fmt::Formatter<W>,
+    record: Origin<'_>,
+    event: u32,
+    fault: RecordFault,
+) -> fmt::Result {
+    if event == 0 {
+        write!(f, "{record}: at its head: {fault}")
+    } else {
+        write_event(f, record, u64::from(event))?;
+        write!(f, "{fault}")
     }
 }
 
@@ -246,7 +184,7 @@ fn write_deposits<W: fmt::Write>(
     fault: DepositsFault,
     len: Option<usize>,
 ) -> fmt::Result {
-    write!(f, "Deposits: {deposits}: {fault}")?;
+    write!(f, "{deposits}: {fault}")?;
     match (fault, len) {
         (DepositsFault::Torn, Some(len)) => write_torn(f, len),
         (DepositsFault::Overflow(deposit), _) => {
@@ -268,12 +206,9 @@ fn write_place<W: fmt::Write>(
     which: u8,
     event: u32,
 ) -> fmt::Result {
-    let origins = origins_of(command);
     match command {
-        Some(Command::Duties(words)) => {
-            write!(f, "Limit: {}: epoch {}: ", origins.genesis, words.epoch)
-        }
-        _ => write!(f, "Limit: {}: event {event}: ", origins.record(which)),
+        Some(Command::Duties(words)) => write!(f, "{:?}: epoch {}: ", words.state, words.epoch),
+        _ => write_event(f, record_of(command, which), u64::from(event)),
     }
 }
 
@@ -294,11 +229,24 @@ fn write_limit<W: fmt::Write>(f: &mut fmt::Formatter<W>, limit: Limit) -> fmt::R
 /// What a refusal of duties means.
 fn write_refusal<W: fmt::Write>(f: &mut fmt::Formatter<W>, refusal: Refusal) -> fmt::Result {
     match refusal {
-        Refusal::NoActive => write!(f, ": nobody is active, so that no one can propose"),
-        Refusal::Overflow => write!(
-            f,
-            ": the epoch's end, or the weight of a candidate's balance, doesn't fit in 64 bits"
+        Refusal::NoActive => f.write_str(": nobody is active, so that no one can propose"),
+        Refusal::Overflow => f.write_str(
+            ": the epoch's end, or the weight of a candidate's balance, doesn't fit in 64 bits",
         ),
+        _ => Ok(()),
+    }
+}
+
+/// The epoch of a fault of duties that is the epoch's.
+fn write_epoch<W: fmt::Write>(
+    f: &mut fmt::Formatter<W>,
+    command: &Option<Command<'_>>,
+    fault: DutiesFault,
+) -> fmt::Result {
+    match (fault, command) {
+        (DutiesFault::Epoch | DutiesFault::Refused(_), Some(Command::Duties(words))) => {
+            write!(f, "epoch {}: ", words.epoch)
+        }
         _ => Ok(()),
     }
 }
@@ -310,31 +258,19 @@ fn write_duties<W: fmt::Write>(
     fault: DutiesFault,
     len: Option<usize>,
 ) -> fmt::Result {
-    let state = origins_of(command).genesis;
-    match (fault, command) {
-        (DutiesFault::Epoch | DutiesFault::Refused(_), Some(Command::Duties(words))) => {
-            write!(f, "Duties: {state}: epoch {}: {fault}", words.epoch)?;
-        }
-        _ => write!(f, "Duties: {state}: {fault}")?,
-    }
+    write!(f, "{}: ", genesis_of(command))?;
+    write_epoch(f, command, fault)?;
+    write!(f, "{fault}")?;
     match fault {
         DutiesFault::NotAWriting => write_sizes(f, len),
         DutiesFault::Refused(refusal) => write_refusal(f, refusal),
-        DutiesFault::TooLong | DutiesFault::Unsound | DutiesFault::Epoch => Ok(()),
-    }
-}
-
-/// The file of the block that is a state's, or a placeholder where the command has none.
-fn block_of<'a>(command: &Option<Command<'a>>) -> Origin<'a> {
-    match command {
-        Some(Command::Anchor(files)) => Origin::File(files.block),
-        _ => Origin::File("BLOCK"),
+        _ => Ok(()),
     }
 }
 
 /// A root in hexadecimal.
 fn write_root<W: fmt::Write>(f: &mut fmt::Formatter<W>, root: &[u8; 32]) -> fmt::Result {
-    write!(f, "0x")?;
+    f.write_str("0x")?;
     for byte in root {
         write!(f, "{byte:02x}")?;
     }
@@ -347,10 +283,25 @@ fn write_roots<W: fmt::Write>(
     of_state: &[u8; 32],
     of_block: &[u8; 32],
 ) -> fmt::Result {
-    write!(f, ": by the state ")?;
+    f.write_str(": by the state ")?;
     write_root(f, of_state)?;
-    write!(f, ", by the block ")?;
+    f.write_str(", by the block ")?;
     write_root(f, of_block)
+}
+
+/// Which file of an anchor is wrong, or both where values of the two differ.
+fn write_files<W: fmt::Write>(
+    f: &mut fmt::Formatter<W>,
+    command: &Option<Command<'_>>,
+    fault: AnchorFault,
+) -> fmt::Result {
+    let (state, block) = (genesis_of(command), block_of(command));
+    match fault {
+        AnchorFault::BlockTooLong | AnchorFault::BlockNotAWriting => write!(f, "{block}"),
+        AnchorFault::BlockSlot(_, _) | AnchorFault::StateRoot(_, _) | AnchorFault::Header(_, _) =>
+            write!(f, "{state} and {block}"),
+        _ => write!(f, "{state}"),
+    }
 }
 
 /// Why a state and a block are no anchor: which file it is that is wrong, or which values of the two differ.
@@ -360,48 +311,44 @@ fn write_anchor<W: fmt::Write>(
     fault: AnchorFault,
     len: Option<usize>,
 ) -> fmt::Result {
-    let state = origins_of(command).genesis;
-    let block = block_of(command);
+    write_files(f, command, fault)?;
+    write!(f, ": {fault}")?;
     match fault {
-        AnchorFault::BlockTooLong | AnchorFault::BlockNotAWriting => {
-            write!(f, "Anchor: {block}: {fault}")
-        }
-        AnchorFault::BlockSlot(_, _) => write!(f, "Anchor: {state} and {block}: {fault}"),
         AnchorFault::StateRoot(of_state, of_block) | AnchorFault::Header(of_state, of_block) => {
-            write!(f, "Anchor: {state} and {block}: {fault}")?;
             write_roots(f, &of_state, &of_block)
         }
-        AnchorFault::StateNotAWriting => {
-            write!(f, "Anchor: {state}: {fault}")?;
-            write_sizes(f, len)
-        }
-        _ => write!(f, "Anchor: {state}: {fault}"),
+        AnchorFault::StateNotAWriting => write_sizes(f, len),
+        _ => Ok(()),
     }
 }
 
-/// What the first kept block is.
-fn first_block(command: &Option<Command<'_>>) -> &'static str {
-    match command {
-        Some(Command::Anchor(_)) => "the anchor's block",
-        _ => "the genesis block",
-    }
-}
-
-/// The kept block whose root another block has: one of its own record, or of the first one.
+/// The kept block whose root another block has: the first one, or one of its own record or of the first record.
 fn write_kept<W: fmt::Write>(
     f: &mut fmt::Formatter<W>,
+    first: &str,
     number: u32,
     kept: Option<Origin<'_>>,
 ) -> fmt::Result {
-    match kept {
-        Some(record) => write!(
-            f,
-            "the block has the root of the accepted block {number} of {record}, and is another one"
-        ),
-        None => write!(
-            f,
-            "the block has the root of the accepted block {number}, and is another one"
-        ),
+    f.write_str("the block has the root of ")?;
+    match (number, kept) {
+        (0, _) => f.write_str(first)?,
+        (_, Some(record)) => write!(f, "the accepted block {number} of {record}")?,
+        (_, None) => write!(f, "the accepted block {number}")?,
+    }
+    f.write_str(", and is another one")
+}
+
+/// The block whose root is no name for it alone: the first kept one, or that of an event.
+fn write_block<W: fmt::Write>(
+    f: &mut fmt::Formatter<W>,
+    command: &Option<Command<'_>>,
+    which: u8,
+    event: u32,
+) -> fmt::Result {
+    if event == 0 {
+        write!(f, "{}: {}: ", genesis_of(command), first_block(command))
+    } else {
+        write_event(f, record_of(command, which), u64::from(event))
     }
 }
 
@@ -410,68 +357,36 @@ fn write_kept<W: fmt::Write>(
 fn write_clash<W: fmt::Write>(
     f: &mut fmt::Formatter<W>,
     command: &Option<Command<'_>>,
-    which: u8,
-    event: u32,
     kind: ClashKind,
     kept: Option<Origin<'_>>,
 ) -> fmt::Result {
-    let origins = origins_of(command);
-    let genesis = origins.genesis;
-    let events = origins.record(which);
-    let first = first_block(command);
-    if event == 0 {
-        write!(f, "Clash: {genesis}: {first}: ")?;
-    } else {
-        write!(f, "Clash: {events}: event {event}: ")?;
-    }
     match kind {
-        ClashKind::ZeroBlock => write!(f, "the block's root is zero"),
-        ClashKind::ZeroState => write!(f, "the block's state root is zero"),
-        ClashKind::Kept(0) => write!(f, "the block has the root of {first}, and is another one"),
-        ClashKind::Kept(number) => write_kept(f, number, kept),
+        ClashKind::ZeroBlock => f.write_str("the block's root is zero"),
+        ClashKind::ZeroState => f.write_str("the block's state root is zero"),
+        ClashKind::Kept(number) => write_kept(f, first_block(command), number, kept),
     }
 }
 
 impl fmt::Display for Explanation<'_, '_> {
     fn fmt<W: fmt::Write>(&self, f: &mut fmt::Formatter<W>) -> fmt::Result {
-        let origins = origins_of(&self.command);
-        let Origins {
-            config,
-            genesis,
-            events,
-            ..
-        } = origins;
+        let (command, len) = (&self.command, self.genesis_len);
+        write!(f, "{}: ", self.status.name())?;
         match self.status {
-            Status::Done => write!(f, "Done: {events}: to the end"),
+            Status::Done => write!(f, "{}: to the end", record_of(command, 0)),
             Status::Words => write_words(f, self.wrong),
-            Status::Config(fault) => write_config(f, &self.command, config, *fault),
-            Status::Genesis(part) => write_genesis(f, genesis, *part, self.genesis_len),
-            Status::Record {
-                which,
-                event: 0,
-                fault,
-            } => write!(
-                f,
-                "Record: {}: at its head: {fault}",
-                origins.record(*which)
-            ),
+            Status::Config(fault) => write_config(f, command, *fault),
+            Status::Genesis(part) => write_genesis(f, genesis_of(command), *part, len),
             Status::Record {
                 which,
                 event,
                 fault,
-            } => {
-                write!(
-                    f,
-                    "Record: {}: event {event}: {fault}",
-                    origins.record(*which)
-                )
-            }
+            } => write_record(f, record_of(command, *which), *event, *fault),
             Status::Limit {
                 which,
                 event,
                 limit,
             } => {
-                write_place(f, &self.command, *which, *event)?;
+                write_place(f, command, *which, *event)?;
                 write_limit(f, *limit)
             }
             Status::Clash {
@@ -483,26 +398,23 @@ impl fmt::Display for Explanation<'_, '_> {
                 let kept = if which == kept_which {
                     None
                 } else {
-                    Some(origins.record(*kept_which))
+                    Some(record_of(command, *kept_which))
                 };
-                write_clash(f, &self.command, *which, *event, *kind, kept)
+                write_block(f, command, *which, *event)?;
+                write_clash(f, command, *kind, kept)
             }
-            Status::Deposits(fault) => write_deposits(f, genesis, *fault, self.genesis_len),
-            Status::Duties(fault) => write_duties(f, &self.command, *fault, self.genesis_len),
-            Status::Anchor(fault) => write_anchor(f, &self.command, *fault, self.genesis_len),
-            Status::ReadFault => write_cause(
-                f,
-                "ReadFault",
-                "a file could not be opened or read",
-                self,
-            ),
-            Status::WriteFault => write_cause(
-                f,
-                "WriteFault",
-                "the lines could not be written",
-                self,
-            ),
-            Status::NoMemory => write_no_memory(f, self),
+            Status::Deposits(fault) => write_deposits(f, genesis_of(command), *fault, len),
+            Status::Duties(fault) => write_duties(f, command, *fault, len),
+            Status::Anchor(fault) => write_anchor(f, command, *fault, len),
+            Status::ReadFault => {
+                let what = "a file could not be opened or read";
+                write_cause(f, what, self.event, self.cause)
+            }
+            Status::WriteFault => {
+                let what = "the lines could not be written";
+                write_cause(f, what, self.event, self.cause)
+            }
+            Status::NoMemory => write_no_memory(f, command, self.event, len),
         }
     }
 }

@@ -4,5 +4,6 @@
 #![tactic(auto)]
 
 mod explanation;
+mod origin;
 
 pub use explanation::{Cause, Explanation};
