@@ -33,7 +33,6 @@ use transition::{Seen, Step};
 
 /// A chain that is being made. Contracts see what it is made by, the state behind its last block, the last slot that was begun,
 /// and what is still to be given of that slot.
-#[derive(Drop)]
 pub struct Maker {
     plan: Plan,
     // The state behind the chain's last block.
@@ -46,6 +45,20 @@ pub struct Maker {
     due: Option<State>,
     // The states on which epoch processing was entered on the way to it, which only clauses see.
     entered: Seen,
+}
+
+// Written by hand, so that a call that lets one go is one call, and not one for each of its parts.
+impl Drop for Maker {
+    fn drop(self) {
+        let Maker {
+            plan: _,
+            state: _state,
+            slot: _,
+            votes: _votes,
+            due: _due,
+            entered: _entered,
+        } = self;
+    }
 }
 
 impl Model for Maker {

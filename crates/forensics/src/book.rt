@@ -26,11 +26,24 @@ use std::alloc::Global;
 use std::marker::Model;
 
 /// The votes of two histories on one genesis, and the blocks of each.
-#[derive(Drop)]
 pub struct Book {
     votes: VoteBook,
     first: KeptBlocks,
     second: KeptBlocks,
+}
+
+// Written by hand, so that a call that lets one go is one call, and not one for each of its parts.
+impl Drop for Book {
+    fn drop(self) {
+        let Book {
+            votes,
+            first,
+            second,
+        } = self;
+        drop(votes);
+        drop(first);
+        drop(second);
+    }
 }
 
 impl Model for Book {

@@ -26,13 +26,25 @@ use transition::Seen;
 
 /// The blocks that were added, once for each event, which only clauses see, an entry for each of them and its attestations, in their
 /// order, and the checkpoint that the history was closed with.
-#[derive(Drop)]
 pub(crate) struct History {
     genesis: Snapshot<State>,
     added: Added,
     entries: Vec<Entry>,
     carriers: Vec<Carrier>,
     finalized: Checkpoint,
+}
+
+// Written by hand, so that a call that lets one go is one call, and not one for each of its parts.
+impl Drop for History {
+    fn drop(self) {
+        let History {
+            genesis: _genesis,
+            added: _added,
+            entries: _entries,
+            carriers: _carriers,
+            finalized: _,
+        } = self;
+    }
 }
 
 impl Model for History {

@@ -21,10 +21,21 @@ use std::marker::Model;
 use std::rc::Rc;
 
 /// An attestation, and the committees of its epoch. Contracts see it and its attesters.
-#[derive(Drop)]
 pub(crate) struct KeptAttestation {
     attestation: Attestation,
     committees: Rc<EpochCommittees>,
+}
+
+// Written by hand, so that a call that lets one go is one call, and not one for each of its parts.
+impl Drop for KeptAttestation {
+    fn drop(self) {
+        let KeptAttestation {
+            attestation,
+            committees,
+        } = self;
+        drop(attestation);
+        drop(committees);
+    }
 }
 
 impl Model for KeptAttestation {

@@ -20,16 +20,30 @@ use std::marker::Model;
 use std::snapshot::Snapshot;
 
 /// A block, and the state behind it, which only clauses see.
-#[derive(Drop)]
 pub(crate) struct Kept {
     block: BeaconBlock,
     state: Snapshot<State>,
 }
 
+// Written by hand, so that a call that lets one go is one call, and not one for each of its parts.
+impl Drop for Kept {
+    fn drop(self) {
+        let Kept { block, state } = self;
+        drop(block);
+        drop(state);
+    }
+}
+
 /// Blocks in the order of their first acceptance, each looked up by its root. Clauses see the list of them.
-#[derive(Drop)]
 pub(crate) struct KeptBlocks {
     entries: IndexMap<Root, Kept>,
+}
+
+// Written by hand, so that a call that lets one go is one call, and not one for each of its parts.
+impl Drop for KeptBlocks {
+    fn drop(self) {
+        let KeptBlocks { entries: _entries } = self;
+    }
 }
 
 impl Model for KeptBlocks {

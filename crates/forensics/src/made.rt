@@ -18,12 +18,25 @@ use std::marker::Model;
 use std::rc::Rc;
 
 /// The committees of an epoch, which kept attestations share, and what they were made of. Clauses see the committees.
-#[derive(Drop)]
 pub(crate) struct Made {
     preset: Preset,
     seed: Root,
     active: Vec<u64>,
     committees: Rc<EpochCommittees>,
+}
+
+// Written by hand, so that a call that lets one go is one call, and not one for each of its parts.
+impl Drop for Made {
+    fn drop(self) {
+        let Made {
+            preset: _,
+            seed: _,
+            active,
+            committees,
+        } = self;
+        drop(active);
+        drop(committees);
+    }
 }
 
 impl Model for Made {

@@ -35,7 +35,6 @@ use vote_spans::CarriedVotes;
 
 /// The votes that the blocks of two histories on one genesis carry, the attestations that they are of, and what a verdict reads of
 /// each block.
-#[derive(Drop)]
 pub struct VoteBook {
     config: Config,
     genesis: State,
@@ -43,6 +42,20 @@ pub struct VoteBook {
     second: History,
     votes: CarriedVotes,
     committees: RecentCommittees,
+}
+
+// Written by hand, so that a call that lets one go is one call, and not one for each of its parts.
+impl Drop for VoteBook {
+    fn drop(self) {
+        let VoteBook {
+            config: _,
+            genesis: _genesis,
+            first: _first,
+            second: _second,
+            votes: _votes,
+            committees: _committees,
+        } = self;
+    }
 }
 
 impl Model for VoteBook {
