@@ -1,5 +1,5 @@
 -- The next slot's tick comes next.
-use Rattle.std.proofs.Common.{◌≡◌, ◌∙◌, ℕ, ◌+◌, List, None, Some, if◌then◌else◌, sym, ap, subst}
+use Rattle.std.proofs.Common.{◌≡◌, ◌∙◌, ℕ, ◌+◌, None, Some, if◌then◌else◌, sym, ap, subst}
 use Rattle.hash_tree.specs.Merkle.{uint_to_bytes}
 use Rattle.bc_words.specs.Outcome.{done}
 use Rattle.spec_state.specs.Genesis.{header_root_of}
