@@ -1,16 +1,14 @@
 -- What a maker gives, as a source of events gives it.
-use Rattle.std.proofs.Common.{◌≡◌, ◌∙◌, ℕ, suc, ◌+◌, ◌≤◌, Bool, true, false, List, [], ◌∷◌, length, IfOk, IfSome, Option, Some, None, Result, Ok, Err, refl, sym, ap, subst, arith}
+use Rattle.std.proofs.Common.{◌≡◌, ◌∙◌, ℕ, suc, ◌+◌, ◌≤◌, true, false, List, [], ◌∷◌, length, Some, None, Ok, Err, refl, sym, ap, subst, arith}
 use Rattle.bc_words.specs.Outcome.{Outcome, done, limited}
-use Rattle.bc_words.specs.declared.stop.Limit.{Limit}
 use Rattle.bc_words.specs.declared.stop.Stop.{Stop}
 use Rattle.bc_words.specs.declared.stop.Stop.TheVariants as stops
 use Rattle.bc_outside.specs.Told.{ShelfTold}
 use Rattle.record_file.specs.Record.{Events, with_event, is_kind, most_events}
-use Rattle.record_file.specs.Record as record_file
-use Rattle.record_file.specs.Sources.{NextOf, Counts}
+use Rattle.record_file.specs.Sources.{NextOf}
 use Rattle.record_file.specs.Stops.{SourceStopsBy}
 use Rattle.record_file.specs.declared.event.Event.{Event}
-use Rattle.spec_drill.specs.Plan.{Plan, IsPlan}
+use Rattle.spec_drill.specs.Plan.{IsPlan}
 use Rattle.spec_drill.specs.Make.{MadeEvent, Made, before, kind_of, payload_of, made}
 use Rattle.spec_drill.specs.Make as makes
 use Rattle.spec_drill.specs.AsEvents.{event_of, end_of, events_to_come}
@@ -18,7 +16,7 @@ use Rattle.spec_drill.specs.Maker.{PlainMaker, to_come, new_maker}
 use Rattle.spec_drill.proofs.Few.{few_made}
 use Rattle.spec_drill.proofs.Maker.{new_has_given}
 use Rattle.chain_maker.specs.Next.{NextIs, Writes}
-use Rattle.chain_maker.specs.Source.{MadeSource, begun, made_source, IsShort}
+use Rattle.chain_maker.specs.Source.{begun, made_source, IsShort}
 use Rattle.chain_maker.specs.inside.Stops.{CanStop, stop_of}
 
 -- an event that comes first

@@ -117,16 +117,16 @@ block_limited maker due bound is none due_is e = elim (block_comes maker due is 
 -- ---- the maker behind a step, and the event that it gives
 
 -- behind a tick
-pub opened_is : (maker : PlainMaker) (at : PlainState) (begun : ℕ) (votes : List Attestation) (due : Option PlainState) → begun ≡ maker.slot
+pub opened_is : (maker : PlainMaker) (at : PlainState) (slot : ℕ) (votes : List Attestation) (due : Option PlainState) → slot ≡ maker.slot + 1
     → votes ≡ votes_of at (header_root_of maker.state) maker.slot → due ≡ (if is_skipped maker.plan (maker.slot + 1) then None else Some at)
-    → record maker { slot = begun + 1; pending = map makes.wire votes; due = due_of votes due } ≡ opened maker at
+    → record maker { slot = slot; pending = map makes.wire votes; due = due_of votes due } ≡ opened maker at
 unfolding opened
-opened_is maker at begun votes due begun_is votes_are due_is =
+opened_is maker at slot votes due slot_is votes_are due_is =
     let all : List Attestation = votes_of at (header_root_of maker.state) maker.slot in
-    let with_votes : ℕ → List Attestation → Option PlainState → PlainMaker = λ begun votes due. record maker { slot = begun + 1; pending = map makes.wire votes; due = due_of votes due } in
-    ap (λ (slot : ℕ). with_votes slot votes due) begun_is
-    ∙ ap (λ (votes : List Attestation). with_votes maker.slot votes due) votes_are
-    ∙ (ap (with_votes maker.slot all) due_is
+    let with_votes : ℕ → List Attestation → Option PlainState → PlainMaker = λ slot votes due. record maker { slot = slot; pending = map makes.wire votes; due = due_of votes due } in
+    ap (λ (slot : ℕ). with_votes slot votes due) slot_is
+    ∙ ap (λ (votes : List Attestation). with_votes (maker.slot + 1) votes due) votes_are
+    ∙ (ap (with_votes (maker.slot + 1) all) due_is
     ∙ ap (λ (due : Option Due). record maker { slot = maker.slot + 1; pending = map makes.wire all; due = due }) (due_same (is_skipped maker.plan (maker.slot + 1)) all at))
 
 pub gives_tick : (maker new : PlainMaker) (at : Stepped) (payload : List ℕ) → IsOpened maker at → new ≡ opened maker at.state

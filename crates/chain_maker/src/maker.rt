@@ -1,14 +1,17 @@
 //! The maker of a chain: where it stands between two events, and the next event.
 
-ghost use Rattle.std.specs.Prelude.{◌≡◌, ◌<◌, ◌≤◌, List, [], Some, None, IfOk, IfSome, IsSome, if◌then◌else◌};
+ghost use Rattle.std.specs.Prelude.{◌≡◌, ◌<◌, ◌≤◌, ◌+◌, List, [], Some, None, Err, IfOk, IfErr, IfSome, IsSome, if◌then◌else◌};
 ghost use Rattle.hash_tree.specs.Merkle.{uint_to_bytes};
-ghost use Rattle.spec_state.specs.Genesis.{genesis_fault};
+ghost use Rattle.bc_words.specs.Outcome.{done};
+ghost use Rattle.spec_state.specs.Genesis.{genesis_fault, header_root_of};
+ghost use Rattle.spec_transition.specs.ProcessSlots.{process_slots};
 ghost use Rattle.spec_fork_choice.specs.Store.{Store};
 ghost use Rattle.spec_fork_choice.specs.GetForkchoiceStore.{genesis_store};
 ghost use Rattle.spec_fork_choice.specs.OnEvent.{genesis_clash};
 ghost use Rattle.spec_drill.specs.Plan.{IsPlan, last_slot};
 ghost use Rattle.spec_drill.specs.MakeGenesis.{genesis_of_plan};
-ghost use Rattle.spec_drill.specs.Make.{MadeEvent};
+ghost use Rattle.spec_drill.specs.MakeVotes.{votes_of};
+ghost use Rattle.spec_drill.specs.Make.{MadeEvent, time_of};
 ghost use Rattle.spec_drill.specs.Taken.{store_after};
 ghost use Rattle.spec_drill.specs.Maker.{new_maker, HasGiven};
 ghost use Rattle.chain_maker.specs.Next.{NextIs, IsAcceptedBy, StepIs, all_given};
@@ -22,6 +25,7 @@ use crate::plan::Plan;
 use crate::votes::{Source, Votes};
 use bc_preset::Config;
 use bc_words::{NoMemory, Stop};
+use beacon_body::Attestations;
 use beacon_state::State;
 use record_file::{Event, Payload};
 use ssz_codec::{Ssz, Writer};
@@ -30,6 +34,19 @@ use std::marker::Model;
 use std::mem;
 use transition::process_slots::process_slots;
 use transition::{Seen, Step};
+
+/// What a slot begins with.
+#[derive(Drop)]
+struct Opening {
+    // The slot.
+    slot: u64,
+    // The step to it from the state behind the chain's last block.
+    step: Step,
+    // The attestations of the slot before it.
+    votes: Attestations,
+    // The payload of its tick.
+    tick: Payload,
+}
 
 /// A chain that is being made. Contracts see what it is made by, the state behind its last block, the last slot that was begun,
 /// and what is still to be given of that slot.
@@ -150,6 +167,31 @@ impl Maker {
         self.votes.next(alloc)
     }
 
+    /// What the next slot begins with.
+    fn next_slot(&self, alloc: Global) -> Result<Opening, Stop>
+        requires none { self.now.pending ≡ [] }
+        requires no_block { self.now.due ≡ None }
+        requires later { self.now.slot < last_slot self.now.plan }
+        ensures slot { IfOk result (λ opening. opening.slot ≡ self.now.slot + 1) }
+        ensures step { IfOk result (λ opening. process_slots self.now.state (self.now.slot + 1) self.now.plan.config ≡ done opening.step) }
+        ensures votes { IfOk result (λ opening. opening.votes ≡ votes_of opening.step.state (header_root_of self.now.state) self.now.slot) }
+        ensures tick { IfOk result (λ opening. opening.tick ≡ uint_to_bytes (time_of self.now.plan (self.now.slot + 1))) }
+        ensures stops { IfErr result (λ stop. Gives (Err stop) self.now self.now) }
+    {
+        let begun = self.last_begun();
+        let slot = begun + 1;
+        let root = self.state.header_root();
+        let step = process_slots(alloc, &self.state, slot, &self.plan.config)?;
+        let votes = votes_of(alloc, &step.state, &root, begun)?;
+        let tick = tick_payload(alloc, self.plan.time_of(slot))?;
+        Ok(Opening {
+            slot,
+            step,
+            votes,
+            tick,
+        })
+    }
+
     /// Begins the next slot: the event is its tick.
     fn begin_slot(&mut self, alloc: Global) -> Result<Event, Stop>
         requires none { self.old.pending ≡ [] }
@@ -159,24 +201,26 @@ impl Maker {
         ensures plan { self.new.plan ≡ self.old.plan }
         ensures state { self.new.state ≡ self.old.state }
     {
-        let begun = self.last_begun();
-        let slot = begun + 1;
-        let root = self.state.header_root();
-        let step = process_slots(alloc, &self.state, slot, &self.plan.config)?;
-        let all = votes_of(alloc, &step.state, &root, begun)?;
-        let time = self.plan.time_of(slot);
-        let payload = tick_payload(alloc, time)?;
+        let Opening {
+            slot,
+            step,
+            votes,
+            tick,
+        } = self.next_slot(alloc)?;
         let skipped = self.plan.is_skipped(slot);
         let due = unless(skipped, step.state);
         self.due = due;
         self.entered = step.entered;
         self.votes = Votes {
-            all,
+            all: votes,
             given: 0,
             source: Source::Wire,
         };
         self.slot = slot;
-        Ok(Event { kind: 1, payload })
+        Ok(Event {
+            kind: 1,
+            payload: tick,
+        })
     }
 
     /// Makes the slot's block: the event is the block.

@@ -16,11 +16,21 @@ use transition::{Seen, Visitor};
 
 /// The states that were shown, which clauses alone see, and the epoch of the first one at which the validators aren't those of
 /// genesis.
-#[derive(Drop)]
 pub struct Watch<'a> {
     genesis: &'a State,
     entered: Seen,
     moved: Option<u64>,
+}
+
+// Written by hand, so that a call that lets one go is one call, and not one for each way that its states are kept.
+impl Drop for Watch<'_> {
+    fn drop(self) {
+        let Watch {
+            genesis: _,
+            entered: _entered,
+            moved: _,
+        } = self;
+    }
 }
 
 impl<'a> Model for Watch<'a> {
