@@ -1,16 +1,6 @@
-pub mod ByFiles
 pub mod Commands
 pub mod InMemory
-pub mod Drilled
-pub mod Feeding
-pub mod Beginnings
-pub mod Following
-pub mod Forensics
-pub mod Findings
 pub mod Delivering
 pub mod Pairing
 pub mod ManyNodes
-pub mod Openings
-pub mod SlashingRecords
-pub mod Convictions
 pub mod Versions

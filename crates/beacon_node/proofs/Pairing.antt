@@ -18,16 +18,16 @@ use Rattle.safety_law.proofs.Lists.{image_of, in_reverse}
 use Rattle.forensics.specs.Books.{PlainBook, begun, clash_in, history_of, with_block}
 use Rattle.spec_replay.specs.Run.{End, clash}
 use Rattle.spec_replay.specs.Nodes.{Node, all_or_end, and_others, first_clash, pair_line, pair_of, pair_text, pairs_of, unless_pair_clashes}
-use Rattle.beacon_node.specs.declared.histories.Findings.{Findings}
+use Rattle.two_chains.specs.declared.histories.Findings.{Findings}
 use Rattle.beacon_node.specs.declared.node.Node as code
 use Rattle.beacon_node.specs.declared.node.NodeBlock.{NodeBlock}
 use Rattle.beacon_node.specs.declared.node.Delivered.{Delivered}
 use Rattle.one_chain.specs.declared.status.Status.{Status}
 use Rattle.one_chain.specs.declared.status.Status.TheVariants as statuses
-use Rattle.beacon_node.specs.inside.Histories.{HasFound}
+use Rattle.two_chains.specs.inside.Histories.{HasFound}
 use Rattle.beacon_node.specs.inside.Nodes.{AreClear, IsNode, LinesSoFar, NodeEnds, added_of, behind_ones, history_in, plain_node}
 use Rattle.beacon_node.proofs.Delivering.{history_more}
-use Rattle.beacon_node.proofs.Following.{clear_of_both, genesis_clear}
+use Rattle.two_chains.proofs.Following.{clear_of_both, genesis_clear}
 
 -- ---- a history and its beginnings
 
@@ -203,6 +203,12 @@ first_of which old new one_is same = rw one_is at same
 pub nothing_begun : (config : ConfigValues) (genesis : PlainState) (book : PlainBook) → book ≡ begun config genesis → (book.config ≡ config) × (book.genesis ≡ genesis) × (history_of book 0 ≡ []) × (history_of book 1 ≡ []) × (book.second ≡ [])
 unfolding begun history_of
 nothing_begun config genesis book is = (ap (λ (b : PlainBook). b.config) is, ap (λ (b : PlainBook). b.genesis) is, ap (λ (b : PlainBook). b.first) is, ap (λ (b : PlainBook). b.second) is, ap (λ (b : PlainBook). b.second) is)
+
+-- in words of its own parts
+pub begins_so : (config : ConfigValues) (genesis : PlainState) (book : PlainBook) → book ≡ begun config genesis → book ≡ begun book.config book.genesis
+begins_so config genesis book is =
+    let b = nothing_begun config genesis book is in
+    is ∙ ap₂ (λ (c : ConfigValues) (g : PlainState). begun c g) (sym b.0) (sym b.1)
 
 pub as_parts : (book : PlainBook) → (history_of book 0 ≡ book.first) × (history_of book 1 ≡ book.second)
 unfolding history_of

@@ -1,5 +1,3 @@
-pub mod Findings
 pub mod Pace
-pub mod Slashings
 pub mod inside
 pub mod laws

@@ -1,3 +1,2 @@
-pub mod Convictions
 pub mod Memory
 pub mod Versions

@@ -1,19 +1,11 @@
-//! Laws: what the program does with files that lie in memory, whom two records convict, and that the versions of a record run alike.
+//! Laws: what the program does with files that lie in memory, and that the versions of a record run alike.
 
-ghost use Rattle.beacon_node.specs.laws.Convictions.{ConvictsOfTheRecords};
 ghost use Rattle.beacon_node.specs.laws.Memory.{RunsInMemory};
 ghost use Rattle.beacon_node.specs.laws.Versions.{VersionsRunAlike};
 
 /// The clauses of `beacon_main`, over a `MemoryShelf` of given files, are of the run of exactly these files' bytes.
 pub fn runs_in_memory()
     ensures { RunsInMemory }
-{}
-
-/// What `forensic` and `slasher` write is found out of exactly the files that they read: the histories of their events, the offences of these,
-/// the verdict on them, and behind a conflict the third of the total that the offenders have; and the attester slashings that they give, which
-/// accuse the offenders.
-pub fn findings_are_of_the_records()
-    ensures { ConvictsOfTheRecords }
 {}
 
 /// The same frames give the same lines and the same end in a record of version 1 and of version 2, unless one of them is of kind 5, which version

@@ -5,12 +5,11 @@ ghost use Rattle.std.specs.Prelude.{◌≡◌, ◌<◌, ◌-◌, ◌^◌, [], Al
 ghost use Rattle.spec_fork_choice.specs.OnEvent.{genesis_clash};
 ghost use Rattle.spec_forensics.specs.Clash.{first_accepted};
 ghost use Rattle.spec_replay.specs.Nodes.{all_or_end, first_clash, pair_of, pairs_of};
-ghost use Rattle.forensics.specs.Books.{history_of};
-ghost use Rattle.beacon_node.specs.inside.Following.{IsInside};
-ghost use Rattle.beacon_node.specs.inside.Histories.{HasFound, IsGenesis};
+ghost use Rattle.forensics.specs.Books.{begun, history_of};
+ghost use Rattle.two_chains.specs.inside.Following.{IsInside};
+ghost use Rattle.two_chains.specs.inside.Histories.{HasFound, IsGenesis};
 ghost use Rattle.beacon_node.specs.inside.Nodes.{HasRun, IsNode, LinesTold, NodeEnds, history_in, plain_node};
 
-use crate::histories::{Findings, book_at, find};
 use crate::node::{Delivered, Node};
 use crate::node_lines::pair_text;
 use bc_preset::Config;
@@ -19,6 +18,7 @@ use beacon_state::State;
 use forensics::VoteBook;
 use one_chain::Status;
 use std::alloc::Global;
+use two_chains::{Findings, book_at, find};
 
 /// The first event of the second node whose block has the root of another block of the first one, with that block's place.
 fn first_clash(
@@ -76,6 +76,24 @@ fn add_blocks(
     Ok(())
 }
 
+/// What a book without blocks finds once it took those of both nodes.
+fn found_in(
+    alloc: Global,
+    first: &Node<'_>,
+    second: &Node<'_>,
+    book: &mut VoteBook,
+) -> Result<Findings, NoMemory>
+    requires begun { book.old ≡ begun book.old.config book.old.genesis }
+    requires first { IsNode book.old.config book.old.genesis first.now }
+    requires second { IsNode book.old.config book.old.genesis second.now }
+    requires apart { first_clash (first_accepted book.old.genesis (history_in first.now.blocks.items)) (history_in second.now.blocks.items) ≡ None }
+    ensures { IfOk result (λ findings. HasFound book.old.genesis (history_in first.now.blocks.items) (history_in second.now.blocks.items) first.now.store.plain second.now.store.plain findings) }
+{
+    add_blocks(alloc, 0, first, book)?;
+    add_blocks(alloc, 1, second, book)?;
+    find(alloc, &first.store, &second.store, book)
+}
+
 /// What a book of both histories finds.
 fn found(
     alloc: Global,
@@ -92,18 +110,12 @@ fn found(
     ensures found { IfOk result (λ findings. HasFound genesis.now (history_in first.now.blocks.items) (history_in second.now.blocks.items) first.now.store.plain second.now.store.plain findings) }
     ensures over { IfErr result (λ status. status ≡ Status.NoMemory) }
 {
-    let mut book = book_at(alloc, config, genesis)?;
-    match add_blocks(alloc, 0, first, &mut book) {
-        Ok(()) => {}
-        Err(NoMemory) => return Err(Status::NoMemory),
-    }
-    match add_blocks(alloc, 1, second, &mut book) {
-        Ok(()) => {}
-        Err(NoMemory) => return Err(Status::NoMemory),
-    }
-    match find(alloc, &first.store, &second.store, &mut book) {
-        Ok(findings) => Ok(findings),
-        Err(NoMemory) => Err(Status::NoMemory),
+    match book_at(alloc, config, genesis) {
+        Ok(mut book) => match found_in(alloc, first, second, &mut book) {
+            Ok(findings) => Ok(findings),
+            Err(NoMemory) => Err(Status::NoMemory),
+        },
+        Err(status) => Err(status),
     }
 }
 

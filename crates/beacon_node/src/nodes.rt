@@ -9,14 +9,13 @@ ghost use Rattle.spec_fork_choice.specs.GetForkchoiceStore.{genesis_store};
 ghost use Rattle.spec_fork_choice.specs.OnEvent.{genesis_clash};
 ghost use Rattle.spec_drill.specs.AsEvents.{events_to_come};
 ghost use Rattle.spec_drill.specs.Maker.{new_maker, to_come};
-ghost use Rattle.spec_replay.specs.Nodes.{all_or_end, chain_of_node, node_line, node_of, nodes_config, nodes_run, nodes_store, pair_of, pairs_of};
+ghost use Rattle.spec_replay.specs.Nodes.{all_of, all_or_end, chain_of_node, node_line, node_of, nodes_config, nodes_run, nodes_store, pair_of, pairs_of};
 ghost use Rattle.one_chain.specs.Answers.{OutsideKeeps, Replayed, whole_of};
-ghost use Rattle.beacon_node.specs.inside.Drilled.{DrillTold, Finished};
-ghost use Rattle.beacon_node.specs.inside.Following.{IsInside};
-ghost use Rattle.beacon_node.specs.inside.Histories.{IsGenesis};
+ghost use Rattle.two_chains.specs.inside.Drilled.{DrillTold, Finished};
+ghost use Rattle.two_chains.specs.inside.Following.{IsInside};
+ghost use Rattle.two_chains.specs.inside.Histories.{IsGenesis, OpeningEnds};
 ghost use Rattle.beacon_node.specs.inside.Nodes.{HasRun, IsSplit, LinesTold, NodeEnds, behind_ones, node_given, plain_node};
 
-use crate::histories::store_at;
 use crate::made_events::made_events;
 use crate::node::{Delivered, delivered_node};
 use crate::node_pairs::pair_lines;
@@ -29,6 +28,7 @@ use command_words::NodesWords;
 use one_chain::{Status, read_named, unread, unwritten};
 use record_file::Event;
 use std::alloc::Global;
+use two_chains::store_at;
 
 /// The balance of the made validators, in Gwei, below which the configuration's ejection balance must be.
 const FULL_BALANCE: u64 = 32_000_000_000;
@@ -44,12 +44,10 @@ pub struct Split {
     pub genesis: State,
 }
 
-/// The split of a number under a configuration.
-fn split_of(alloc: Global, number: u64, config: &Config) -> Result<Split, NoMemory>
-    requires { config.now.ejection_balance < 32_000_000_000 }
-    ensures { IfOk result (λ split. IsSplit (record { config = config.now; number = number; which = None }) split) }
+/// The split of a maker's plan.
+fn split_by(alloc: Global, maker: &Maker) -> Result<Split, NoMemory>
+    ensures { IfOk result (λ split. IsSplit maker.now.plan split) }
 {
-    let maker = Maker::new(alloc, number, config)?;
     let first = maker.split(alloc, 0)?;
     let second = maker.split(alloc, 1)?;
     let genesis = maker.genesis(alloc)?;
@@ -58,6 +56,15 @@ fn split_of(alloc: Global, number: u64, config: &Config) -> Result<Split, NoMemo
         second,
         genesis,
     })
+}
+
+/// The split of a number under a configuration.
+fn split_of(alloc: Global, number: u64, config: &Config) -> Result<Split, NoMemory>
+    requires { config.now.ejection_balance < 32_000_000_000 }
+    ensures { IfOk result (λ split. IsSplit (record { config = config.now; number = number; which = None }) split) }
+{
+    let maker = Maker::new(alloc, number, config)?;
+    split_by(alloc, &maker)
 }
 
 /// The chain that a node is delivered: the first where its number is even, and else the second.
@@ -132,7 +139,67 @@ fn lines_of(
     }
 }
 
-/// Makes all lines: the events of both chains are made first, and shared by the nodes.
+/// Opens a store at genesis, to see that its nodes can.
+fn opens(alloc: Global, config: &Config, genesis: &State) -> Result<(), Status>
+    requires { IsGenesis config.now genesis.now }
+    ensures opened { IfOk result (λ _. genesis_clash genesis.now ≡ None) }
+    ensures over { IfErr result (λ status. OpeningEnds status (genesis_clash genesis.now)) }
+{
+    match store_at(alloc, config, genesis) {
+        Ok(_store) => Ok(()),
+        Err(status) => Err(status),
+    }
+}
+
+/// Makes all lines of nodes that are delivered these events.
+fn nodes_lines(
+    alloc: Global,
+    config: &Config,
+    genesis: &State,
+    words: &NodesWords<'_>,
+    first: &[Event],
+    second: &[Event],
+) -> Result<Vec<u8>, Status>
+    requires genesis { IsGenesis config.now genesis.now }
+    requires none { genesis_clash genesis.now ≡ None }
+    requires few { (length first.now ≤ most_events) × (length second.now ≤ most_events) }
+    requires kinds { All (λ event. is_kind event.kind ≡ true) first.now × All (λ event. is_kind event.kind ≡ true) second.now }
+    ensures told { DrillTold (λ lines. lines.items) result (nodes_store (genesis_clash genesis.now) words.now.number words.now.count genesis.now (genesis_store config.now genesis.now) (all_of first.now) (all_of second.now)) }
+    ensures inside { IfErr result (λ status. IsInside status) }
+{
+    match all_nodes(alloc, config, genesis, words, first, second) {
+        Ok(nodes) => lines_of(alloc, config, genesis, &nodes),
+        Err(status) => Err(status),
+    }
+}
+
+/// Makes the events of both chains, which the nodes share, and then all lines.
+fn chains_lines(
+    alloc: Global,
+    config: &Config,
+    genesis: &State,
+    words: &NodesWords<'_>,
+    first: Maker,
+    second: Maker,
+) -> Result<Vec<u8>, Status>
+    requires genesis { IsGenesis config.now genesis.now }
+    requires none { genesis_clash genesis.now ≡ None }
+    requires new { (first ≡ new_maker first.plan) × (second ≡ new_maker second.plan) }
+    ensures told { DrillTold (λ lines. lines.items) result (nodes_store (genesis_clash genesis.now) words.now.number words.now.count genesis.now (genesis_store config.now genesis.now)
+        (events_to_come 0 (to_come first)) (events_to_come 0 (to_come second))) }
+    ensures inside { IfErr result (λ status. IsInside status) }
+{
+    let first = match made_events(alloc, 0, first) {
+        Ok(events) => events,
+        Err(status) => return Err(status),
+    };
+    match made_events(alloc, 1, second) {
+        Ok(second) => nodes_lines(alloc, config, genesis, words, &first, &second),
+        Err(status) => Err(status),
+    }
+}
+
+/// Makes all lines, where a store opens at genesis.
 fn all_lines(
     alloc: Global,
     config: &Config,
@@ -150,20 +217,8 @@ fn all_lines(
         second,
         genesis,
     } = split;
-    let _store = match store_at(alloc, config, &genesis) {
-        Ok(store) => store,
-        Err(status) => return Err(status),
-    };
-    let first = match made_events(alloc, 0, first) {
-        Ok(events) => events,
-        Err(status) => return Err(status),
-    };
-    let second = match made_events(alloc, 1, second) {
-        Ok(events) => events,
-        Err(status) => return Err(status),
-    };
-    match all_nodes(alloc, config, &genesis, words, &first, &second) {
-        Ok(nodes) => lines_of(alloc, config, &genesis, &nodes),
+    match opens(alloc, config, &genesis) {
+        Ok(()) => chains_lines(alloc, config, &genesis, words, first, second),
         Err(status) => Err(status),
     }
 }

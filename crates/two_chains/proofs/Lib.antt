@@ -1,0 +1,10 @@
+pub mod ByFiles
+pub mod Beginnings
+pub mod Feeding
+pub mod Drilled
+pub mod Openings
+pub mod Following
+pub mod Forensics
+pub mod Found
+pub mod SlashingRecords
+pub mod Convictions

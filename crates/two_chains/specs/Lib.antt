@@ -1,0 +1,4 @@
+pub mod Findings
+pub mod Slashings
+pub mod inside
+pub mod laws
