@@ -1,13 +1,12 @@
 -- A node takes its events one after the other.
-use Rattle.std.proofs.Common.{◌≡◌, ◌∙◌, ℕ, zero, suc, ◌+◌, ◌-◌, ◌<◌, ◌≤◌, ◌^◌, Bool, true, false, List, [], ◌∷◌, ◌++◌, length, get_or, drop, map, reverse, filter_map, slice_get, Option, Some, None, Result, Ok, Err, refl, ap, ap₂, sym, subst, append_assoc, append-nil, arith}
-use Rattle.std.specs.Prelude.{All}
+use Rattle.std.proofs.Common.{◌≡◌, ◌∙◌, ℕ, ◌+◌, ◌-◌, ◌<◌, ◌≤◌, ◌^◌, List, [], ◌∷◌, ◌++◌, length, get_or, drop, map, reverse, filter_map, slice_get, Option, Some, None, Result, Ok, refl, ap, sym, subst, append_assoc, append-nil, arith}
 use Rattle.std.specs.Option.{option_map, option_and_then}
 use Rattle.std.proofs.lemmas.List.{map_push, reverse-append, drop_more, drop_all}
 use Rattle.std.proofs.lemmas.List.Elements.{All-nil, All-push}
 use Rattle.std.proofs.lemmas.Option.{slice_get-get_or}
 use Rattle.hash_tree.specs.Merkle.{hash}
 use Rattle.bc_preset.specs.declared.configuration.ConfigValues.{ConfigValues}
-use Rattle.bc_words.specs.Events.{EventOutcome, accepted, event_refused, event_limited, event_clashes}
+use Rattle.bc_words.specs.Events.{EventOutcome, accepted, event_refused}
 use Rattle.bc_words.specs.declared.refusal.Refusal.{Refusal}
 use Rattle.beacon_body.specs.declared.block.BeaconBlock.{BeaconBlock}
 use Rattle.ssz_codec.specs.Lawful.{IsBytes}
@@ -17,16 +16,15 @@ use Rattle.spec_state.specs.declared.plain.PlainState.{PlainState}
 use Rattle.spec_fork_choice.specs.Store.{KeptBlock, Store, block_of}
 use Rattle.spec_fork_choice.specs.GetForkchoiceStore.{genesis_store}
 use Rattle.spec_fork_choice.specs.OnBlock.{BlockIn}
-use Rattle.spec_fork_choice.specs.OnEvent.{Accepted, block, other, genesis_clash, on_event}
+use Rattle.spec_fork_choice.specs.OnEvent.{Accepted, block, other, genesis_clash}
 use Rattle.spec_forensics.specs.Histories.{AcceptedBlock, with_event}
-use Rattle.spec_forensics.specs.Clash.{clash_among, first_accepted}
+use Rattle.spec_forensics.specs.Clash.{clash_among}
 use Rattle.safety_law.specs.Follows.{Follows, IsAdded}
 use Rattle.safety_law.proofs.Followed.{added_event, begins_followed, block_is_added, event_followed}
 use Rattle.transition.specs.Shown.{shown_all}
 use Rattle.forensics.specs.Watches.{PlainWatch, with_entered}
 use Rattle.forensics.proofs.Watches.{watched}
 use Rattle.fork_store.specs.Events.{entered_of}
-use Rattle.node_drill.specs.Deliveries.{delivered, delivered_places}
 use Rattle.spec_replay.specs.Run.{Run, End, clash, done, event_then, limited, replay_events, with_events}
 use Rattle.spec_replay.specs.Lines.{accepted_text, event_line, refusal_text}
 use Rattle.spec_replay.specs.Drill.{Tally, tally_of}

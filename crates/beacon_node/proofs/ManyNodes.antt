@@ -1,6 +1,6 @@
 -- The run of many nodes: the two chains are made, the nodes are delivered them in turn, and the run ends or its lines are told.
-use Rattle.std.proofs.Common.{◌≡◌, ◌≢◌, ◌∙◌, ◌⊎◌, ℕ, zero, suc, ◌+◌, ◌-◌, ◌<◌, ◌≤◌, ◌%◌, ◌==◌, Bool, true, false, List, [], ◌∷◌, ◌++◌, length, map, nat_lt, if◌then◌else◌, Option, Some, None, Result, Ok, Err, refl, ap, ap₂, sym, subst, append_assoc, append-nil, inl, inr, arith}
-use Rattle.std.specs.Prelude.{All, IfOk, flat_map}
+use Rattle.std.proofs.Common.{◌≡◌, ◌≢◌, ◌∙◌, ℕ, suc, ◌+◌, ◌-◌, ◌<◌, ◌≤◌, ◌%◌, ◌==◌, Bool, true, false, List, [], ◌∷◌, ◌++◌, map, nat_lt, if◌then◌else◌, Option, Some, None, Result, Ok, Err, refl, ap, ap₂, sym, subst, append_assoc, append-nil, inl, inr, arith}
+use Rattle.std.specs.Prelude.{IfOk, flat_map}
 use Rattle.std.specs.List.{range_with_len}
 use Rattle.std.proofs.lemmas.List.{map_push, flat_map_more}
 use Rattle.std.proofs.lemmas.List.Concat.{flat_map-append}
@@ -9,7 +9,6 @@ use Rattle.bc_outside.specs.Told.{ShelfTold, SinkTold}
 use Rattle.bc_outside.specs.Calls.{Rose}
 use Rattle.bc_outside.proofs.Keeping.{keeps_none}
 use Rattle.bc_preset.specs.Configs.{config_of}
-use Rattle.bc_preset.specs.Presets.{IsPreset}
 use Rattle.bc_preset.specs.declared.configuration.ConfigValues.{ConfigValues}
 use Rattle.bc_preset.specs.declared.faults.ConfigFault.{ConfigFault}
 use Rattle.bc_preset.specs.declared.faults.ConfigFault.TheVariants.{OutOfRange}
@@ -32,10 +31,10 @@ use Rattle.spec_drill.specs.MakeGenesis.{genesis_of_plan}
 use Rattle.spec_drill.specs.Make.{made}
 use Rattle.spec_drill.specs.Maker.{PlainMaker, new_maker, to_come}
 use Rattle.spec_drill.specs.Plan.{Plan}
-use Rattle.chain_maker.specs.Source.{MadeSource, begun, made_source}
+use Rattle.chain_maker.specs.Source.{MadeSource, made_source}
 use Rattle.node_drill.specs.Deliveries.{delivered}
-use Rattle.spec_replay.specs.Run.{Run, End, after_file, bad_anchor, bad_config, bad_deposits, bad_duties, bad_genesis, bad_record, clash, done, limited, no_command, over, record_end}
-use Rattle.spec_replay.specs.Forensic.{Followed, follow}
+use Rattle.spec_replay.specs.Run.{Run, End, bad_anchor, bad_config, bad_deposits, bad_duties, bad_genesis, bad_record, clash, done, limited, no_command, over, record_end}
+use Rattle.spec_replay.specs.Forensic.{follow}
 use Rattle.spec_replay.specs.Nodes.{Node, all_of, all_or_end, behind_events, chain_of_node, followed_by, node_line, node_of, nodes_config, nodes_of_chains, nodes_on, nodes_plan, nodes_run, nodes_store, pair_line, pair_of, pairs_of, split_events, with_nodes, with_pairs}
 use Rattle.beacon_node.specs.declared.node.Delivered.{Delivered}
 use Rattle.beacon_node.specs.declared.nodes.Split.{Split}
@@ -45,11 +44,11 @@ use Rattle.one_chain.specs.Answers.{OutsideKeeps, breaks_off, end_of}
 use Rattle.two_chains.specs.inside.ByFiles.{EndsOver}
 use Rattle.two_chains.specs.inside.Drilled.{DrillEnds, DrillTold, Finished}
 use Rattle.two_chains.specs.inside.Following.{FollowsOutside, IsInside}
-use Rattle.two_chains.specs.inside.Histories.{IsGenesis, OpeningEnds}
+use Rattle.two_chains.specs.inside.Histories.{OpeningEnds}
 use Rattle.one_chain.specs.inside.Reading.{ReadOf, Unread}
 use Rattle.one_chain.specs.inside.Statuses.{no_event_of, unread}
 use Rattle.beacon_node.specs.inside.Nodes.{EndsMaking, IsSplit, LinesTold, NodeEnds, behind_ones, followed_in, node_given, plain_node}
-use Rattle.two_chains.proofs.Drilled.{finished, given_by, no_memory, nothing_written}
+use Rattle.two_chains.proofs.Drilled.{finished, given_by, nothing_written}
 use Rattle.one_chain.proofs.Outside.{ends_here, no_fault, untouched}
 use Rattle.beacon_node.proofs.Pairing.{first_ends, first_made, none_of_all, pairs_next}
 use Rattle.one_chain.proofs.Prefixes.{config_of-prefix}

@@ -208,7 +208,7 @@ nothing_begun config genesis book is = (ap (λ (b : PlainBook). b.config) is, ap
 pub begins_so : (config : ConfigValues) (genesis : PlainState) (book : PlainBook) → book ≡ begun config genesis → book ≡ begun book.config book.genesis
 begins_so config genesis book is =
     let b = nothing_begun config genesis book is in
-    rw (b.0, b.1) is
+    is ∙ ap₂ (λ (c : ConfigValues) (g : PlainState). begun c g) (sym b.0) (sym b.1)
 
 pub as_parts : (book : PlainBook) → (history_of book 0 ≡ book.first) × (history_of book 1 ≡ book.second)
 unfolding history_of

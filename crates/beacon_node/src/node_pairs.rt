@@ -110,10 +110,12 @@ fn found(
     ensures found { IfOk result (λ findings. HasFound genesis.now (history_in first.now.blocks.items) (history_in second.now.blocks.items) first.now.store.plain second.now.store.plain findings) }
     ensures over { IfErr result (λ status. status ≡ Status.NoMemory) }
 {
-    let mut book = book_at(alloc, config, genesis)?;
-    match found_in(alloc, first, second, &mut book) {
-        Ok(findings) => Ok(findings),
-        Err(NoMemory) => Err(Status::NoMemory),
+    match book_at(alloc, config, genesis) {
+        Ok(mut book) => match found_in(alloc, first, second, &mut book) {
+            Ok(findings) => Ok(findings),
+            Err(NoMemory) => Err(Status::NoMemory),
+        },
+        Err(status) => Err(status),
     }
 }
 

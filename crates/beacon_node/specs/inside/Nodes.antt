@@ -1,5 +1,5 @@
 -- Nodes that are delivered the events of two made chains: what was done of a node's events, and what its blocks stand for.
-use Rattle.std.specs.Prelude.{◌≡◌, ℕ, ◌+◌, ◌<◌, ◌^◌, false, List, [], ◌∷◌, ◌++◌, All, flat_map, length, map, reverse, Option, Some, None, Result, Ok, Err}
+use Rattle.std.specs.Prelude.{◌≡◌, ℕ, ◌+◌, ◌<◌, ◌^◌, false, List, [], ◌∷◌, ◌++◌, All, flat_map, length, map, reverse, Some, None, Result, Ok, Err}
 use Rattle.bc_preset.specs.declared.configuration.ConfigValues.{ConfigValues}
 use Rattle.bc_words.specs.Events.{EventOutcome, event_limited, event_clashes}
 use Rattle.record_file.specs.Record as record_file
@@ -14,7 +14,7 @@ use Rattle.spec_forensics.specs.Clash.{clash_among, first_accepted}
 use Rattle.spec_drill.specs.MakeGenesis.{genesis_of_plan}
 use Rattle.spec_drill.specs.Maker.{new_maker}
 use Rattle.spec_drill.specs.Plan.{Plan}
-use Rattle.spec_replay.specs.Run.{Run, End, done, record_end, replay_events}
+use Rattle.spec_replay.specs.Run.{End, done, record_end, replay_events}
 use Rattle.spec_replay.specs.Drill.{Tally, tally_of}
 use Rattle.spec_replay.specs.Forensic.{Followed, follow_events}
 use Rattle.node_drill.specs.Deliveries.{delivered}

@@ -1,5 +1,5 @@
 -- The events are taken one after the other.
-use Rattle.std.proofs.Common.{◌≡◌, ◌+◌, ◌<◌, ℕ, List, [], ◌∷◌, length, get_or, drop, filter_map, slice_get, true, refl, arith}
+use Rattle.std.proofs.Common.{◌≡◌, ◌+◌, ◌<◌, ℕ, List, ◌∷◌, length, get_or, drop, filter_map, slice_get, true, refl, arith}
 use Rattle.std.proofs.lemmas.List.Elements.{All-get_or}
 use Rattle.record_file.specs.Record.{is_kind}
 use Rattle.record_file.specs.declared.event.Event.{Event}

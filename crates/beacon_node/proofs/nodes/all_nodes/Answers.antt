@@ -1,5 +1,5 @@
 -- The nodes are delivered their events one after the other.
-use Rattle.std.proofs.Common.{◌≤◌, ◌≡◌, ◌-◌, ◌+◌, List, length, map, true, refl, arith}
+use Rattle.std.proofs.Common.{◌≤◌, ◌≡◌, ◌-◌, ◌+◌, List, length, true, refl, arith}
 use Rattle.std.specs.Prelude.{All}
 use Rattle.std.specs.List.{range_with_len}
 use Rattle.std.proofs.lemmas.List.Elements.{All-nil, All-push}
