@@ -75,6 +75,18 @@ fn add_record(alloc: Global, chain: &mut ChainBook, record: &[u8]) -> Result<()>
     }
 }
 
+/// Adds the blocks of two records, one a history.
+fn add_records(alloc: Global, chain: &mut ChainBook, first: &[u8], second: &[u8]) -> Result<()> {
+    add_record(alloc, chain, first)?;
+    chain.turn()?;
+    add_record(alloc, chain, second)
+}
+
+/// The lines of the offences of a book.
+fn lines_of(alloc: Global, chain: &ChainBook) -> Result<Vec<u8>> {
+    offence_lines(alloc, &chain.offences(alloc)?)
+}
+
 /// The lines of the offences of two records on a genesis.
 fn answer_of(
     alloc: Global,
@@ -84,10 +96,10 @@ fn answer_of(
     second: &[u8],
 ) -> Result<Vec<u8>> {
     let mut chain = ChainBook::new(alloc, genesis, config)?;
-    add_record(alloc, &mut chain, first)?;
-    chain.turn()?;
-    add_record(alloc, &mut chain, second)?;
-    offence_lines(alloc, &chain.offences(alloc)?)
+    match add_records(alloc, &mut chain, first, second) {
+        Ok(()) => lines_of(alloc, &chain),
+        Err(error) => Err(error),
+    }
 }
 
 /// A file of a case.
