@@ -23,7 +23,7 @@ use crate::ready_balances::balances_of;
 use crate::settle::facts_of;
 use crate::store::Store;
 use crate::store_fields::StoreFields;
-use balance_totals::current_epoch;
+use balance_totals::{current_epoch, keep_active, keep_committees, previous_epoch};
 use bc_preset::Config;
 use bc_words::{ClashKind, NoMemory, StoreStop};
 use beacon_body::{BeaconBlock, SignedBeaconBlock, default_block_body};
@@ -57,6 +57,17 @@ pub fn first_clash(block: &BeaconBlock, root: Root) -> Option<ClashKind>
     clash_with(None, 0, root, block.state_root, block)
 }
 
+/// A share of the first block's state that keeps the active validators and the committees of its epoch: the state of the first
+/// checkpoint and all states behind the block have them of it.
+fn first_state(alloc: Global, state: &State) -> Result<State, NoMemory>
+    ensures { IfOk result (λ first. first ≡ state.now) }
+{
+    let mut first = state.share()?;
+    keep_active(alloc, &mut first, previous_epoch(state))?;
+    keep_committees(alloc, &mut first, current_epoch(state))?;
+    Ok(first)
+}
+
 /// The keeper whose one block is this. The store opens at it unsigned, so that its signature is all zero.
 pub fn first_keeper(
     alloc: Global,
@@ -69,7 +80,7 @@ pub fn first_keeper(
     ensures stepper { IfOk result (λ keeper. keeper.stepper ≡ config.now) }
     ensures blocks { IfOk result (λ keeper. kept_blocks keeper.blocks ≡ kept_of root block.now state.now ∷ []) }
 {
-    let state = state.share()?;
+    let state = first_state(alloc, state)?;
     let message = block.copy(alloc)?;
     let signed = SignedBeaconBlock {
         message,
