@@ -254,6 +254,7 @@ fn nodes_config<F: Shelf, O: Sink>(
 }
 
 /// Reads the configuration, makes the chains, delivers their events to the nodes, and writes what became of them.
+#[inline(never)]
 pub fn nodes<F: Shelf, O: Sink>(
     alloc: Global,
     words: &NodesWords<'_>,

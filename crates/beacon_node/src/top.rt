@@ -21,7 +21,8 @@ use std::alloc::Global;
 use two_chains::drill::drill;
 use two_chains::forensic::forensic;
 
-/// Runs the command that the words are, over these files, and writes its lines.
+/// Runs the command that the words are, over these files, and writes its lines. Each command is a call that isn't inlined: the stack of
+/// one would hold the places of all.
 ///
 /// The words are those behind the program's name: a command and its arguments, as `command_words::COMMANDS` has them. Fewer
 /// than 2^32 - 4 files were opened before.

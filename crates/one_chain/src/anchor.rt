@@ -201,6 +201,7 @@ fn replay_state<F: Shelf, O: Sink>(
 }
 
 /// Reads the configuration, the state, its block and the record.
+#[inline(never)]
 pub fn anchor<F: Shelf, O: Sink>(
     alloc: Global,
     files: &AnchorFiles<'_>,

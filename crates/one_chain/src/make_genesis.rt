@@ -97,6 +97,7 @@ fn make_under<F: Shelf, O: Sink>(
 }
 
 /// Reads the configuration and the deposits, and writes the genesis state that they make.
+#[inline(never)]
 pub fn make_genesis<F: Shelf, O: Sink>(
     alloc: Global,
     files: &GenesisFiles<'_>,

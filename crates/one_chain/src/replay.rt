@@ -74,6 +74,7 @@ fn replay_genesis<F: Shelf, O: Sink>(
 }
 
 /// Reads the configuration, the genesis state and the record.
+#[inline(never)]
 pub fn replay<F: Shelf, O: Sink>(
     alloc: Global,
     files: &ReplayFiles<'_>,

@@ -152,6 +152,7 @@ fn tell_of_file<F: Shelf, O: Sink>(
 }
 
 /// Reads the configuration and the state, and writes the lines of the duties of the epoch.
+#[inline(never)]
 pub fn tell_duties<F: Shelf, O: Sink>(
     alloc: Global,
     words: &DutiesWords<'_>,

@@ -373,6 +373,7 @@ fn drill_config<F: Shelf, O: Sink>(
 }
 
 /// Reads the configuration, makes the chains, and writes what became of them.
+#[inline(never)]
 pub fn drill<F: Shelf, O: Sink>(
     alloc: Global,
     words: &DrillWords<'_>,

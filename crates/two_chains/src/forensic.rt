@@ -237,6 +237,7 @@ fn tell_genesis<F: Shelf, O: Sink>(
 }
 
 /// Reads the configuration, the genesis state and both records, and writes what the command tells of them.
+#[inline(never)]
 pub fn forensic<F: Shelf, O: Sink>(
     alloc: Global,
     report: Report,
