@@ -5,7 +5,7 @@
 const PAGE: usize = 4_096;
 
 /// How many pages of the stack a run needs at most, with room to spare: no call goes deeper for a longer record or a larger state.
-pub const PAGES: u8 = 64;
+pub const PAGES: u8 = 72;
 
 /// Takes so many pages of the stack, and answers how many of them read as they were written, which is no more than these. The place within
 /// a page, and the call within itself, keep the compiler from leaving a page out.
