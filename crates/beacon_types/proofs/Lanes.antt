@@ -4,7 +4,7 @@ use Rattle.std.proofs.lemmas.List.{flat_map_more, take_more, map-append}
 use Rattle.std.proofs.lemmas.List.Elements.{All-head, All-tail}
 use Rattle.std.proofs.lemmas.Simd.{map-map}
 use Rattle.std.specs.List.{flat_map, All}
-use Rattle.pair_lanes.specs.Pairs.{parents, hashes_of}
+use Rattle.hash_tree.specs.Pairs.{parents, hashes_of}
 use Rattle.sha2.specs.Sha256.{sha256}
 use Rattle.hash_tree.specs.Merkle.{hash, merkle_root, merkleize, depth_of, depth_from, chunks_of}
 use Rattle.beacon_types.specs.declared.validator.Validator.{Validator}

@@ -13,8 +13,7 @@ ghost use Rattle.beacon_types.specs.inside.ValidatorChunks.{owner_chunks, owner_
 
 use crate::kept_roots::{KeptRoots, is_alike, kept_or_new};
 use crate::validator::Validator;
-use hash_tree::{Leaf, Root, chunk_root};
-use pair_lanes::{hash_layer, hash_pairs};
+use hash_tree::{Leaf, Root, chunk_root, hash_layer, hash_pairs};
 
 /// A key has 48 bytes.
 fn is_long(key: &[u8; 48])

@@ -2,7 +2,7 @@
 
 use crate::ratio::{Time, now, tell_joined, time_since};
 use anyhow::Result;
-use pair_lanes::hash_pairs;
+use hash_tree::hash_pairs;
 use sha2::{Digest, Sha256};
 use std::alloc::{AllocError, Global};
 use std::time::CpuClock;

@@ -1,7 +1,7 @@
 -- A tree of chunks by its layers: the root of a full layer is that of its parents, one layer lower.
 use Rattle.std.proofs.Common.{◌≡◌, ℕ, zero, suc, ◌+◌, ◌*◌, ◌^◌, ◌<◌, List, [], ◌∷◌, ◌++◌, length, take, drop, get_or, refl, sym, ap, ap₂, ◌∙◌, arith, length-drop}
 use Rattle.std.proofs.lemmas.List.{length-take-le}
-use Rattle.pair_lanes.specs.Pairs.{parents}
+use Rattle.hash_tree.specs.Pairs.{parents}
 use Rattle.hash_tree.specs.Merkle.{hash, merkle_root}
 use Rattle.hash_tree.proofs.Halves.{merkle_root-suc, width_halves}
 

@@ -5,3 +5,15 @@ pub mod Halves
 pub mod Zeros
 pub mod Layers
 pub mod Filled
+pub mod Lanes
+pub mod Schedules
+pub mod Expansion
+pub mod Padding
+pub mod Hashes
+pub mod LayerPairs
+pub mod Majority
+pub mod Choice
+pub mod Maps
+pub mod SourceBlocks
+pub mod Rotations
+pub mod SumOrder

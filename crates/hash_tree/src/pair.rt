@@ -13,7 +13,7 @@ use crate::Root;
 pub fn hash_pair(a: &Root, b: &Root) -> Root
     ensures { result ≡ hash (a.now ++ b.now) }
 {
-    pair_lanes::hash_pair(a, b)
+    crate::single::hash_pair(a, b)
 }
 
 /// The chunk of at most 32 bytes: the bytes, filled up with zeros (simple-serialize.md, "pack").

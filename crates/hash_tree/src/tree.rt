@@ -8,7 +8,7 @@ ghost use Rattle.std.specs.Prelude.{◌≡◌, ℕ, ◌-◌, ◌^◌, ◌<◌, �
 ghost use Rattle.hash_tree.specs.Merkle.{merkle_root};
 
 use crate::{Root, hash_pair, zero_hash};
-use pair_lanes::hash_layer;
+use crate::pairs::hash_layer;
 
 /// A row of chunks that is cut in two without copying it.
 pub trait Row: Copy {

@@ -2,7 +2,7 @@
 
 ghost use Rattle.std.specs.Prelude.{◌≤◌, length};
 
-use pair_lanes::{Seed, hash_pairs};
+use hash_tree::{Seed, hash_pairs};
 use sha2::{Digest, Sha256};
 
 /// Bytes without a pattern, from a number.

@@ -4,7 +4,7 @@ ghost use Rattle.std.specs.Prelude.{◌≡◌, ℕ, ◌+◌, ◌/◌, ◌%◌, �
 ghost use Rattle.shuffling.specs.Shuffling.{pivot_of, source_of};
 
 use crate::round::pivot_in;
-use pair_lanes::Seed;
+use hash_tree::Seed;
 
 /// The pivots of eight rounds from this one on, each below `count`.
 pub fn pivots_from(seed: &Seed, first: u8, count: u64) -> [u64; 8]

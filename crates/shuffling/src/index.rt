@@ -5,8 +5,7 @@ ghost use Rattle.shuffling.specs.Shuffling.{after_round, compute_shuffled_index,
 
 use crate::eights::{page_sources, pivots_from};
 use crate::round::{bit_at, source_at};
-use hash_tree::Root;
-use pair_lanes::Seed;
+use hash_tree::{Root, Seed};
 
 /// The source of the page of a position below `count`: the first page's where there is no other.
 fn source_in(seed: &Root, round: u8, count: u64, first_page: &[u8; 32], position: u64) -> [u8; 32]

@@ -8,8 +8,7 @@ use crate::eights::turn_pivots;
 use crate::items::Items;
 use crate::pages::turn_pages;
 use bc_words::NoMemory;
-use hash_tree::Root;
-use pair_lanes::{Seed, schedule_room};
+use hash_tree::{Root, Seed, schedule_room};
 use std::alloc::Global;
 
 /// One round over the places from `start` up to but not `end`, in which each place's flip is its mirror image.

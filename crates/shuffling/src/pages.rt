@@ -6,7 +6,7 @@
 ghost use Rattle.std.specs.Prelude.{◌≡◌, ℕ, ◌*◌, ◌/◌, ◌%◌, ◌^◌, ◌<◌, ◌≤◌, [], slice_index_or};
 ghost use Rattle.shuffling.specs.Shuffling.{source_of};
 
-use pair_lanes::Seed;
+use hash_tree::Seed;
 use std::simd::u32x8;
 
 /// Hashes the sources of the eight pages among which `page` is.

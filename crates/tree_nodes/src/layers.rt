@@ -5,7 +5,7 @@
 
 ghost use Rattle.std.specs.Prelude.{◌≡◌, ℕ, suc, ◌+◌, ◌*◌, ◌/◌, ◌%◌, ◌<◌, ◌≤◌, ◌^◌, ◌++◌, length, map, IfOk, OnOk};
 ghost use Rattle.std.specs.Vec.Iter.{into_iter_items};
-ghost use Rattle.pair_lanes.specs.Pairs.{parents};
+ghost use Rattle.hash_tree.specs.Pairs.{parents};
 ghost use Rattle.tree_nodes.specs.inside.Layers.{leaves, held, paired, node_roots, IsLayer, ArePaired};
 
 use crate::node::Node;

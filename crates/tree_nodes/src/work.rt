@@ -2,14 +2,13 @@
 
 ghost use Rattle.std.specs.Prelude.{◌≡◌, ℕ, ◌+◌, ◌*◌, ◌-◌, ◌≤◌, ◌^◌, List, length, IfOk, OnOk};
 ghost use Rattle.hash_tree.specs.Merkle.{merkle_root, mix_in_length as mixed_in};
-ghost use Rattle.pair_lanes.specs.Pairs.{parents};
+ghost use Rattle.hash_tree.specs.Pairs.{parents};
 ghost use Rattle.tree_nodes.specs.inside.Nodes.{AreHalves, AreMade, IsPairOf};
 ghost use Rattle.tree_nodes.specs.inside.Lifts.{Lifts};
 
 use crate::node::Node;
 use bc_words::{NoMemory, Steps};
-use hash_tree::{Leaf, Root, hash_pair, mix_in_length, zero_hash};
-use pair_lanes::hash_layer;
+use hash_tree::{Leaf, Root, hash_layer, hash_pair, mix_in_length, zero_hash};
 use std::alloc::Global;
 use std::sync::ledger::Ledger;
 

@@ -1,7 +1,7 @@
 -- All pairs are written.
 use Rattle.std.proofs.Common.{◌≡◌, ◌∙◌, ℕ, List, [], ◌∷◌, take, map, sym, ap, arith}
 use Rattle.std.proofs.lemmas.List.{take_all}
-use Rattle.pair_lanes.specs.Pairs.{hashes_of}
+use Rattle.hash_tree.specs.Pairs.{hashes_of}
 use Rattle.beacon_types.proofs.Lanes.{hashes_with}
 use Rattle.beacon_types.proofs.validator_roots.hash_with.Goals as goal
 

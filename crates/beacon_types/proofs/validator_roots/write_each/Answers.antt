@@ -1,6 +1,6 @@
 -- Three layers over all chunks.
 use Rattle.std.proofs.Common.{◌∙◌, ap}
-use Rattle.pair_lanes.specs.Pairs.{parents}
+use Rattle.hash_tree.specs.Pairs.{parents}
 use Rattle.beacon_types.proofs.Lanes.{roots_of}
 use Rattle.beacon_types.proofs.validator_roots.write_each.Goals as goal
 

@@ -3,7 +3,7 @@ use Rattle.std.proofs.Common.{rules, ◌≡◌, ◌∙◌, ◌+◌, ◌-◌, ◌
 use Rattle.std.proofs.lemmas.Slice.{take-put_mid, overwrites}
 use Rattle.std.proofs.lemmas.List.{take_all}
 use Rattle.std.specs.List.{flat_map}
-use Rattle.pair_lanes.specs.Pairs.{parents}
+use Rattle.hash_tree.specs.Pairs.{parents}
 use Rattle.beacon_types.specs.inside.ValidatorChunks.{key_chunks, root_of_chunks, key_root}
 use Rattle.beacon_types.proofs.Lanes.{block_more, root_more, keys_of}
 use Rattle.beacon_types.proofs.validator_roots.write_keys.Goals as goal

@@ -1,7 +1,7 @@
 -- What is left to pair stands behind the pairs so far.
 use Rattle.std.proofs.Common.{◌≡◌, ◌+◌, ◌*◌, ◌++◌, length, drop}
 use Rattle.std.specs.Vec.Iter.{into_iter_items}
-use Rattle.pair_lanes.specs.Pairs.{parents}
+use Rattle.hash_tree.specs.Pairs.{parents}
 use Rattle.tree_nodes.specs.inside.Layers.{paired, node_roots, ArePaired}
 use Rattle.tree_nodes.proofs.layers.join.Given as goal
 

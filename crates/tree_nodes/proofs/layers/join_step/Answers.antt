@@ -1,6 +1,6 @@
 -- Half as many roots are written.
 use Rattle.std.proofs.Common.{◌/◌, ℕ, List, length, ap, ◌∙◌, arith}
-use Rattle.pair_lanes.specs.Pairs.{parents}
+use Rattle.hash_tree.specs.Pairs.{parents}
 use Rattle.tree_nodes.specs.inside.Layers.{node_roots}
 use Rattle.tree_nodes.proofs.Climbs.{length_roots, length_parents, written_back}
 use Rattle.tree_nodes.proofs.layers.join_step.Goals as goal

@@ -1,0 +1,10 @@
+use Rattle.std.proofs.Common.{ℕ, ◌∙◌, ◌∷◌, ◌++◌, ap₂}
+use Rattle.std.proofs.lemmas.List.{get_or-replicate}
+use Rattle.std.specs.Int.{w32, to_le_bytes}
+use Rattle.sha2.specs.Sha256.{sha256}
+use Rattle.hash_tree.proofs.sources.Seed.hash_sources_in.Goals as goal
+
+pub returns : goal.returns
+returns c j less =
+    c.hash_eight.ensures j less
+    ∙ ap₂ (λ (round page : ℕ). sha256 (c.args.self.now ++ round ∷ to_le_bytes w32 page)) (get_or-replicate 8 j c.args.round 0 less) (c.eight_pages.ensures j less)

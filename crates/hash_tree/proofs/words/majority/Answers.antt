@@ -1,0 +1,6 @@
+use Rattle.std.proofs.Common.{slice_index}
+use Rattle.hash_tree.proofs.Majority.{fewer}
+use Rattle.hash_tree.proofs.words.majority.Goals as goal
+
+pub returns : goal.returns
+returns g c j h = rw (c.xor-3.ensures j h, c.and.ensures j h, c.xor.ensures j h, c.xor-2.ensures j h) (fewer (slice_index c.args.x j) (slice_index c.args.y j) (slice_index c.args.z j))

@@ -1,9 +1,0 @@
--- All hashes are written.
-use Rattle.sha2.specs.Sha256.{sha256}
-use Rattle.pair_lanes.specs.Pairs.{message, hashes_of}
-use Rattle.pair_lanes.proofs.Maps.{mapped}
-use Rattle.pair_lanes.proofs.pairs.hash_pairs.Goals as goal
-
-pub returns : goal.returns
-unfolding hashes_of
-returns c = mapped (λ pair. sha256 (message pair)) c.hash_each.new.out c.args.pairs.now c.hash_each.ensures.room c.hash_each.ensures.each

@@ -1,6 +1,0 @@
-use Rattle.std.proofs.Common.{sym, ◌∙◌}
-use Rattle.pair_lanes.proofs.Schedules.{block_word}
-use Rattle.pair_lanes.proofs.rounds.expand.Goals as goal
-
-pub returns : goal.returns
-returns g c j b less block = c.expand_from.ensures j b less (λ k below. block k below ∙ sym (block_word b 48 k below))

@@ -1,6 +1,0 @@
-use Rattle.pair_lanes.specs.inside.Lanes.{variables}
-use Rattle.pair_lanes.proofs.Schedules.{next_round}
-use Rattle.pair_lanes.proofs.rounds.step.Goals as goal
-
-pub returns : goal.returns
-returns g c j h words less word before = next_round h words (variables j c.args.v) c.args.t _ _ before word (c.round.ensures j less)

@@ -1,6 +1,0 @@
-use Rattle.std.proofs.Common.{sym, refl, add-zero}
-use Rattle.pair_lanes.proofs.Lanes.{below_eight}
-use Rattle.pair_lanes.proofs.sources.eight_rounds.Goals as goal
-
-pub returns : goal.returns
-returns c = below_eight _ (sym (add-zero c.args.first)) refl refl refl refl refl refl refl

@@ -1,7 +1,0 @@
--- The round and the padding's first byte, by computing them.
-use Rattle.pair_lanes.specs.inside.Lanes.{round_tail}
-use Rattle.pair_lanes.proofs.sources.round_head.Goals as goal
-
-pub returns : goal.returns
-unfolding round_tail
-returns c = c.from_be_bytes.ensures

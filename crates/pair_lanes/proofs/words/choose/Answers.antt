@@ -1,5 +1,0 @@
-use Rattle.std.proofs.Common.{refl}
-use Rattle.pair_lanes.proofs.words.choose.Goals as goal
-
-pub returns : goal.returns
-returns g c j h = rw (c.xor.ensures j h, c.and.ensures j h, c.without.ensures j h) refl
