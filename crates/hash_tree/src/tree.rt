@@ -7,8 +7,8 @@
 ghost use Rattle.std.specs.Prelude.{◌≡◌, ℕ, ◌-◌, ◌^◌, ◌<◌, ◌≤◌, List, [], length, get_or, take, drop};
 ghost use Rattle.hash_tree.specs.Merkle.{merkle_root};
 
-use crate::{Root, hash_pair, zero_hash};
 use crate::pairs::hash_layer;
+use crate::{Root, hash_pair, zero_hash};
 
 /// A row of chunks that is cut in two without copying it.
 pub trait Row: Copy {
