@@ -12,4 +12,3 @@ pub mod process_attestation;
 
 pub use counted::committee_size;
 pub use get_attesting_indices::attesting_indices;
-pub use participation::{matching_head, matching_target};

@@ -2,7 +2,7 @@
 
 ghost use Rattle.std.specs.Prelude.{◌≡◌, ◌<◌, length, IfOk};
 ghost use Rattle.bc_words.specs.Outcome.{GivesExactly};
-ghost use Rattle.spec_blocks.specs.Checks.{item_at};
+ghost use Rattle.spec_state.specs.Items.{item_at};
 ghost use Rattle.spec_state.specs.Misc.{effective_balance};
 
 use bc_words::{Refusal, Stop};

@@ -21,7 +21,7 @@ use Rattle.spec_forensics.specs.Histories.{AcceptedBlock, with_event}
 use Rattle.spec_forensics.specs.Clash.{clash_among}
 use Rattle.safety_law.specs.Follows.{Follows, IsAdded}
 use Rattle.safety_law.proofs.Followed.{added_event, begins_followed, block_is_added, event_followed}
-use Rattle.transition.specs.Shown.{shown_all}
+use Rattle.epoch_visitor.specs.Shown.{shown_all}
 use Rattle.forensics.specs.Watches.{PlainWatch, with_entered}
 use Rattle.forensics.proofs.Watches.{watched}
 use Rattle.fork_store.specs.Events.{entered_of}

@@ -29,7 +29,7 @@ use one_chain::{Status, accepted_line, refused_line};
 use record_file::Event;
 use std::alloc::Global;
 use std::snapshot::Snapshot;
-use transition::Watched;
+use epoch_visitor::Watched;
 use two_chains::{are_bytes, store_at};
 
 /// A block that a node's store accepted, and what a book wants of it beside the block itself, which the store keeps.

@@ -33,7 +33,8 @@ use std::alloc::Global;
 use std::marker::Model;
 use std::mem;
 use transition::process_slots::process_slots;
-use transition::{Seen, Step};
+use epoch_visitor::Seen;
+use transition::Step;
 
 /// What a slot begins with.
 #[derive(Drop)]

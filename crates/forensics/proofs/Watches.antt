@@ -4,7 +4,7 @@ use Rattle.spec_state.specs.declared.plain.PlainState.{PlainState}
 use Rattle.spec_state.specs.Accessors.{get_current_epoch}
 use Rattle.spec_forensics.specs.Steady.{is_steady_at}
 use Rattle.spec_forensics.specs.Verdict.{first_moved}
-use Rattle.transition.specs.Shown.{shown_all}
+use Rattle.epoch_visitor.specs.Shown.{shown_all}
 use Rattle.forensics.specs.Watches.{with_entered}
 
 -- what one state more makes of it

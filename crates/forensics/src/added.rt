@@ -7,7 +7,7 @@ use beacon_state::State;
 use hash_tree::Root;
 use std::marker::Model;
 use std::snapshot::Snapshot;
-use transition::Seen;
+use epoch_visitor::Seen;
 
 /// The blocks before, and the last one: its event, its root, itself, the state behind it and the states entered. None has bytes.
 #[derive(Drop)]

@@ -22,7 +22,7 @@ use spec_forensics::Vote;
 use std::alloc::Global;
 use std::marker::Model;
 use std::snapshot::Snapshot;
-use transition::Seen;
+use epoch_visitor::Seen;
 
 /// The blocks that were added, once for each event, which only clauses see, an entry for each of them and its attestations, in their
 /// order, and the checkpoint that the history was closed with.

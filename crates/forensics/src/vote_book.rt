@@ -30,7 +30,7 @@ use hash_tree::Root;
 use spec_forensics::{Offence, Verdict, Vote};
 use std::alloc::Global;
 use std::marker::Model;
-use transition::Seen;
+use epoch_visitor::Seen;
 use vote_spans::CarriedVotes;
 
 /// The votes that the blocks of two histories on one genesis carry, the attestations that they are of, and what a verdict reads of

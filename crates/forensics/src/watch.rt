@@ -12,7 +12,7 @@ use bc_words::NoMemory;
 use beacon_state::State;
 use std::alloc::Global;
 use std::marker::Model;
-use transition::{Seen, Visitor};
+use epoch_visitor::{Seen, Visitor};
 
 /// The states that were shown, which clauses alone see, and the epoch of the first one at which the validators aren't those of
 /// genesis.

@@ -12,7 +12,7 @@ use Rattle.spec_state.specs.declared.plain.PlainState.{PlainState}
 use Rattle.spec_blocks.specs.Checks.{check}
 use Rattle.spec_transition.specs.ProcessSlots.{Stepped}
 use Rattle.spec_transition.specs.StateTransition.{state_transition}
-use Rattle.transition.specs.Shown.{shown_all}
+use Rattle.epoch_visitor.specs.Shown.{shown_all}
 use Rattle.spec_fork_choice.specs.Store.{KeptBlock, Store, block_of, is_kept}
 use Rattle.spec_fork_choice.specs.Slots.{get_current_slot, start_slot_of}
 use Rattle.spec_fork_choice.specs.GetAncestor.{get_ancestor}

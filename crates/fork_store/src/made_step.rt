@@ -8,7 +8,8 @@ use beacon_body::SignedBeaconBlock;
 use beacon_state::State;
 use std::marker::Model;
 use std::snapshot::Snapshot;
-use transition::{Seen, Step};
+use epoch_visitor::Seen;
+use transition::Step;
 
 /// How clauses know the states that a step entered.
 #[derive(Drop)]

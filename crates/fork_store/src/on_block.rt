@@ -25,7 +25,7 @@ ghost use Rattle.spec_fork_choice.specs.Clash.{clash_of};
 ghost use Rattle.fork_store.specs.Events.{Accepts};
 ghost use Rattle.fork_store.specs.Done.{IsDone};
 ghost use Rattle.fork_store.specs.Seen.{StoreStays};
-ghost use Rattle.transition.specs.Shown.{shown_all};
+ghost use Rattle.epoch_visitor.specs.Shown.{shown_all};
 
 use crate::block_in::BlockIn;
 use crate::chain_stepper::ChainStepper;
@@ -52,7 +52,7 @@ use hash_tree::Root;
 use state_keeper::Keeper;
 use std::alloc::Global;
 use transition::state_transition::visit_step;
-use transition::{Seen, Visitor, Watched};
+use epoch_visitor::{Seen, Visitor, Watched};
 
 /// The checks of a block whose parent is the kept block of this number.
 #[tactic(auto, unfolding(crate::specs::inside::Accepted::check_block))]

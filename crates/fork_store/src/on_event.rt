@@ -10,7 +10,7 @@ ghost use Rattle.spec_fork_choice.specs.OnAttesterSlashing.{on_attester_slashing
 ghost use Rattle.spec_fork_choice.specs.OnEvent.{without_block, handle_tick, handle_block, handle_attestation, handle_attester_slashing, on_event};
 ghost use Rattle.fork_store.specs.Events.{AcceptsBy, accepted_of, entered_of, number_of_kind};
 ghost use Rattle.fork_store.specs.Seen.{StoreStays};
-ghost use Rattle.transition.specs.Shown.{shown_all};
+ghost use Rattle.epoch_visitor.specs.Shown.{shown_all};
 
 use crate::block_in::BlockIn;
 use crate::store::Store;
@@ -18,7 +18,7 @@ use bc_words::{Refusal, StoreStop};
 use beacon_body::{Attestation, AttesterSlashing, SignedBeaconBlock};
 use ssz_codec::{Ssz, SszFault};
 use std::alloc::Global;
-use transition::{Seen, Visitor, Watched};
+use epoch_visitor::{Seen, Visitor, Watched};
 
 /// The kinds of events.
 #[derive(Clone, Copy)]
@@ -242,7 +242,7 @@ fn handle_attester_slashing(
 
 impl Store {
     /// Takes an event of a kind as `take_event` does, and shows a visitor each state on which epoch processing is entered by a block.
-    #[tactic(auto, unfolding(spec_fork_choice::specs::OnEvent::on_event, crate::specs::Events::number_of_kind, transition::specs::Shown::shown_all))]
+    #[tactic(auto, unfolding(spec_fork_choice::specs::OnEvent::on_event, crate::specs::Events::number_of_kind, epoch_visitor::specs::Shown::shown_all))]
     fn visit_kind<V: Visitor>(
         &mut self,
         alloc: Global,

@@ -21,7 +21,6 @@ use command_words::DutiesWords;
 use duties::{DutiesFault, DutyStop, duties_of};
 use ssz_codec::SszFault;
 use std::alloc::Global;
-use transition::is_sound;
 
 /// The longest file of a state, in bytes.
 const MAX_STATE_LEN: usize = 1 << 30;

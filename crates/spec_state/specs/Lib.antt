@@ -1,4 +1,5 @@
 pub mod Constants
+pub mod Items
 pub mod Predicates
 pub mod Misc
 pub mod Accessors

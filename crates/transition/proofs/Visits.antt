@@ -23,7 +23,8 @@ use Rattle.spec_transition.specs.ProcessSlots.{Stepped, is_last_of_epoch, end_ep
 use Rattle.spec_transition.proofs.SoundSlots.{next_sound, next_slot_is, next_preset_is}
 use Rattle.spec_transition.specs.StateTransition.{IsLatest, state_transition}
 use Rattle.spec_transition.proofs.HeaderRoot.{block_is_latest}
-use Rattle.transition.specs.Shown.{shown_all, beside, showing, WasShown}
+use Rattle.epoch_visitor.specs.Shown.{shown_all}
+use Rattle.transition.specs.Shown.{beside, showing, WasShown}
 use Rattle.transition.specs.inside.Visits.{end_visited, next_visited, visited, block_visited, transition_visited, IsLeft}
 
 module _ {V : Type 0} (shown : V → PlainState → V) where

@@ -3,13 +3,9 @@ use Rattle.std.specs.Prelude.{◌≡◌, ◌⊎◌, ℕ, ◌-◌, ◌≤◌, Lis
 use Rattle.bc_words.specs.Outcome.{Outcome, done, ◌>>=◌, each_from}
 use Rattle.bc_preset.specs.declared.configuration.ConfigValues.{ConfigValues}
 use Rattle.spec_state.specs.declared.plain.PlainState.{PlainState}
+use Rattle.epoch_visitor.specs.Shown.{shown_all}
 use Rattle.spec_transition.specs.ProcessSlot.{process_slot}
 use Rattle.spec_transition.specs.ProcessSlots.{Stepped, next_slot}
-
--- shown these states, one after another
-unfoldable pub shown_all : {V : Type 0} → (V → PlainState → V) → V → List PlainState → V
-shown_all shown visitor [] = visitor
-shown_all shown visitor (state ∷ states) = shown_all shown (shown visitor state) states
 
 -- a step's state, beside what becomes of a visitor that is shown the states entered on the way to it
 abbrev pub beside : {V : Type 0} → (V → PlainState → V) → V → Stepped → PlainState × V

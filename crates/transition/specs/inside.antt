@@ -2,4 +2,3 @@ pub mod Operations
 pub mod Tests
 pub mod Epochs
 pub mod Visits
-pub mod Memories

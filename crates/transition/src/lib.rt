@@ -11,15 +11,9 @@ pub mod process_block;
 pub mod process_epoch;
 pub mod process_operations;
 pub mod process_slots;
-mod seen;
 mod soundness;
 pub mod state_transition;
 mod step;
-mod visitor;
-mod watched;
 
-pub use seen::Seen;
 pub use soundness::{genesis_is_sound, is_sound, is_sound_within_epoch, sound_within_epoch};
 pub use step::{States, Step};
-pub use visitor::Visitor;
-pub use watched::Watched;

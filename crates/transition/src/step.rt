@@ -5,10 +5,9 @@
 ghost use Rattle.std.specs.Prelude.{◌≡◌, ◌∷◌, ◌++◌, [], length, slice_get, option_map};
 ghost use Rattle.bc_words.specs.Outcome.{Becomes};
 
-use crate::seen::Seen;
-use crate::visitor::Visitor;
 use bc_words::NoMemory;
 use beacon_state::State;
+use epoch_visitor::{Seen, Visitor};
 use std::alloc::Global;
 use std::marker::Model;
 

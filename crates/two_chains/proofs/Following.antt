@@ -33,7 +33,7 @@ use Rattle.spec_forensics.specs.Histories.{AcceptedBlock}
 use Rattle.spec_forensics.specs.Clash.{clash_with, first_accepted, first_or_second, kept_block}
 use Rattle.safety_law.specs.Follows.{Follows, IsAdded}
 use Rattle.safety_law.proofs.Followed.{added_event, block_is_added, event_followed}
-use Rattle.transition.specs.Shown.{shown_all}
+use Rattle.epoch_visitor.specs.Shown.{shown_all}
 use Rattle.forensics.specs.Books.{PlainBook, clash_in, history_of, with_block}
 use Rattle.forensics.specs.Watches.{PlainWatch, with_entered}
 use Rattle.forensics.proofs.Watches.{watched}

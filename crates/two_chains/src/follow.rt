@@ -24,7 +24,7 @@ use hash_tree::Root;
 use one_chain::{Status, unread};
 use record_file::{Event, EventSource, Frames, SourceStop};
 use std::alloc::Global;
-use transition::Watched;
+use epoch_visitor::Watched;
 
 /// Which record is followed.
 #[derive(Clone, Copy)]

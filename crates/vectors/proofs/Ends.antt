@@ -17,7 +17,8 @@ use Rattle.spec_state.specs.States.{state_codec}
 use Rattle.spec_transition.specs.ProcessSlots.{Stepped}
 use Rattle.spec_transition.specs.StateTransition.{state_transition}
 use Rattle.spec_forensics.specs.Histories.{AcceptedBlock, IsStepOn, chain_to, state_behind}
-use Rattle.transition.specs.Shown.{shown_all, showing}
+use Rattle.epoch_visitor.specs.Shown.{shown_all}
+use Rattle.transition.specs.Shown.{showing}
 use Rattle.transition.proofs.Visits.{stops_shown}
 use Rattle.forensics.specs.Books.{PlainBook, begun, history_of, with_block}
 use Rattle.forensics.specs.Watches.{PlainWatch, with_entered}

@@ -2,13 +2,14 @@
 
 use crate::calls::given::Given;
 use anyhow::{Result, bail};
-use attest_ops::{attesting_indices, matching_head, matching_target};
+use attest_ops::attesting_indices;
 use balance_totals::{committees_of_epoch, current_epoch, previous_epoch};
 use bc_words::Stop;
 use beacon_body::Attestation;
 use beacon_state::State;
 use beacon_types::PendingAttestation;
 use committees::EpochCommittees;
+use participation::{matching_head, matching_target};
 use ssz_codec::Ssz;
 use std::alloc::Global;
 

@@ -20,15 +20,21 @@ pub enum Memory {
 }
 
 /// States that were shown, in order. Clauses see the list of plain states; the program keeps none of them.
-#[derive(Drop)]
 pub struct Seen {
     memory: Memory,
+}
+
+// Written by hand, so that a call that lets them go is one call, and not one for each form of a memory.
+impl Drop for Seen {
+    fn drop(self) {
+        let Seen { memory: _memory } = self;
+    }
 }
 
 impl Model for Seen {
     ghost use Rattle.std.specs.Prelude.{List};
     ghost use Rattle.spec_state.specs.declared.plain.PlainState.{PlainState};
-    ghost use Rattle.transition.specs.inside.Memories.{remembered};
+    ghost use Rattle.epoch_visitor.specs.inside.Memories.{remembered};
 
     ghost Value = { List PlainState };
 

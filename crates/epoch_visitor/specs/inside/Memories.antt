@@ -1,8 +1,8 @@
 -- The states that a memory of no bytes stands for.
 use Rattle.std.specs.Prelude.{List, [], ◌∷◌, ◌++◌}
 use Rattle.spec_state.specs.declared.plain.PlainState.{PlainState}
-use Rattle.transition.specs.declared.seen.Memory.{Memory}
-use Rattle.transition.specs.declared.seen.Memory.TheVariants.{Empty, More'}
+use Rattle.epoch_visitor.specs.declared.seen.Memory.{Memory}
+use Rattle.epoch_visitor.specs.declared.seen.Memory.TheVariants.{Empty, More'}
 
 unfoldable pub remembered : Memory → List PlainState
 remembered Empty = []

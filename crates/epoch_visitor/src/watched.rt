@@ -15,7 +15,8 @@ use std::alloc::Global;
 pub struct Watched<V> {
     /// The visitor.
     pub visitor: V,
-    pub(crate) seen: Seen,
+    /// The states that the last call showed it. None is kept.
+    pub seen: Seen,
 }
 
 impl<V> Watched<V> {
