@@ -9,7 +9,7 @@ use Rattle.bc_words.specs.declared.stop.Stop.{Stop}
 use Rattle.bc_words.specs.declared.stop.Stop.TheVariants as stops
 use Rattle.bc_preset.specs.Presets.{IsPreset}
 use Rattle.beacon_types.specs.declared.attestation_data.AttestationData.{AttestationData}
-use Rattle.beacon_body.specs.declared.attestation.Attestation.{Attestation}
+use Rattle.beacon_types.specs.declared.attestation.Attestation.{Attestation}
 use Rattle.committees.specs.Committees.{Committees, compute_committee, committee_count_per_slot, member_count}
 use Rattle.committees.proofs.Parts.{active_are_members}
 use Rattle.spec_state.specs.declared.plain.PlainState.{PlainState}

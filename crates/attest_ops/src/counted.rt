@@ -17,9 +17,8 @@ ghost use Rattle.attest_ops.specs.inside.Counted.{committee_len, attested_among}
 use balance_totals::{active_are_indices, current_epoch};
 use bc_preset::Preset;
 use bc_words::{Refusal, Stop};
-use beacon_body::Attestation;
 use beacon_state::State;
-use beacon_types::{AggregationBits, AttestationData};
+use beacon_types::{AggregationBits, Attestation, AttestationData};
 use committees::committee_count_per_slot;
 use ssz_codec::BitList;
 

@@ -8,9 +8,8 @@ ghost use Rattle.attest_ops.specs.inside.Pending.{full_or_empty, with_current_at
 
 use balance_totals::current_epoch;
 use bc_words::{NoMemory, Refusal, Stop};
-use beacon_body::Attestation;
 use beacon_state::State;
-use beacon_types::{Checkpoint, PendingAttestation, same_checkpoint};
+use beacon_types::{Attestation, Checkpoint, PendingAttestation, same_checkpoint};
 
 /// How many attestations a list may have.
 #[tactic(auto, using(bc_preset::proofs::Bounds::preset_bounds))]

@@ -12,9 +12,8 @@ use crate::counted::counted_in;
 use crate::pending::{pending_of, push_attested};
 use balance_totals::{current_epoch, previous_epoch};
 use bc_words::{Refusal, Stop, checked_add, checked_sub};
-use beacon_body::Attestation;
 use beacon_state::State;
-use beacon_types::AttestationData;
+use beacon_types::{Attestation, AttestationData};
 use committees::EpochCommittees;
 
 /// The epoch of a slot.

@@ -8,7 +8,7 @@ use Rattle.hash_tree.specs.Merkle.{hash}
 use Rattle.bc_preset.specs.declared.configuration.ConfigValues.{ConfigValues}
 use Rattle.bc_words.specs.Events.{EventOutcome, accepted, event_refused}
 use Rattle.bc_words.specs.declared.refusal.Refusal.{Refusal}
-use Rattle.beacon_body.specs.declared.block.BeaconBlock.{BeaconBlock}
+use Rattle.beacon_types.specs.declared.block.BeaconBlock.{BeaconBlock}
 use Rattle.ssz_codec.specs.Lawful.{IsBytes}
 use Rattle.record_file.specs.Record as record_file
 use Rattle.record_file.specs.declared.event.Event.{Event}

@@ -8,7 +8,7 @@ use Rattle.std.proofs.lemmas.Simd.{map-map}
 use Rattle.std.proofs.lemmas.List.Elements.{All-get_or, Contains-get_or}
 use Rattle.bc_preset.specs.declared.configuration.ConfigValues.{ConfigValues}
 use Rattle.bc_words.specs.declared.store_stop.ClashKind.TheVariants.{Kept}
-use Rattle.beacon_body.specs.declared.block.BeaconBlock.{BeaconBlock}
+use Rattle.beacon_types.specs.declared.block.BeaconBlock.{BeaconBlock}
 use Rattle.spec_state.specs.declared.plain.PlainState.{PlainState}
 use Rattle.spec_fork_choice.specs.Store.{KeptBlock, block_of}
 use Rattle.spec_forensics.specs.Histories.{AcceptedBlock, IsHistory, IsStepOn}

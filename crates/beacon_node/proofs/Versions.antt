@@ -4,7 +4,7 @@ use Rattle.bc_preset.specs.Configs.{config_of}
 use Rattle.bc_preset.specs.declared.configuration.ConfigValues.{ConfigValues}
 use Rattle.bc_preset.specs.declared.faults.ConfigFault.{ConfigFault}
 use Rattle.bc_words.specs.declared.store_stop.ClashKind.{ClashKind}
-use Rattle.beacon_body.specs.declared.block.BeaconBlock.{BeaconBlock}
+use Rattle.beacon_types.specs.declared.block.BeaconBlock.{BeaconBlock}
 use Rattle.record_file.specs.Record.{Events, events_of, magic}
 use Rattle.record_file.specs.declared.version.Version.TheVariants.{One, Two}
 use Rattle.record_file.proofs.Alike.{reads_alike}

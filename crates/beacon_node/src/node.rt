@@ -19,8 +19,9 @@ ghost use Rattle.beacon_node.specs.inside.Nodes.{AreKept, CanKeep, HasRun, IsNod
 use crate::node_lines::{digest_of, node_line};
 use bc_preset::Config;
 use bc_words::{NoMemory, Refusal, StoreStop};
-use beacon_body::BeaconBlock;
 use beacon_state::State;
+use beacon_types::BeaconBlock;
+use epoch_visitor::Watched;
 use forensics::Watch;
 use fork_store::{Accepted, BlockIn, Store};
 use hash_tree::Root;
@@ -29,7 +30,6 @@ use one_chain::{Status, accepted_line, refused_line};
 use record_file::Event;
 use std::alloc::Global;
 use std::snapshot::Snapshot;
-use epoch_visitor::Watched;
 use two_chains::{are_bytes, store_at};
 
 /// A block that a node's store accepted, and what a book wants of it beside the block itself, which the store keeps.

@@ -7,8 +7,7 @@ ghost use Rattle.spec_state.specs.Genesis.{is_genesis_header as is_header, is_ze
 
 use crate::state::State;
 use bc_preset::constants::FAR_FUTURE_EPOCH;
-use beacon_body::empty_body_root;
-use beacon_types::{BeaconBlockHeader, Checkpoint, Validator};
+use beacon_types::{BeaconBlockHeader, Checkpoint, Validator, empty_body_root};
 use spec_state::{GenesisFault, ValidatorFault};
 use state_parts::{Numbers, Values};
 

@@ -1,4 +1,5 @@
 pub mod Containers
+pub mod Blocks
 pub mod Equality
 pub mod Limits
 pub mod Slashable

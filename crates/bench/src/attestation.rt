@@ -9,8 +9,8 @@ use anyhow::Result;
 use attest_ops::process_attestation::process_counted_attestation;
 use balance_totals::{count_active, current_epoch, previous_epoch};
 use bc_words::Stop;
-use beacon_body::Attestation;
 use beacon_state::State;
+use beacon_types::Attestation;
 use ssz_codec::Ssz;
 use std::time::CpuClock;
 

@@ -5,7 +5,7 @@ use crate::hashes::hash_pairs_alone;
 use crate::ratio::{Time, now, tell_joined, tell_number, time_since};
 use crate::states::{put_offset, put_vote};
 use anyhow::Result;
-use beacon_body::SignedBeaconBlock;
+use beacon_types::SignedBeaconBlock;
 use hash_tree::Leaf;
 use ssz_codec::Ssz;
 use std::alloc::{AllocError, Global};

@@ -4,8 +4,8 @@
 
 use crate::ratio::{Time, now, tell_joined, tell_number, tell_text, time_since};
 use anyhow::Result;
+use committees::shuffle_all;
 use sha2::{Digest, Sha256};
-use shuffling::shuffle_all;
 use std::alloc::{AllocError, Global};
 use std::time::CpuClock;
 

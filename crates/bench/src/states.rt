@@ -4,8 +4,8 @@
 use crate::ratio::{Time, now, time_since};
 use anyhow::Result;
 use bc_preset::Preset;
-use beacon_body::empty_body_root;
 use beacon_state::State;
+use beacon_types::empty_body_root;
 use std::alloc::{AllocError, Global};
 use std::time::CpuClock;
 

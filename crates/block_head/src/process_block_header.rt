@@ -6,9 +6,8 @@ ghost use Rattle.spec_blocks.specs.ProcessBlockHeader.{header_of, process_block_
 
 use balance_totals::validator_at;
 use bc_words::{Refusal, Stop};
-use beacon_body::BeaconBlock;
 use beacon_state::State;
-use beacon_types::BeaconBlockHeader;
+use beacon_types::{BeaconBlock, BeaconBlockHeader};
 use hash_tree::Leaf;
 
 /// The header of the block, whose state root is zero until the next slot.

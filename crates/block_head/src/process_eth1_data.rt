@@ -6,9 +6,8 @@ ghost use Rattle.spec_state.specs.States.{votes_limit};
 ghost use Rattle.spec_blocks.specs.ProcessEth1Data.{same_eth1_data, count_votes, process_eth1_data};
 
 use bc_words::Stop;
-use beacon_body::BeaconBlockBody;
 use beacon_state::State;
-use beacon_types::Eth1Data;
+use beacon_types::{BeaconBlockBody, Eth1Data};
 
 /// Whether the two are equal.
 fn same_eth1_data(a: &Eth1Data, b: &Eth1Data) -> bool

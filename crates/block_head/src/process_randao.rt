@@ -7,8 +7,8 @@ ghost use Rattle.spec_blocks.specs.ProcessRandao.{xor, process_randao};
 
 use balance_totals::current_epoch;
 use bc_words::NoMemory;
-use beacon_body::BeaconBlockBody;
 use beacon_state::State;
+use beacon_types::BeaconBlockBody;
 use committees::Lookup;
 use hash_tree::Root;
 use sha2::{Digest, Sha256};

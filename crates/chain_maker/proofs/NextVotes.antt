@@ -1,8 +1,8 @@
 -- The next of the attestations that are given one after another.
 use Rattle.std.proofs.Common.{◌≡◌, ◌∙◌, ℕ, zero, suc, ◌+◌, ◌<◌, List, [], ◌∷◌, map, drop, length, slice_index_or, subst, Some, Ok, refl, sym, ap, add-one, arith}
 use Rattle.std.specs.List.{slice_get}
-use Rattle.beacon_body.specs.declared.attestation.Attestation.{Attestation}
-use Rattle.beacon_body.specs.Containers.{attestation_codec}
+use Rattle.beacon_types.specs.declared.attestation.Attestation.{Attestation}
+use Rattle.beacon_types.specs.Blocks.{attestation_codec}
 use Rattle.spec_drill.specs.Make.{kind_of, payload_of}
 use Rattle.chain_maker.specs.declared.votes.Source.{Source}
 use Rattle.chain_maker.specs.declared.votes.Source.TheVariants.{Wire, Carried}

@@ -11,8 +11,8 @@ use Rattle.bc_words.specs.declared.stop.Stop.TheVariants as stops
 use Rattle.bc_preset.specs.declared.configuration.ConfigValues.{ConfigValues}
 use Rattle.bc_preset.specs.declared.presets.Preset.{Preset}
 use Rattle.bc_preset.proofs.Bounds.{preset_bounds}
-use Rattle.beacon_body.specs.declared.attestation.Attestation.{Attestation}
-use Rattle.beacon_body.specs.Containers.{signed_block_codec}
+use Rattle.beacon_types.specs.declared.attestation.Attestation.{Attestation}
+use Rattle.beacon_types.specs.Blocks.{signed_block_codec}
 use Rattle.spec_state.specs.declared.plain.PlainState.{PlainState}
 use Rattle.spec_state.specs.Genesis.{header_root_of, genesis_fault}
 use Rattle.spec_blocks.proofs.Done.{same_value}

@@ -7,10 +7,10 @@ ghost use Rattle.spec_drill.specs.MakeBlock.{body_of, unrooted, make_block};
 use crate::genesis::ZERO_ETH1;
 use crate::plan::{Plan, slot_digest};
 use bc_words::{NoMemory, Stop};
-use beacon_body::{
+use beacon_state::State;
+use beacon_types::{
     Attestations, BeaconBlock, BeaconBlockBody, SignedBeaconBlock, default_block_body,
 };
-use beacon_state::State;
 use hash_tree::Root;
 use std::alloc::Global;
 use std::marker::Model;

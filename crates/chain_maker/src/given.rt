@@ -2,7 +2,7 @@
 
 ghost use Rattle.std.specs.Prelude.{◌≡◌, None};
 
-use beacon_body::SignedBeaconBlock;
+use beacon_types::SignedBeaconBlock;
 use record_file::Event;
 use transition::Step;
 

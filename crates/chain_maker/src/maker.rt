@@ -25,16 +25,16 @@ use crate::plan::Plan;
 use crate::votes::{Source, Votes};
 use bc_preset::Config;
 use bc_words::{NoMemory, Stop};
-use beacon_body::Attestations;
 use beacon_state::State;
+use beacon_types::Attestations;
+use epoch_visitor::Seen;
 use record_file::{Event, Payload};
 use ssz_codec::{Ssz, Writer};
 use std::alloc::Global;
 use std::marker::Model;
 use std::mem;
-use transition::process_slots::process_slots;
-use epoch_visitor::Seen;
 use transition::Step;
+use transition::process_slots::process_slots;
 
 /// What a slot begins with.
 #[derive(Drop)]

@@ -5,7 +5,7 @@ ghost use Rattle.std.specs.Prelude.{◌≡◌, []};
 ghost use Rattle.chain_maker.specs.inside.Votes.{NextVote, pending_of, source_kind};
 
 use bc_words::NoMemory;
-use beacon_body::Attestations;
+use beacon_types::Attestations;
 use record_file::{Event, Payload};
 use ssz_codec::{Items, Ssz, VariableList};
 use std::alloc::Global;

@@ -3,8 +3,8 @@ use Rattle.std.proofs.Common.{◌≡◌, ℕ, suc, ◌+◌, ◌-◌, ◌<◌, �
 use Rattle.std.specs.List.{range_with_len}
 use Rattle.std.proofs.lemmas.Bool.{cases_order}
 use Rattle.std.proofs.lemmas.List.FromFn.{length-map-range_with_len, get_or-map-range_with_len}
-use Rattle.shuffling.specs.Shuffling.{compute_shuffled_index}
-use Rattle.shuffling.proofs.Rounds.{place_below, one_to_one, index_at, index_below, place_at_index}
+use Rattle.committees.specs.Shuffling.{compute_shuffled_index}
+use Rattle.committees.proofs.Rounds.{place_below, one_to_one, index_at, index_below, place_at_index}
 use Rattle.committees.specs.Committees.{committee_start, compute_committee, StandsAt, StandOnce, IsWithoutRepeats}
 use Rattle.committees.proofs.Parts.{first_monotone, first_zero, first_all, first_within, part_of}
 

@@ -10,7 +10,7 @@ use Rattle.std.proofs.Math.Nat.{div-mul-le_self, zero-div, mul-div_cancel, mul-l
 use Rattle.bc_preset.specs.declared.presets.Preset.{Preset}
 use Rattle.bc_preset.specs.Presets.{IsPreset}
 use Rattle.bc_preset.proofs.Bounds.{preset_bounds}
-use Rattle.shuffling.specs.Shuffling.{compute_shuffled_index, shuffled_list}
+use Rattle.committees.specs.Shuffling.{compute_shuffled_index, shuffled_list}
 use Rattle.committees.specs.Committees.{Committees, committees_of, committee_count_per_slot, committee_start, compute_committee, member_count}
 use Rattle.committees.specs.inside.Split.{split_evenly, split_committees}
 

@@ -3,7 +3,7 @@
 use Rattle.std.specs.Prelude.{◌≡◌, ◌<◌, ℕ, ◌+◌, ◌-◌, ◌*◌, ◌/◌, ◌%◌, min, max, List, [], length, map, slice_index, slice_index_or, slice_get, Option}
 use Rattle.std.specs.List.{range_with_len, sum_by}
 use Rattle.bc_preset.specs.declared.presets.Preset.{Preset}
-use Rattle.shuffling.specs.Shuffling.{compute_shuffled_index}
+use Rattle.committees.specs.Shuffling.{compute_shuffled_index}
 
 -- get_committee_count_per_slot, by the number of active validators
 unfoldable pub committee_count_per_slot : Preset → ℕ → ℕ

@@ -1,3 +1,4 @@
+pub mod Shuffling
 pub mod Committees
 pub mod Proposers
 pub mod Seeds

@@ -6,7 +6,7 @@ use Rattle.bc_words.specs.declared.refusal.Refusal.TheVariants.{NoActive}
 use Rattle.bc_words.specs.declared.stop.Limit.TheVariants.{Proposer}
 use Rattle.bc_preset.specs.declared.presets.Preset.{Preset}
 use Rattle.hash_tree.specs.Merkle.{hash, uint_to_bytes}
-use Rattle.shuffling.specs.Shuffling.{compute_shuffled_index}
+use Rattle.committees.specs.Shuffling.{compute_shuffled_index}
 
 -- candidate number i: the validator at the shuffled index of i % total
 unfoldable pub candidate : Preset → List ℕ → List ℕ → ℕ → ℕ

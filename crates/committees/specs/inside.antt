@@ -1,3 +1,5 @@
 -- Words of this crate's own contracts.
+pub mod Pass
+pub mod Planes
 pub mod Split
 pub mod Passing

@@ -4,10 +4,10 @@ ghost use Rattle.std.specs.Prelude.{◌≡◌, ◌↔◌, IsNone, ◌*◌, ◌%�
 ghost use Rattle.bc_preset.specs.Presets.{IsPreset};
 ghost use Rattle.committees.specs.Committees.{committees_of, committee_count_per_slot, committee_at, committee_start, member_count, StandOnce, IsWithoutRepeats};
 
+use crate::list::shuffle_all;
 use bc_preset::Preset;
 use bc_words::NoMemory;
 use hash_tree::Root;
-use shuffling::shuffle_all;
 use std::alloc::Global;
 use std::marker::Model;
 

@@ -7,12 +7,12 @@ ghost use Rattle.bc_preset.specs.Presets.{IsPreset};
 ghost use Rattle.committees.specs.Proposers.{candidate, random_byte, weighs_enough, candidate_passes, candidate_found, proposer_below};
 ghost use Rattle.committees.specs.inside.Passing.{Passing};
 
+use crate::index::shuffled_index;
 use crate::lookup::Lookup;
 use bc_preset::Preset;
 use bc_words::{Limit, Refusal, Stop, checked_mul};
 use hash_tree::Root;
 use sha2::{Digest, Sha256};
-use shuffling::shuffled_index;
 
 /// The candidate with number `i`: one shuffled index, whatever the length of the list.
 #[tactic(auto, unfolding(crate::specs::Proposers::candidate))]

@@ -1,7 +1,7 @@
 -- The attestations of a block, one after the other.
 use Rattle.std.proofs.Common.{◌≡◌, ◌∙◌, ℕ, zero, suc, ◌+◌, ◌<◌, List, [], ◌∷◌, ◌++◌, length, get_or, take, drop, refl, sym, ap, subst, arith, append_assoc}
 use Rattle.std.proofs.lemmas.List.{take_more, drop_more}
-use Rattle.beacon_body.specs.declared.attestation.Attestation.{Attestation}
+use Rattle.beacon_types.specs.declared.attestation.Attestation.{Attestation}
 use Rattle.vote_spans.specs.Room.{all_in}
 use Rattle.vote_spans.specs.Carried.{Carried, Held, Holds, HasRoomFor, place_of}
 use Rattle.vote_spans.specs.declared.place.Place.{Place}

@@ -11,7 +11,7 @@ use Rattle.beacon_types.specs.declared.checkpoint.Checkpoint.{Checkpoint}
 use Rattle.beacon_types.specs.Equality.{same_root}
 use Rattle.beacon_types.specs.declared.indexed_attestation.IndexedAttestation.{IndexedAttestation}
 use Rattle.beacon_types.proofs.Equality.{data_decides}
-use Rattle.beacon_body.specs.declared.attestation.Attestation.{Attestation}
+use Rattle.beacon_types.specs.declared.attestation.Attestation.{Attestation}
 use Rattle.ffg_law.specs.Links.{IsOneOf}
 use Rattle.spec_state.specs.declared.plain.PlainState.{PlainState}
 use Rattle.spec_forensics.specs.declared.vote.Vote.{Vote}

@@ -11,7 +11,7 @@ use Rattle.bc_preset.proofs.Bounds.{preset_bounds}
 use Rattle.committees.specs.Committees.{StandOnce as StandOnceIn, compute_committee}
 use Rattle.committees.proofs.Members.{stand_once}
 use Rattle.committees.proofs.Parts.{some_committees}
-use Rattle.beacon_body.specs.declared.attestation.Attestation.{Attestation}
+use Rattle.beacon_types.specs.declared.attestation.Attestation.{Attestation}
 use Rattle.spec_state.specs.declared.plain.PlainState.{PlainState}
 use Rattle.spec_state.specs.Constants.{domain_beacon_attester}
 use Rattle.spec_state.specs.Misc.{compute_epoch_at_slot}

@@ -2,7 +2,7 @@
 use Rattle.std.proofs.Common.{◌≡◌, ◌∙◌, ℕ, ◌+◌, List, [], ◌∷◌, ◌++◌, map, length, Result, Ok, Err, IfOk, refl, sym, ap, ap₂, subst}
 use Rattle.std.specs.List.{All, flat_map, enumerate_from}
 use Rattle.std.proofs.lemmas.Grind.{flat_map-append}
-use Rattle.beacon_body.specs.declared.attestation.Attestation.{Attestation}
+use Rattle.beacon_types.specs.declared.attestation.Attestation.{Attestation}
 use Rattle.spec_state.specs.declared.plain.PlainState.{PlainState}
 use Rattle.spec_forensics.specs.declared.vote.Vote.{Vote}
 use Rattle.spec_forensics.specs.Histories.{AcceptedBlock}

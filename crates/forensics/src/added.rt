@@ -2,12 +2,12 @@
 
 ghost use Rattle.std.specs.Prelude.{◌≡◌, [], ◌∷◌};
 
-use beacon_body::BeaconBlock;
 use beacon_state::State;
+use beacon_types::BeaconBlock;
+use epoch_visitor::Seen;
 use hash_tree::Root;
 use std::marker::Model;
 use std::snapshot::Snapshot;
-use epoch_visitor::Seen;
 
 /// The blocks before, and the last one: its event, its root, itself, the state behind it and the states entered. None has bytes.
 #[derive(Drop)]

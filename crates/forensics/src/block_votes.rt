@@ -4,7 +4,7 @@ ghost use Rattle.std.specs.Prelude.{◌≡◌, ◌≤◌, ◌^◌, ◌++◌, Lis
 ghost use Rattle.vote_spans.specs.Carried.{Carried, Holds, HasRoomFor};
 ghost use Rattle.forensics.specs.inside.BlockVotes.{carried_from};
 
-use beacon_body::Attestation;
+use beacon_types::Attestation;
 use hash_tree::Root;
 use vote_spans::{CarriedVotes, Place};
 

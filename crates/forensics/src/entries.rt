@@ -6,9 +6,8 @@ ghost use Rattle.std.specs.Prelude.{◌≡◌, None, length, reverse};
 ghost use Rattle.beacon_types.specs.Equality.{same_root};
 ghost use Rattle.forensics.specs.inside.Entries.{reaches, move_or, earliest, finalizing};
 
-use beacon_body::BeaconBlock;
 use beacon_state::State;
-use beacon_types::{Checkpoint, same_checkpoint};
+use beacon_types::{BeaconBlock, Checkpoint, same_checkpoint};
 use hash_tree::Root;
 
 /// What is kept of an accepted block.

@@ -14,15 +14,14 @@ use crate::carrier::{Carrier, named_among};
 use crate::entries::{Entry, earliest_move, entry_of, finalizing_root, is_on_chain};
 use crate::kept_attestation::KeptAttestation;
 use bc_words::NoMemory;
-use beacon_body::BeaconBlock;
 use beacon_state::State;
-use beacon_types::Checkpoint;
+use beacon_types::{BeaconBlock, Checkpoint};
+use epoch_visitor::Seen;
 use hash_tree::Root;
 use spec_forensics::Vote;
 use std::alloc::Global;
 use std::marker::Model;
 use std::snapshot::Snapshot;
-use epoch_visitor::Seen;
 
 /// The blocks that were added, once for each event, which only clauses see, an entry for each of them and its attestations, in their
 /// order, and the checkpoint that the history was closed with.

@@ -11,8 +11,7 @@ ghost use Rattle.forensics.specs.inside.Carriers.{attesters_among, attested_amon
 use crate::indices::in_order;
 use attest_ops::attesting_indices;
 use bc_words::NoMemory;
-use beacon_body::Attestation;
-use beacon_types::{AttestationData, AttestingIndices, IndexedAttestation};
+use beacon_types::{Attestation, AttestationData, AttestingIndices, IndexedAttestation};
 use committees::EpochCommittees;
 use spec_forensics::Vote;
 use ssz_codec::{BitList, VariableSsz};

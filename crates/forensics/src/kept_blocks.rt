@@ -11,8 +11,8 @@ ghost use Rattle.spec_forensics.specs.Clash.{first_accepted, clash_among};
 ghost use Rattle.forensics.specs.inside.Kept.{with_kept};
 
 use bc_words::NoMemory;
-use beacon_body::{BeaconBlock, default_block_body};
 use beacon_state::State;
+use beacon_types::{BeaconBlock, default_block_body};
 use hash_tree::Root;
 use indexmap::IndexMap;
 use std::alloc::Global;

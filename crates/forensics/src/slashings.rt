@@ -12,8 +12,7 @@ ghost use Rattle.spec_slasher.specs.Operations.{is_listed, each_once, pair_of, o
 
 use crate::vote_book::VoteBook;
 use bc_words::NoMemory;
-use beacon_body::AttesterSlashing;
-use beacon_types::IndexedAttestation;
+use beacon_types::{AttesterSlashing, IndexedAttestation};
 use spec_forensics::Offence;
 use std::alloc::Global;
 

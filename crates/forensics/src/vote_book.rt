@@ -23,14 +23,13 @@ use crate::kept_attestation::KeptAttestation;
 use crate::watch::Watch;
 use bc_preset::Config;
 use bc_words::NoMemory;
-use beacon_body::BeaconBlock;
 use beacon_state::State;
-use beacon_types::{Checkpoint, IndexedAttestation};
+use beacon_types::{BeaconBlock, Checkpoint, IndexedAttestation};
+use epoch_visitor::Seen;
 use hash_tree::Root;
 use spec_forensics::{Offence, Verdict, Vote};
 use std::alloc::Global;
 use std::marker::Model;
-use epoch_visitor::Seen;
 use vote_spans::CarriedVotes;
 
 /// The votes that the blocks of two histories on one genesis carry, the attestations that they are of, and what a verdict reads of

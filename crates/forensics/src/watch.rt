@@ -10,9 +10,9 @@ use crate::steady::is_steady;
 use balance_totals::current_epoch;
 use bc_words::NoMemory;
 use beacon_state::State;
+use epoch_visitor::{Seen, Visitor};
 use std::alloc::Global;
 use std::marker::Model;
-use epoch_visitor::{Seen, Visitor};
 
 /// The states that were shown, which clauses alone see, and the epoch of the first one at which the validators aren't those of
 /// genesis.

@@ -4,7 +4,7 @@ use Rattle.std.specs.Cmp.Lexicographic.{bytes_decides}
 use Rattle.std.proofs.lemmas.Bool.{ltb-true}
 use Rattle.beacon_types.specs.Equality.{same_root}
 use Rattle.beacon_types.specs.declared.checkpoint.Checkpoint.{Checkpoint}
-use Rattle.beacon_body.specs.declared.block.BeaconBlock.{BeaconBlock}
+use Rattle.beacon_types.specs.declared.block.BeaconBlock.{BeaconBlock}
 use Rattle.block_array.specs.PlainArray.{PlainArray}
 use Rattle.spec_state.specs.declared.plain.PlainState.{PlainState}
 use Rattle.spec_blocks.proofs.Done.{chosen}

@@ -5,7 +5,7 @@ use Rattle.std.specs.Option.{option_map_or}
 use Rattle.bc_words.specs.Outcome.{Becomes}
 use Rattle.bc_words.specs.declared.stop.NoMemory.{NoMemory}
 use Rattle.beacon_types.specs.Equality.{same_root}
-use Rattle.beacon_body.specs.declared.block.BeaconBlock.{BeaconBlock}
+use Rattle.beacon_types.specs.declared.block.BeaconBlock.{BeaconBlock}
 use Rattle.block_array.specs.PlainArray.{PlainArray, slot_at}
 use Rattle.block_array.specs.Calls.{with_node, with_spare}
 use Rattle.spec_state.specs.declared.plain.PlainState.{PlainState}

@@ -13,9 +13,9 @@ use Rattle.bc_words.specs.declared.refusal.Refusal.TheVariants.{FcTargetUnknown}
 use Rattle.bc_preset.specs.declared.presets.Preset.{Preset}
 use Rattle.bc_preset.specs.declared.configuration.ConfigValues.{ConfigValues}
 use Rattle.beacon_types.specs.declared.checkpoint.Checkpoint.{Checkpoint}
-use Rattle.beacon_body.specs.Containers.{block_codec}
-use Rattle.beacon_body.specs.declared.block.BeaconBlock.{BeaconBlock}
-use Rattle.beacon_body.specs.declared.signed_block.SignedBeaconBlock.{SignedBeaconBlock}
+use Rattle.beacon_types.specs.Blocks.{block_codec}
+use Rattle.beacon_types.specs.declared.block.BeaconBlock.{BeaconBlock}
+use Rattle.beacon_types.specs.declared.signed_block.SignedBeaconBlock.{SignedBeaconBlock}
 use Rattle.spec_state.specs.declared.plain.PlainState.{PlainState}
 use Rattle.spec_state.specs.Soundness.{IsSound}
 use Rattle.spec_transition.specs.ProcessSlots.{Stepped}

@@ -1,6 +1,6 @@
 -- An attestation changes the latest messages of a store alone, and an attester slashing the equivocating validators.
 use Rattle.std.proofs.Common.{◌≡◌, ℕ, Bool, true, false, cond, List, [], ◌∷◌, fold, refl, ap, ◌∙◌}
-use Rattle.beacon_body.specs.declared.attestation.Attestation.{Attestation}
+use Rattle.beacon_types.specs.declared.attestation.Attestation.{Attestation}
 use Rattle.bc_words.specs.Indices.{with_index}
 use Rattle.spec_fork_choice.specs.Store.{LatestMessage, Store, is_equivocating}
 use Rattle.spec_fork_choice.specs.UpdateLatestMessages.{with_message, is_news, update_latest_message, update_latest_messages}

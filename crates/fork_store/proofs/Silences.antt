@@ -12,7 +12,7 @@ use Rattle.bc_words.specs.declared.stop.Stop.TheVariants as stops
 use Rattle.bc_words.specs.declared.refusal.Refusal.TheVariants.{IndexRange, AsData}
 use Rattle.bc_words.proofs.Outcomes.{stops_bound}
 use Rattle.beacon_types.specs.Slashable.{is_slashable_attestation_data}
-use Rattle.beacon_body.specs.declared.attester_slashing.AttesterSlashing.{AttesterSlashing}
+use Rattle.beacon_types.specs.declared.attester_slashing.AttesterSlashing.{AttesterSlashing}
 use Rattle.block_array.specs.PlainArray.{PlainArray}
 use Rattle.block_array.specs.PlainArray as plain_array
 use Rattle.block_array.specs.Calls.{with_spare}

@@ -1,7 +1,7 @@
 -- What made room for more, and nothing else.
 use Rattle.std.proofs.Common.{◌≡◌, ◌∙◌, ℕ, List, Result, Ok, Err, IfErr, refl, sym, ap, subst}
 use Rattle.bc_preset.specs.declared.configuration.ConfigValues.{ConfigValues}
-use Rattle.beacon_body.specs.declared.signed_block.SignedBeaconBlock.{SignedBeaconBlock}
+use Rattle.beacon_types.specs.declared.signed_block.SignedBeaconBlock.{SignedBeaconBlock}
 use Rattle.block_array.specs.PlainArray.{PlainArray}
 use Rattle.block_array.specs.Calls.{with_spare}
 use Rattle.state_keeper.specs.Chain.{ChainBlock, Kept}

@@ -7,7 +7,7 @@ use Rattle.bc_words.specs.declared.refusal.Refusal.TheVariants.{ParentUnknown, F
 use Rattle.bc_words.proofs.Outcomes.{stops_bound, stops_exactly}
 use Rattle.bc_preset.specs.Presets.{IsPreset}
 use Rattle.beacon_types.specs.Equality.{same_root}
-use Rattle.beacon_body.specs.declared.signed_block.SignedBeaconBlock.{SignedBeaconBlock}
+use Rattle.beacon_types.specs.declared.signed_block.SignedBeaconBlock.{SignedBeaconBlock}
 use Rattle.spec_state.specs.declared.plain.PlainState.{PlainState}
 use Rattle.spec_blocks.specs.Checks.{check}
 use Rattle.spec_transition.specs.ProcessSlots.{Stepped}

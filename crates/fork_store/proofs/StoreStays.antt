@@ -5,7 +5,7 @@ use Rattle.bc_words.specs.Outcome.{Outcome, ChangesOrRefuses}
 use Rattle.bc_words.specs.declared.refusal.Refusal.{Refusal}
 use Rattle.bc_words.specs.declared.store_stop.StoreStop.{StoreStop}
 use Rattle.bc_preset.specs.declared.configuration.ConfigValues.{ConfigValues}
-use Rattle.beacon_body.specs.declared.signed_block.SignedBeaconBlock.{SignedBeaconBlock}
+use Rattle.beacon_types.specs.declared.signed_block.SignedBeaconBlock.{SignedBeaconBlock}
 use Rattle.block_array.specs.PlainArray.{PlainArray}
 use Rattle.spec_fork_choice.specs.Store.{Store}
 use Rattle.state_keeper.specs.Chain.{Kept}

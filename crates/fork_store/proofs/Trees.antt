@@ -6,13 +6,13 @@ use Rattle.bc_words.specs.Outcome.{Outcome, done, refused, limited, Becomes}
 use Rattle.bc_words.specs.declared.stop.NoMemory.{NoMemory}
 use Rattle.state_parts.proofs.Within.{all_push}
 use Rattle.bc_preset.specs.declared.configuration.ConfigValues.{ConfigValues}
-use Rattle.beacon_body.specs.declared.signed_block.SignedBeaconBlock.{SignedBeaconBlock}
+use Rattle.beacon_types.specs.declared.signed_block.SignedBeaconBlock.{SignedBeaconBlock}
 use Rattle.spec_state.specs.declared.plain.PlainState.{PlainState}
 use Rattle.spec_state.specs.Misc.{compute_start_slot_at_epoch}
 use Rattle.spec_blocks.proofs.Done.{on_the_way, chosen}
 use Rattle.spec_transition.specs.ProcessSlots.{Stepped, process_slots}
 use Rattle.spec_transition.specs.StateTransition.{state_transition}
-use Rattle.beacon_body.specs.declared.block.BeaconBlock.{BeaconBlock}
+use Rattle.beacon_types.specs.declared.block.BeaconBlock.{BeaconBlock}
 use Rattle.spec_fork_choice.specs.Store.{KeptBlock, Store, block_of, is_kept}
 use Rattle.fork_store.specs.Stores.{IsKept, HasPreset, IsStore, first_epoch}
 use Rattle.fork_store.specs.Trees.{HasParent, Follows, IsTreeBehind, IsTree}

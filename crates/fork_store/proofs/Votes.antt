@@ -14,7 +14,7 @@ use Rattle.bc_words.specs.Events.{accepted, store_stop, StoreStops}
 use Rattle.bc_words.specs.declared.stop.Stop.{Stop}
 use Rattle.bc_words.specs.declared.stop.Stop.TheVariants as stops
 use Rattle.bc_words.specs.declared.refusal.Refusal.TheVariants.{FcCommittee, FcBitsShort, FcEmpty}
-use Rattle.beacon_body.specs.declared.attestation.Attestation.{Attestation}
+use Rattle.beacon_types.specs.declared.attestation.Attestation.{Attestation}
 use Rattle.committees.specs.Committees.{Committees, committees_of, committee_at, compute_committee}
 use Rattle.spec_state.specs.declared.plain.PlainState.{PlainState}
 use Rattle.spec_state.specs.Misc.{compute_epoch_at_slot}

@@ -3,7 +3,7 @@ use Rattle.std.proofs.Common.{◌≡◌, ◌∙◌, ◌<◌, ap₂, ℕ, Bool, t
 use Rattle.std.proofs.lemmas.Bool.{false≢true}
 use Rattle.bc_words.specs.Outcome.{Becomes}
 use Rattle.bc_words.specs.declared.stop.NoMemory.{NoMemory}
-use Rattle.beacon_body.specs.declared.attestation.Attestation.{Attestation}
+use Rattle.beacon_types.specs.declared.attestation.Attestation.{Attestation}
 use Rattle.block_array.specs.PlainArray.{PlainArray, root_at}
 use Rattle.block_array.specs.declared.node.Message.{Message}
 use Rattle.block_array.specs.Calls.{with_spare}

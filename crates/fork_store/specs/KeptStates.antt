@@ -2,8 +2,8 @@
 -- function").
 use Rattle.std.specs.Prelude.{◌≡◌, ℕ, List, Some}
 use Rattle.bc_words.specs.Outcome.{done}
-use Rattle.beacon_body.specs.declared.block.BeaconBlock.{BeaconBlock}
-use Rattle.beacon_body.specs.declared.signed_block.SignedBeaconBlock.{SignedBeaconBlock}
+use Rattle.beacon_types.specs.declared.block.BeaconBlock.{BeaconBlock}
+use Rattle.beacon_types.specs.declared.signed_block.SignedBeaconBlock.{SignedBeaconBlock}
 use Rattle.spec_state.specs.declared.plain.PlainState.{PlainState}
 use Rattle.spec_state.specs.Soundness.{IsSound}
 use Rattle.spec_transition.specs.ProcessSlots.{Stepped}

@@ -4,7 +4,7 @@ use Rattle.std.specs.Prelude.{◌≡◌, ℕ, ◌<◌, Some, slice_get}
 use Rattle.bc_words.specs.Outcome.{done}
 use Rattle.bc_words.specs.Events.{accepted}
 use Rattle.bc_preset.specs.declared.configuration.ConfigValues.{ConfigValues}
-use Rattle.beacon_body.specs.declared.signed_block.SignedBeaconBlock.{SignedBeaconBlock}
+use Rattle.beacon_types.specs.declared.signed_block.SignedBeaconBlock.{SignedBeaconBlock}
 use Rattle.spec_transition.specs.ProcessSlots.{Stepped}
 use Rattle.spec_transition.specs.StateTransition.{state_transition}
 use Rattle.spec_fork_choice.specs.Store.{KeptBlock, Store, block_of}

@@ -2,7 +2,7 @@
 -- states.
 use Rattle.std.specs.Prelude.{◌≡◌}
 use Rattle.bc_preset.specs.declared.configuration.ConfigValues.{ConfigValues}
-use Rattle.beacon_body.specs.declared.signed_block.SignedBeaconBlock.{SignedBeaconBlock}
+use Rattle.beacon_types.specs.declared.signed_block.SignedBeaconBlock.{SignedBeaconBlock}
 use Rattle.spec_fork_choice.specs.Store.{Store}
 use Rattle.block_array.specs.PlainArray.{PlainArray}
 use Rattle.state_keeper.specs.Chain.{Kept}

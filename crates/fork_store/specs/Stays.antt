@@ -1,7 +1,7 @@
 -- What a call leaves that made room for more, and nothing else.
 use Rattle.std.specs.Prelude.{◌≡◌}
 use Rattle.bc_preset.specs.declared.configuration.ConfigValues.{ConfigValues}
-use Rattle.beacon_body.specs.declared.signed_block.SignedBeaconBlock.{SignedBeaconBlock}
+use Rattle.beacon_types.specs.declared.signed_block.SignedBeaconBlock.{SignedBeaconBlock}
 use Rattle.block_array.specs.PlainArray.{PlainArray}
 use Rattle.state_keeper.specs.Chain.{Kept}
 

@@ -1,6 +1,6 @@
 -- Kept blocks in the order of their acceptance are a tree.
 use Rattle.std.specs.Prelude.{◌≡◌, ◌<◌, ◌⊎◌, false, List, [], ◌∷◌, ◌++◌, Some}
-use Rattle.beacon_body.specs.declared.block.BeaconBlock.{BeaconBlock}
+use Rattle.beacon_types.specs.declared.block.BeaconBlock.{BeaconBlock}
 use Rattle.spec_fork_choice.specs.Store.{KeptBlock, block_of, is_kept}
 
 -- a block's parent is kept, at an earlier slot

@@ -11,8 +11,8 @@ ghost use Rattle.fork_store.specs.Anchors.{AnswersAnchor};
 
 use bc_preset::Config;
 use bc_words::NoMemory;
-use beacon_body::BeaconBlock;
 use beacon_state::State;
+use beacon_types::BeaconBlock;
 use hash_tree::Leaf;
 use spec_fork_choice::AnchorFault;
 use std::alloc::Global;

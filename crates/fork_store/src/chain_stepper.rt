@@ -5,8 +5,8 @@ ghost use Rattle.fork_store.specs.ChainStep.{CanStep, chain_step};
 
 use bc_preset::Config;
 use bc_words::Stop;
-use beacon_body::SignedBeaconBlock;
 use beacon_state::State;
+use beacon_types::SignedBeaconBlock;
 use state_keeper::Stepper;
 use std::alloc::Global;
 use std::marker::Model;

@@ -10,7 +10,7 @@ ghost use Rattle.fork_store.specs.Keepers.{kept_blocks};
 use crate::chain_stepper::ChainStepper;
 use crate::kept_blocks::{KeptBlocks, block_of};
 use bc_words::ClashKind;
-use beacon_body::BeaconBlock;
+use beacon_types::BeaconBlock;
 use hash_tree::Root;
 use state_keeper::Keeper;
 

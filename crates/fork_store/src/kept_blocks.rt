@@ -17,8 +17,8 @@ ghost use Rattle.std.specs.Option.{option_map};
 
 use crate::chain_stepper::ChainStepper;
 use bc_words::NoMemory;
-use beacon_body::{BeaconBlock, SignedBeaconBlock};
 use beacon_state::State;
+use beacon_types::{BeaconBlock, SignedBeaconBlock};
 use hash_tree::Root;
 use indexmap::IndexSet;
 use state_keeper::Keeper;

@@ -4,11 +4,11 @@ ghost use Rattle.std.specs.Prelude.{◌≡◌};
 ghost use Rattle.fork_store.specs.inside.Entered.{entered_behind};
 
 use crate::store_fields::StoreFields;
-use beacon_body::SignedBeaconBlock;
 use beacon_state::State;
+use beacon_types::SignedBeaconBlock;
+use epoch_visitor::Seen;
 use std::marker::Model;
 use std::snapshot::Snapshot;
-use epoch_visitor::Seen;
 use transition::Step;
 
 /// How clauses know the states that a step entered.

@@ -44,15 +44,14 @@ use crate::store::Store;
 use crate::store_fields::StoreFields;
 use crate::store_target_checkpoint_state::keep_checkpoint_state;
 use bc_words::{NoMemory, Refusal, Stop, StoreStop};
-use beacon_body::{BeaconBlock, SignedBeaconBlock};
 use beacon_state::State;
-use beacon_types::{Checkpoint, same_checkpoint};
+use beacon_types::{BeaconBlock, Checkpoint, SignedBeaconBlock, same_checkpoint};
 use block_array::{BlockArray, Facts};
+use epoch_visitor::{Seen, Visitor, Watched};
 use hash_tree::Root;
 use state_keeper::Keeper;
 use std::alloc::Global;
 use transition::state_transition::visit_step;
-use epoch_visitor::{Seen, Visitor, Watched};
 
 /// The checks of a block whose parent is the kept block of this number.
 #[tactic(auto, unfolding(crate::specs::inside::Accepted::check_block))]

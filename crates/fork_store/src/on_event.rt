@@ -3,7 +3,7 @@
 //! The payload's bytes come from a record; the store changes, and what an accepted block leaves goes to the event's line.
 
 ghost use Rattle.std.specs.Prelude.{◌≡◌, ◌≢◌, ◌<◌, ◌≤◌, ◌-◌, ◌^◌, Some, length, IfErr, IfOk};
-ghost use Rattle.beacon_body.specs.Containers.{signed_block_codec, attestation_codec, attester_slashing_codec};
+ghost use Rattle.beacon_types.specs.Blocks.{signed_block_codec, attestation_codec, attester_slashing_codec};
 ghost use Rattle.spec_fork_choice.specs.OnTick.{on_tick};
 ghost use Rattle.spec_fork_choice.specs.OnAttestation.{on_attestation};
 ghost use Rattle.spec_fork_choice.specs.OnAttesterSlashing.{on_attester_slashing};
@@ -15,10 +15,10 @@ ghost use Rattle.epoch_visitor.specs.Shown.{shown_all};
 use crate::block_in::BlockIn;
 use crate::store::Store;
 use bc_words::{Refusal, StoreStop};
-use beacon_body::{Attestation, AttesterSlashing, SignedBeaconBlock};
+use beacon_types::{Attestation, AttesterSlashing, SignedBeaconBlock};
+use epoch_visitor::{Seen, Visitor, Watched};
 use ssz_codec::{Ssz, SszFault};
 use std::alloc::Global;
-use epoch_visitor::{Seen, Visitor, Watched};
 
 /// The kinds of events.
 #[derive(Clone, Copy)]

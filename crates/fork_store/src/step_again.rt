@@ -11,7 +11,7 @@ use crate::kept_state::kept_state;
 use crate::made_step::MadeStep;
 use crate::store_fields::StoreFields;
 use bc_words::NoMemory;
-use beacon_body::{BeaconBlock, SignedBeaconBlock};
+use beacon_types::{BeaconBlock, SignedBeaconBlock};
 use state_keeper::Keeper;
 
 /// How many of the blocks that were kept behind a block's parent are looked at.

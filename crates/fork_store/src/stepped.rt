@@ -5,7 +5,7 @@
 
 ghost use Rattle.std.specs.Prelude.{◌≡◌, ◌<◌, ◌≤◌, ◌-◌, ◌^◌, Some, true, false, length, IfErr, IfOk, IfSome};
 ghost use Rattle.bc_words.specs.Outcome.{Gives};
-ghost use Rattle.beacon_body.specs.Containers.{signed_block_codec};
+ghost use Rattle.beacon_types.specs.Blocks.{signed_block_codec};
 ghost use Rattle.spec_state.specs.Genesis.{header_root_of};
 ghost use Rattle.spec_fork_choice.specs.OnBlock.{block_step, on_block};
 ghost use Rattle.spec_fork_choice.specs.OnEvent.{handle_block, on_event};
@@ -30,7 +30,7 @@ use crate::ready_balances::ReadyBalances;
 use crate::store::Store;
 use crate::store_fields::StoreFields;
 use bc_words::{Stop, StoreStop};
-use beacon_body::{BeaconBlock, SignedBeaconBlock};
+use beacon_types::{BeaconBlock, SignedBeaconBlock};
 use block_array::BlockArray;
 use hash_tree::Root;
 use ssz_codec::Ssz;

@@ -12,7 +12,7 @@ use crate::kept_blocks::node_number;
 use crate::ready_balances::ReadyBalances;
 use crate::store_fields::StoreFields;
 use bc_words::NoMemory;
-use beacon_body::Attestation;
+use beacon_types::Attestation;
 use block_array::BlockArray;
 
 /// How many places a list needs so that it has one for each of these indices. Without memory where no list is so long.

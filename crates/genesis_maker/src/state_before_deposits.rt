@@ -8,9 +8,8 @@ ghost use Rattle.spec_genesis.specs.InitializeBeaconStateFromEth1.{empty_header,
 
 use bc_preset::Preset;
 use bc_words::NoMemory;
-use beacon_body::empty_body_root;
 use beacon_state::State;
-use beacon_types::{BeaconBlockHeader, Checkpoint, Eth1Data, Fork};
+use beacon_types::{BeaconBlockHeader, Checkpoint, Eth1Data, Fork, empty_body_root};
 use hash_tree::Root;
 use spec_state::PlainState;
 use ssz_codec::Items;

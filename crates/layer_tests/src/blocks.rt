@@ -1,6 +1,8 @@
 //! The root of the default body, operations copied and compared, and clashes. Whole blocks, read and damaged, are in vectors.
 
-use beacon_body::{Attestation, AttesterSlashing, BeaconBlock, SignedBeaconBlock, empty_body_root};
+use beacon_types::{
+    Attestation, AttesterSlashing, BeaconBlock, SignedBeaconBlock, empty_body_root,
+};
 use fork_store::clash;
 use hash_tree::{Leaf, Root};
 use ssz_codec::{ListValue, Ssz, one_writing, reads_back};

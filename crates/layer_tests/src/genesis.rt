@@ -3,8 +3,8 @@
 ghost use Rattle.spec_state.specs.Writing.{HasWriting};
 
 use bc_preset::Preset;
-use beacon_body::empty_body_root;
 use beacon_state::{State, genesis_check};
+use beacon_types::empty_body_root;
 use hash_tree::Root;
 use ssz_codec::SszFault;
 use std::alloc::{AllocError, Global};

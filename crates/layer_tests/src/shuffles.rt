@@ -2,7 +2,7 @@
 
 ghost use Rattle.std.specs.Prelude.{◌≡◌, ◌≤◌, ◌^◌, length, IfOk};
 
-use shuffling::{shuffle_all, shuffled_index};
+use committees::{shuffle_all, shuffled_index};
 use std::alloc::{AllocError, Global};
 use std::process::Abort;
 use std::test::Fail;

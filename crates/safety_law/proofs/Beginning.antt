@@ -10,7 +10,7 @@ use Rattle.beacon_types.specs.Containers.{block_header_codec}
 use Rattle.beacon_types.specs.declared.block_header.BeaconBlockHeader.{BeaconBlockHeader}
 use Rattle.beacon_types.specs.declared.checkpoint.Checkpoint.{Checkpoint}
 use Rattle.beacon_types.specs.declared.pending_attestation.PendingAttestation.{PendingAttestation}
-use Rattle.beacon_body.specs.Containers.{block_codec, block_body_codec, default_block_body, empty_body_root}
+use Rattle.beacon_types.specs.Blocks.{block_codec, block_body_codec, default_block_body, empty_body_root}
 use Rattle.spec_state.specs.declared.plain.PlainState.{PlainState}
 use Rattle.spec_state.specs.States.{state_codec}
 use Rattle.spec_state.specs.Limits.{IsState, IsInRange}

@@ -5,11 +5,11 @@ use Rattle.bc_words.specs.Events.{EventOutcome, accepted, event_refused, event_l
 use Rattle.bc_words.specs.declared.refusal.Refusal.TheVariants.{Malformed}
 use Rattle.ssz_codec.specs.Lawful.{IsBytes}
 use Rattle.hash_tree.specs.Merkle.{bytes_to_uint64}
-use Rattle.beacon_body.specs.Containers.{signed_block_codec, attestation_codec, attester_slashing_codec}
-use Rattle.beacon_body.specs.laws.Containers.{signed_block_lawful}
-use Rattle.beacon_body.specs.declared.attestation.Attestation.{Attestation}
-use Rattle.beacon_body.specs.declared.attester_slashing.AttesterSlashing.{AttesterSlashing}
-use Rattle.beacon_body.specs.declared.signed_block.SignedBeaconBlock.{SignedBeaconBlock}
+use Rattle.beacon_types.specs.Blocks.{signed_block_codec, attestation_codec, attester_slashing_codec}
+use Rattle.beacon_types.specs.laws.Blocks.{signed_block_lawful}
+use Rattle.beacon_types.specs.declared.attestation.Attestation.{Attestation}
+use Rattle.beacon_types.specs.declared.attester_slashing.AttesterSlashing.{AttesterSlashing}
+use Rattle.beacon_types.specs.declared.signed_block.SignedBeaconBlock.{SignedBeaconBlock}
 use Rattle.spec_blocks.proofs.Done.{chosen}
 use Rattle.spec_fork_choice.specs.Store.{Store}
 use Rattle.spec_fork_choice.specs.OnTick.{on_tick}

@@ -3,7 +3,7 @@ use Rattle.std.specs.Prelude.{◌≡◌, false, Contains, List, [], ◌++◌, le
 use Rattle.bc_preset.specs.declared.configuration.ConfigValues.{ConfigValues}
 use Rattle.bc_preset.specs.laws.Bounds.{HasPresetBounds}
 use Rattle.beacon_types.specs.Equality.{same_root}
-use Rattle.beacon_body.specs.Containers.{block_codec}
+use Rattle.beacon_types.specs.Blocks.{block_codec}
 use Rattle.spec_state.specs.declared.plain.PlainState.{PlainState}
 use Rattle.spec_state.specs.Genesis.{zero_root, header_root_of}
 use Rattle.spec_state.specs.States.{state_codec}

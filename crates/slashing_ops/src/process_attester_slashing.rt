@@ -13,9 +13,8 @@ use crate::slash_validator::slash_in_place;
 use balance_totals::{current_epoch, validator_at};
 use bc_preset::Config;
 use bc_words::{Refusal, Stop};
-use beacon_body::AttesterSlashing;
 use beacon_state::State;
-use beacon_types::is_slashable_data;
+use beacon_types::{AttesterSlashing, is_slashable_data};
 
 /// Whether an index is among these.
 pub fn is_among(indices: &[u64], index: u64) -> bool

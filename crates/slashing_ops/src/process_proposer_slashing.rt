@@ -11,9 +11,8 @@ use crate::slash_validator::slash;
 use balance_totals::{current_epoch, validator_at};
 use bc_preset::Config;
 use bc_words::{Refusal, Stop};
-use beacon_body::ProposerSlashing;
 use beacon_state::State;
-use beacon_types::BeaconBlockHeader;
+use beacon_types::{BeaconBlockHeader, ProposerSlashing};
 
 /// Refused where the two headers are equal.
 fn check_differ(header_1: &BeaconBlockHeader, header_2: &BeaconBlockHeader) -> Result<(), Stop>

@@ -12,10 +12,10 @@ use Rattle.beacon_types.specs.declared.validator.Validator.{Validator}
 use Rattle.beacon_types.specs.declared.signed_exit.SignedVoluntaryExit.{SignedVoluntaryExit}
 use Rattle.beacon_types.specs.declared.deposit.Deposit.{Deposit}
 use Rattle.beacon_types.specs.Containers.{deposit_contract_tree_depth, deposit_data_codec}
-use Rattle.beacon_body.specs.declared.proposer_slashing.ProposerSlashing.{ProposerSlashing}
-use Rattle.beacon_body.specs.declared.attester_slashing.AttesterSlashing.{AttesterSlashing}
-use Rattle.beacon_body.specs.declared.attestation.Attestation.{Attestation}
-use Rattle.beacon_body.specs.declared.body.BeaconBlockBody.{BeaconBlockBody}
+use Rattle.beacon_types.specs.declared.proposer_slashing.ProposerSlashing.{ProposerSlashing}
+use Rattle.beacon_types.specs.declared.attester_slashing.AttesterSlashing.{AttesterSlashing}
+use Rattle.beacon_types.specs.declared.attestation.Attestation.{Attestation}
+use Rattle.beacon_types.specs.declared.body.BeaconBlockBody.{BeaconBlockBody}
 use Rattle.spec_state.specs.declared.plain.PlainState.{PlainState}
 use Rattle.spec_state.specs.Constants.{far_future_epoch}
 use Rattle.spec_state.specs.Misc.{effective_balance}

@@ -6,9 +6,9 @@ use Rattle.bc_preset.specs.declared.configuration.ConfigValues.{ConfigValues}
 use Rattle.beacon_types.specs.declared.validator.Validator.{Validator}
 use Rattle.beacon_types.specs.declared.signed_exit.SignedVoluntaryExit.{SignedVoluntaryExit}
 use Rattle.beacon_types.specs.declared.deposit.Deposit.{Deposit}
-use Rattle.beacon_body.specs.declared.proposer_slashing.ProposerSlashing.{ProposerSlashing}
-use Rattle.beacon_body.specs.declared.attester_slashing.AttesterSlashing.{AttesterSlashing}
-use Rattle.beacon_body.specs.declared.block.BeaconBlock.{BeaconBlock}
+use Rattle.beacon_types.specs.declared.proposer_slashing.ProposerSlashing.{ProposerSlashing}
+use Rattle.beacon_types.specs.declared.attester_slashing.AttesterSlashing.{AttesterSlashing}
+use Rattle.beacon_types.specs.declared.block.BeaconBlock.{BeaconBlock}
 use Rattle.spec_state.specs.declared.plain.PlainState.{PlainState}
 use Rattle.spec_state.specs.Constants.{far_future_epoch}
 use Rattle.spec_state.specs.Accessors.{get_current_epoch}

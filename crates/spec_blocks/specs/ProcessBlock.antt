@@ -1,7 +1,7 @@
 -- process_block (beacon-chain.md, "Block processing").
 use Rattle.bc_words.specs.Outcome.{Outcome, ◌>>=◌}
 use Rattle.bc_preset.specs.declared.configuration.ConfigValues.{ConfigValues}
-use Rattle.beacon_body.specs.declared.block.BeaconBlock.{BeaconBlock}
+use Rattle.beacon_types.specs.declared.block.BeaconBlock.{BeaconBlock}
 use Rattle.spec_state.specs.declared.plain.PlainState.{PlainState}
 use Rattle.spec_state.specs.Accessors.{get_beacon_proposer_index}
 use Rattle.spec_blocks.specs.ProcessBlockHeader.{process_block_header}

@@ -3,8 +3,8 @@ use Rattle.std.specs.Prelude.{ℕ, not, ◌==◌}
 use Rattle.bc_words.specs.Outcome.{Outcome, done, ◌>>=◌}
 use Rattle.bc_words.specs.declared.refusal.Refusal.TheVariants.{WrongProposer, ProposerSlashed}
 use Rattle.beacon_types.specs.declared.block_header.BeaconBlockHeader.{BeaconBlockHeader}
-use Rattle.beacon_body.specs.declared.block.BeaconBlock.{BeaconBlock}
-use Rattle.beacon_body.specs.Containers.{block_body_codec}
+use Rattle.beacon_types.specs.declared.block.BeaconBlock.{BeaconBlock}
+use Rattle.beacon_types.specs.Blocks.{block_body_codec}
 use Rattle.spec_state.specs.declared.plain.PlainState.{PlainState}
 use Rattle.spec_state.specs.Genesis.{zero_root}
 use Rattle.spec_blocks.specs.Checks.{check, item_at, ◌>>◌}

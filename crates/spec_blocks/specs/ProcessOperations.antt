@@ -3,7 +3,7 @@ use Rattle.std.specs.Prelude.{ℕ, min, length, ◌==◌}
 use Rattle.bc_words.specs.Outcome.{Outcome, ◌>>=◌, checked_sub}
 use Rattle.bc_words.specs.declared.refusal.Refusal.TheVariants.{DepositCount}
 use Rattle.bc_preset.specs.declared.configuration.ConfigValues.{ConfigValues}
-use Rattle.beacon_body.specs.declared.body.BeaconBlockBody.{BeaconBlockBody}
+use Rattle.beacon_types.specs.declared.body.BeaconBlockBody.{BeaconBlockBody}
 use Rattle.spec_state.specs.declared.plain.PlainState.{PlainState}
 use Rattle.spec_blocks.specs.Checks.{check, each_of, ◌>>◌}
 use Rattle.spec_blocks.specs.ProcessProposerSlashing.{process_proposer_slashing}

@@ -3,7 +3,7 @@ use Rattle.std.specs.Prelude.{ℕ, not, ◌==◌}
 use Rattle.bc_words.specs.Outcome.{Outcome, ◌>>=◌}
 use Rattle.bc_words.specs.declared.refusal.Refusal.TheVariants.{PsSlots, PsProposers, PsSame, NotSlashable}
 use Rattle.bc_preset.specs.declared.configuration.ConfigValues.{ConfigValues}
-use Rattle.beacon_body.specs.declared.proposer_slashing.ProposerSlashing.{ProposerSlashing}
+use Rattle.beacon_types.specs.declared.proposer_slashing.ProposerSlashing.{ProposerSlashing}
 use Rattle.spec_state.specs.declared.plain.PlainState.{PlainState}
 use Rattle.spec_state.specs.Predicates.{is_slashable_validator}
 use Rattle.spec_state.specs.Accessors.{get_current_epoch}

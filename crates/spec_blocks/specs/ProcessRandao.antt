@@ -1,7 +1,7 @@
 -- process_randao (beacon-chain.md, "RANDAO"). Signatures are off.
 use Rattle.std.specs.Prelude.{ℕ, ◌%◌, List, map, zip, bit_xor, slice_set}
 use Rattle.hash_tree.specs.Merkle.{hash}
-use Rattle.beacon_body.specs.declared.body.BeaconBlockBody.{BeaconBlockBody}
+use Rattle.beacon_types.specs.declared.body.BeaconBlockBody.{BeaconBlockBody}
 use Rattle.spec_state.specs.declared.plain.PlainState.{PlainState}
 use Rattle.spec_state.specs.Accessors.{get_current_epoch, get_randao_mix}
 

@@ -3,8 +3,8 @@
 use crate::case::Case;
 use crate::verdict::{Outside, Verdict, judged};
 use anyhow::Result;
-use beacon_body::SignedBeaconBlock;
 use beacon_state::State;
+use beacon_types::SignedBeaconBlock;
 use std::rt::Files;
 use transition::is_sound;
 use transition::state_transition::state_transition;

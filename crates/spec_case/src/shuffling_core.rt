@@ -9,8 +9,8 @@ use crate::difference::Difference;
 use crate::verdict::Verdict;
 use anyhow::{Result, bail};
 use bc_preset::Preset;
+use committees::{shuffle_all, shuffled_index};
 use hash_tree::Root;
-use shuffling::{shuffle_all, shuffled_index};
 use std::alloc::Global;
 
 /// The most indices that a case may have.

@@ -10,15 +10,12 @@ use crate::verdict::{Outside, Verdict};
 use anyhow::{Result, bail};
 use bc_preset::Preset;
 use bc_words::NoMemory;
-use beacon_body::{
-    Attestation, AttesterSlashing, BeaconBlock, BeaconBlockBody, ProposerSlashing,
-    SignedBeaconBlock,
-};
 use beacon_state::State;
 use beacon_types::{
-    AttestationData, BeaconBlockHeader, Checkpoint, Deposit, DepositData, Eth1Data, Fork,
-    IndexedAttestation, PendingAttestation, SignedBeaconBlockHeader, SignedVoluntaryExit,
-    Validator, VoluntaryExit,
+    Attestation, AttestationData, AttesterSlashing, BeaconBlock, BeaconBlockBody,
+    BeaconBlockHeader, Checkpoint, Deposit, DepositData, Eth1Data, Fork, IndexedAttestation,
+    PendingAttestation, ProposerSlashing, SignedBeaconBlock, SignedBeaconBlockHeader,
+    SignedVoluntaryExit, Validator, VoluntaryExit,
 };
 use hash_tree::{Root, fields_root};
 use ssz_codec::{Ssz, Writer, append_items, read_items, vector_root};

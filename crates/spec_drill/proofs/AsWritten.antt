@@ -3,7 +3,7 @@ use Rattle.std.proofs.Common.{◌≡◌, ℕ, true, false, List, [], ◌∷◌, 
 use Rattle.std.proofs.lemmas.Nat.{from_le_bytes-to_le_bytes_8}
 use Rattle.hash_tree.specs.Merkle.{uint_to_bytes}
 use Rattle.bc_words.specs.Events.{EventOutcome, accepted, event_refused, event_limited, event_clashes}
-use Rattle.beacon_body.specs.laws.Containers.{signed_block_lawful, attestation_lawful}
+use Rattle.beacon_types.specs.laws.Blocks.{signed_block_lawful, attestation_lawful}
 use Rattle.spec_fork_choice.specs.Store.{Store}
 use Rattle.spec_fork_choice.specs.OnTick.{on_tick}
 use Rattle.spec_fork_choice.specs.OnEvent.{Accepted, without_block, handle_tick, handle_block, handle_attestation, on_event}

@@ -21,9 +21,9 @@ use Rattle.bc_preset.specs.declared.configuration.ConfigValues.{ConfigValues}
 use Rattle.bc_preset.proofs.Bounds.{preset_bounds}
 use Rattle.beacon_types.specs.Equality.{same_root}
 use Rattle.beacon_types.specs.declared.eth1_data.Eth1Data.{Eth1Data}
-use Rattle.beacon_body.specs.declared.attestation.Attestation.{Attestation}
-use Rattle.beacon_body.specs.declared.block.BeaconBlock.{BeaconBlock}
-use Rattle.beacon_body.specs.declared.body.BeaconBlockBody.{BeaconBlockBody}
+use Rattle.beacon_types.specs.declared.attestation.Attestation.{Attestation}
+use Rattle.beacon_types.specs.declared.block.BeaconBlock.{BeaconBlock}
+use Rattle.beacon_types.specs.declared.body.BeaconBlockBody.{BeaconBlockBody}
 use Rattle.spec_state.specs.declared.plain.PlainState.{PlainState}
 use Rattle.spec_state.specs.States.{state_codec, votes_limit}
 use Rattle.spec_state.specs.Soundness.{IsSound}
@@ -43,7 +43,7 @@ use Rattle.spec_blocks.proofs.Gives.{gives_done, gives_then, gives_if, gives_mor
 use Rattle.spec_drill.proofs.Epoch.{full_stays, epoch_stays}
 use Rattle.spec_drill.proofs.Slots.{few_slots}
 use Rattle.spec_drill.proofs.Proposer.{GivesOrLimit, proposer_gives}
-use Rattle.beacon_body.specs.Containers.{signed_block_codec}
+use Rattle.beacon_types.specs.Blocks.{signed_block_codec}
 use Rattle.spec_drill.proofs.Bytes.{state_root_within}
 use Rattle.spec_drill.proofs.Written.{AreSmallVotes, block_within}
 use Rattle.spec_drill.proofs.Voting.{IsVoting, IsBefore, all_votes_give}

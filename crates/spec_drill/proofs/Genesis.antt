@@ -16,7 +16,7 @@ use Rattle.bc_preset.specs.declared.presets.Preset.{Preset}
 use Rattle.bc_preset.proofs.Bounds.{preset_bounds}
 use Rattle.beacon_types.specs.Equality.{same_root}
 use Rattle.beacon_types.specs.declared.validator.Validator.{Validator}
-use Rattle.beacon_body.specs.Containers.{block_codec, empty_body_root}
+use Rattle.beacon_types.specs.Blocks.{block_codec, empty_body_root}
 use Rattle.spec_state.specs.declared.plain.PlainState.{PlainState}
 use Rattle.spec_state.specs.declared.fault.GenesisFault.{GenesisFault}
 use Rattle.spec_state.specs.declared.fault.ValidatorFault.TheVariants as faults

@@ -12,8 +12,8 @@ use Rattle.bc_preset.specs.declared.presets.Preset.{Preset}
 use Rattle.bc_preset.proofs.Bounds.{preset_bounds}
 use Rattle.beacon_types.specs.declared.validator.Validator.{Validator}
 use Rattle.beacon_types.specs.Containers.{validator_codec}
-use Rattle.beacon_body.specs.declared.body.BeaconBlockBody.{BeaconBlockBody}
-use Rattle.beacon_body.specs.Containers.{empty_body_root, block_body_codec, default_block_body}
+use Rattle.beacon_types.specs.declared.body.BeaconBlockBody.{BeaconBlockBody}
+use Rattle.beacon_types.specs.Blocks.{empty_body_root, block_body_codec, default_block_body}
 use Rattle.spec_state.specs.Limits.{IsState, IsInRange}
 use Rattle.spec_drill.specs.Plan.{slot_digest}
 use Rattle.spec_drill.specs.MakeGenesis.{made_validator, made_genesis}

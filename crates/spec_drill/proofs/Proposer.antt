@@ -9,7 +9,7 @@ use Rattle.bc_words.specs.declared.stop.Limit.TheVariants.{Proposer}
 use Rattle.bc_preset.specs.declared.presets.Preset.{Preset}
 use Rattle.bc_preset.specs.laws.Bounds.{HasPresetBounds}
 use Rattle.hash_tree.specs.Merkle.{hash, uint_to_bytes}
-use Rattle.shuffling.specs.Shuffling.{compute_shuffled_index}
+use Rattle.committees.specs.Shuffling.{compute_shuffled_index}
 use Rattle.committees.specs.Proposers.{candidate, random_byte, weighs_enough, candidate_passes, candidate_found, proposer_below}
 use Rattle.spec_state.specs.declared.plain.PlainState.{PlainState}
 use Rattle.spec_state.specs.Constants.{far_future_epoch, domain_beacon_proposer, max_proposer_candidates}

@@ -15,7 +15,7 @@ use Rattle.bc_preset.specs.declared.configuration.ConfigValues.{ConfigValues}
 use Rattle.bc_preset.specs.laws.Bounds.{HasPresetBounds}
 use Rattle.bc_preset.proofs.Bounds.{preset_bounds}
 use Rattle.beacon_types.specs.Equality.{same_root}
-use Rattle.beacon_body.specs.declared.attestation.Attestation.{Attestation}
+use Rattle.beacon_types.specs.declared.attestation.Attestation.{Attestation}
 use Rattle.spec_state.specs.declared.plain.PlainState.{PlainState}
 use Rattle.spec_state.specs.Constants.{far_future_epoch}
 use Rattle.spec_state.specs.Misc.{compute_epoch_at_slot}

@@ -13,8 +13,8 @@ use Rattle.beacon_types.specs.declared.checkpoint.Checkpoint.{Checkpoint}
 use Rattle.beacon_types.specs.declared.attestation_data.AttestationData.{AttestationData}
 use Rattle.beacon_types.specs.Containers.{checkpoint_codec, attestation_data_codec, eth1_data_codec}
 use Rattle.beacon_types.specs.laws.Containers.{attestation_data_lawful}
-use Rattle.beacon_body.specs.declared.attestation.Attestation.{Attestation}
-use Rattle.beacon_body.specs.Containers.{attestation_codec, block_body_codec, signed_block_codec}
+use Rattle.beacon_types.specs.declared.attestation.Attestation.{Attestation}
+use Rattle.beacon_types.specs.Blocks.{attestation_codec, block_body_codec, signed_block_codec}
 use Rattle.spec_state.specs.declared.plain.PlainState.{PlainState}
 use Rattle.spec_drill.specs.Plan.{Plan, slot_digest, graffiti_in, graffiti_of}
 use Rattle.spec_drill.specs.MakeGenesis.{zero_eth1}

@@ -3,9 +3,9 @@ use Rattle.hash_tree.specs.Merkle.{uint_to_bytes}
 use Rattle.std.specs.Prelude.{◌≡◌, ◌⊎◌, ℕ, zero, suc, ◌+◌, ◌*◌, List, [], ◌∷◌, ◌++◌, map, if◌then◌else◌}
 use Rattle.bc_words.specs.Outcome.{Outcome, done, refused, limited}
 use Rattle.bc_words.specs.declared.stop.Limit.TheVariants.{Proposer}
-use Rattle.beacon_body.specs.Containers.{signed_block_codec, attestation_codec}
-use Rattle.beacon_body.specs.declared.attestation.Attestation.{Attestation}
-use Rattle.beacon_body.specs.declared.signed_block.SignedBeaconBlock.{SignedBeaconBlock}
+use Rattle.beacon_types.specs.Blocks.{signed_block_codec, attestation_codec}
+use Rattle.beacon_types.specs.declared.attestation.Attestation.{Attestation}
+use Rattle.beacon_types.specs.declared.signed_block.SignedBeaconBlock.{SignedBeaconBlock}
 use Rattle.spec_state.specs.declared.plain.PlainState.{PlainState}
 use Rattle.spec_state.specs.Genesis.{header_root_of}
 use Rattle.spec_transition.specs.ProcessSlots.{process_slots}

@@ -12,9 +12,9 @@ use Rattle.beacon_types.specs.declared.validator.Validator.{Validator}
 use Rattle.beacon_types.specs.declared.eth1_data.Eth1Data.{Eth1Data}
 use Rattle.beacon_types.specs.declared.attestation_data.AttestationData.{AttestationData}
 use Rattle.beacon_types.specs.declared.pending_attestation.PendingAttestation.{PendingAttestation}
-use Rattle.beacon_body.specs.declared.attestation.Attestation.{Attestation}
-use Rattle.beacon_body.specs.declared.body.BeaconBlockBody.{BeaconBlockBody}
-use Rattle.beacon_body.specs.declared.block.BeaconBlock.{BeaconBlock}
+use Rattle.beacon_types.specs.declared.attestation.Attestation.{Attestation}
+use Rattle.beacon_types.specs.declared.body.BeaconBlockBody.{BeaconBlockBody}
+use Rattle.beacon_types.specs.declared.block.BeaconBlock.{BeaconBlock}
 use Rattle.spec_state.specs.declared.plain.PlainState.{PlainState}
 use Rattle.spec_state.specs.Constants.{domain_beacon_attester, far_future_epoch}
 use Rattle.spec_state.specs.States.{attestations_limit, votes_limit}
@@ -32,7 +32,7 @@ use Rattle.spec_blocks.specs.ProcessRandao.{process_randao}
 use Rattle.spec_blocks.specs.ProcessEth1Data.{process_eth1_data, count_votes}
 use Rattle.spec_blocks.specs.ProcessBlock.{process_block}
 use Rattle.beacon_types.specs.Equality.{same_checkpoint, same_root}
-use Rattle.beacon_body.specs.declared.signed_block.SignedBeaconBlock.{SignedBeaconBlock}
+use Rattle.beacon_types.specs.declared.signed_block.SignedBeaconBlock.{SignedBeaconBlock}
 use Rattle.spec_state.specs.States.{state_codec}
 use Rattle.spec_transition.specs.ProcessSlots.{Stepped, process_slots}
 use Rattle.spec_transition.specs.StateTransition.{state_transition}

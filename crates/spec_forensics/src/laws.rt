@@ -4,7 +4,7 @@ ghost use Rattle.std.specs.Prelude.{◌≡◌, ℕ, ◌<◌, ◌^◌, List, All}
 ghost use Rattle.bc_words.specs.Outcome.{done};
 ghost use Rattle.bc_preset.specs.declared.configuration.ConfigValues.{ConfigValues};
 ghost use Rattle.bc_preset.specs.laws.Bounds.{HasPresetBounds};
-ghost use Rattle.beacon_body.specs.declared.signed_block.SignedBeaconBlock.{SignedBeaconBlock};
+ghost use Rattle.beacon_types.specs.declared.signed_block.SignedBeaconBlock.{SignedBeaconBlock};
 ghost use Rattle.spec_state.specs.declared.plain.PlainState.{PlainState};
 ghost use Rattle.spec_transition.specs.ProcessSlots.{Stepped};
 ghost use Rattle.spec_transition.specs.StateTransition.{state_transition};

@@ -15,11 +15,11 @@ use Rattle.beacon_types.specs.declared.deposit_data.DepositData.{DepositData}
 use Rattle.beacon_types.specs.declared.deposit.Deposit.{Deposit}
 use Rattle.beacon_types.specs.declared.voluntary_exit.VoluntaryExit.{VoluntaryExit}
 use Rattle.beacon_types.specs.declared.signed_exit.SignedVoluntaryExit.{SignedVoluntaryExit}
-use Rattle.beacon_body.specs.declared.proposer_slashing.ProposerSlashing.{ProposerSlashing}
-use Rattle.beacon_body.specs.declared.attester_slashing.AttesterSlashing.{AttesterSlashing}
-use Rattle.beacon_body.specs.declared.attestation.Attestation.{Attestation}
-use Rattle.beacon_body.specs.declared.body.BeaconBlockBody.{BeaconBlockBody}
-use Rattle.beacon_body.specs.declared.block.BeaconBlock.{BeaconBlock}
+use Rattle.beacon_types.specs.declared.proposer_slashing.ProposerSlashing.{ProposerSlashing}
+use Rattle.beacon_types.specs.declared.attester_slashing.AttesterSlashing.{AttesterSlashing}
+use Rattle.beacon_types.specs.declared.attestation.Attestation.{Attestation}
+use Rattle.beacon_types.specs.declared.body.BeaconBlockBody.{BeaconBlockBody}
+use Rattle.beacon_types.specs.declared.block.BeaconBlock.{BeaconBlock}
 use Rattle.spec_fork_choice.specs.SameBlock.{same_signed_header, same_proposer_slashing, same_indexed_attestation, same_attester_slashing, same_attestation, same_deposit_data, same_deposit, same_exit, same_signed_exit, same_operations, same_body, same_block}
 
 -- the fact first, so that its statement is known to what follows

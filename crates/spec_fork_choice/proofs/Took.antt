@@ -7,9 +7,9 @@ use Rattle.bc_words.specs.declared.refusal.Refusal.{Refusal}
 use Rattle.bc_words.specs.declared.refusal.Refusal.TheVariants.{ParentUnknown, FutureBlock, BeforeFinalized, NotOnFinalized}
 use Rattle.bc_words.specs.declared.store_stop.ClashKind.{ClashKind}
 use Rattle.beacon_types.specs.Equality.{same_root}
-use Rattle.beacon_body.specs.Containers.{block_codec}
-use Rattle.beacon_body.specs.declared.block.BeaconBlock.{BeaconBlock}
-use Rattle.beacon_body.specs.declared.signed_block.SignedBeaconBlock.{SignedBeaconBlock}
+use Rattle.beacon_types.specs.Blocks.{block_codec}
+use Rattle.beacon_types.specs.declared.block.BeaconBlock.{BeaconBlock}
+use Rattle.beacon_types.specs.declared.signed_block.SignedBeaconBlock.{SignedBeaconBlock}
 use Rattle.spec_blocks.specs.Checks.{check}
 use Rattle.spec_blocks.proofs.Done.{on_the_way, same_value}
 use Rattle.spec_transition.specs.ProcessSlots.{Stepped}

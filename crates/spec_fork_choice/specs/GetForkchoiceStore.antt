@@ -3,8 +3,8 @@
 use Rattle.std.specs.Prelude.{ℕ, List, [], ◌∷◌}
 use Rattle.bc_preset.specs.declared.configuration.ConfigValues.{ConfigValues}
 use Rattle.beacon_types.specs.declared.checkpoint.Checkpoint.{Checkpoint}
-use Rattle.beacon_body.specs.declared.block.BeaconBlock.{BeaconBlock}
-use Rattle.beacon_body.specs.Containers.{block_codec, default_block_body}
+use Rattle.beacon_types.specs.declared.block.BeaconBlock.{BeaconBlock}
+use Rattle.beacon_types.specs.Blocks.{block_codec, default_block_body}
 use Rattle.spec_state.specs.declared.plain.PlainState.{PlainState}
 use Rattle.spec_state.specs.Accessors.{get_current_epoch}
 use Rattle.spec_state.specs.States.{state_codec}

@@ -3,7 +3,7 @@ use Rattle.std.specs.Prelude.{ℕ, ◌+◌, ◌*◌, ◌%◌, Bool, not, length,
 use Rattle.bc_words.specs.Outcome.{Outcome, done, ◌>>=◌}
 use Rattle.bc_words.specs.declared.refusal.Refusal.TheVariants.{FcCommittee, FcBitsShort, FcEmpty}
 use Rattle.beacon_types.specs.declared.attestation_data.AttestationData.{AttestationData}
-use Rattle.beacon_body.specs.declared.attestation.Attestation.{Attestation}
+use Rattle.beacon_types.specs.declared.attestation.Attestation.{Attestation}
 use Rattle.spec_state.specs.declared.plain.PlainState.{PlainState}
 use Rattle.spec_state.specs.Accessors.{get_committee_count_per_slot, get_beacon_committee, get_attesting_indices}
 use Rattle.spec_blocks.specs.Checks.{check, ◌>>◌}

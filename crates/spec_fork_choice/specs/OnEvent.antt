@@ -5,11 +5,11 @@ use Rattle.bc_words.specs.Events.{EventOutcome, accepted, event_refused, event_c
 use Rattle.bc_words.specs.Outcome.{Outcome}
 use Rattle.bc_words.specs.declared.refusal.Refusal.TheVariants.{Malformed}
 use Rattle.bc_words.specs.declared.store_stop.ClashKind.{ClashKind}
-use Rattle.beacon_body.specs.declared.attestation.Attestation.{Attestation}
-use Rattle.beacon_body.specs.declared.attester_slashing.AttesterSlashing.{AttesterSlashing}
-use Rattle.beacon_body.specs.declared.block.BeaconBlock.{BeaconBlock}
-use Rattle.beacon_body.specs.declared.signed_block.SignedBeaconBlock.{SignedBeaconBlock}
-use Rattle.beacon_body.specs.Containers.{block_codec, signed_block_codec, attestation_codec, attester_slashing_codec}
+use Rattle.beacon_types.specs.declared.attestation.Attestation.{Attestation}
+use Rattle.beacon_types.specs.declared.attester_slashing.AttesterSlashing.{AttesterSlashing}
+use Rattle.beacon_types.specs.declared.block.BeaconBlock.{BeaconBlock}
+use Rattle.beacon_types.specs.declared.signed_block.SignedBeaconBlock.{SignedBeaconBlock}
+use Rattle.beacon_types.specs.Blocks.{block_codec, signed_block_codec, attestation_codec, attester_slashing_codec}
 use Rattle.spec_state.specs.declared.plain.PlainState.{PlainState}
 use Rattle.bc_preset.specs.declared.configuration.ConfigValues.{ConfigValues}
 use Rattle.spec_fork_choice.specs.Store.{Store}

@@ -1,7 +1,7 @@
 -- update_latest_messages (fork-choice.md, "update_latest_messages").
 use Rattle.std.specs.Prelude.{ℕ, zero, suc, Bool, true, not, ◌&&◌, List, [], ◌∷◌, Option, Some, None, fold, nat_lt, if◌then◌else◌}
 use Rattle.std.specs.Option.{option_map_or}
-use Rattle.beacon_body.specs.declared.attestation.Attestation.{Attestation}
+use Rattle.beacon_types.specs.declared.attestation.Attestation.{Attestation}
 use Rattle.spec_fork_choice.specs.Store.{LatestMessage, Store, message_of, is_equivocating}
 
 -- the messages with one in the place of a validator; there are none between

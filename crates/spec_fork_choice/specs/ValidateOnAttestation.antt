@@ -3,7 +3,7 @@ use Rattle.std.specs.Prelude.{◌-◌, ◌||◌, Bool, leb, nat_lt, ◌==◌, if
 use Rattle.bc_words.specs.Outcome.{Outcome, done}
 use Rattle.bc_words.specs.declared.refusal.Refusal.TheVariants.{FcTargetTime, FcSlotEpoch, FcTargetUnknown, FcBlockUnknown, FcBlockAfter, FcTargetChain, FcTooEarly}
 use Rattle.beacon_types.specs.Equality.{same_root}
-use Rattle.beacon_body.specs.declared.attestation.Attestation.{Attestation}
+use Rattle.beacon_types.specs.declared.attestation.Attestation.{Attestation}
 use Rattle.spec_state.specs.Misc.{compute_epoch_at_slot}
 use Rattle.spec_blocks.specs.Checks.{check, ◌>>◌}
 use Rattle.spec_fork_choice.specs.Store.{Store, is_kept, slot_of}

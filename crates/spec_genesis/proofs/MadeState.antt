@@ -12,7 +12,7 @@ use Rattle.bc_preset.proofs.Bounds.{preset_bounds}
 use Rattle.beacon_types.specs.declared.eth1_data.Eth1Data.{Eth1Data}
 use Rattle.beacon_types.specs.declared.validator.Validator.{Validator}
 use Rattle.beacon_types.specs.Containers.{validator_codec, eth1_data_codec, block_header_codec}
-use Rattle.beacon_body.specs.Containers.{empty_body_root}
+use Rattle.beacon_types.specs.Blocks.{empty_body_root}
 use Rattle.spec_state.specs.declared.plain.PlainState.{PlainState}
 use Rattle.spec_state.specs.declared.fault.ValidatorFault.{ValidatorFault}
 use Rattle.spec_state.specs.declared.fault.ValidatorFault.TheVariants as validators

@@ -11,7 +11,7 @@ use Rattle.beacon_types.specs.declared.checkpoint.Checkpoint.{Checkpoint}
 use Rattle.beacon_types.specs.declared.deposit_data.DepositData.{DepositData}
 use Rattle.beacon_types.specs.declared.validator.Validator.{Validator}
 use Rattle.beacon_types.specs.Containers.{validator_codec}
-use Rattle.beacon_body.specs.Containers.{empty_body_root}
+use Rattle.beacon_types.specs.Blocks.{empty_body_root}
 use Rattle.spec_state.specs.declared.plain.PlainState.{PlainState}
 use Rattle.spec_state.specs.Genesis.{zero_root}
 use Rattle.spec_blocks.specs.ProcessDeposit.{process_deposit}

@@ -4,8 +4,8 @@ use Rattle.record_file.specs.Record.{magic}
 use Rattle.record_file.specs.laws.Written.{frame_of_event}
 use Rattle.record_file.specs.declared.event.Event.{Event}
 use Rattle.record_file.specs.declared.version.Version.TheVariants.{Two}
-use Rattle.beacon_body.specs.Containers.{attester_slashing_codec}
-use Rattle.beacon_body.specs.declared.attester_slashing.AttesterSlashing.{AttesterSlashing}
+use Rattle.beacon_types.specs.Blocks.{attester_slashing_codec}
+use Rattle.beacon_types.specs.declared.attester_slashing.AttesterSlashing.{AttesterSlashing}
 
 -- the kind of the events that are attester slashings
 abbrev pub slashing_kind : ℕ

@@ -12,7 +12,7 @@ use Rattle.bc_preset.proofs.Bounds.{preset_bounds}
 use Rattle.beacon_types.specs.Slashable.{is_slashable_attestation_data}
 use Rattle.beacon_types.specs.declared.indexed_attestation.IndexedAttestation.{IndexedAttestation}
 use Rattle.beacon_types.specs.declared.validator.Validator.{Validator}
-use Rattle.beacon_body.specs.declared.attester_slashing.AttesterSlashing.{AttesterSlashing}
+use Rattle.beacon_types.specs.declared.attester_slashing.AttesterSlashing.{AttesterSlashing}
 use Rattle.spec_state.specs.declared.plain.PlainState.{PlainState}
 use Rattle.spec_state.specs.Constants.{far_future_epoch}
 use Rattle.spec_state.specs.Limits.{IsState}

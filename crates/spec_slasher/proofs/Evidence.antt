@@ -1,7 +1,7 @@
 -- Both attestations of an operation are carried.
 use Rattle.std.proofs.Common.{List, ◌++◌, refl, sym, subst}
 use Rattle.std.specs.List.{All}
-use Rattle.beacon_body.specs.declared.attester_slashing.AttesterSlashing.{AttesterSlashing}
+use Rattle.beacon_types.specs.declared.attester_slashing.AttesterSlashing.{AttesterSlashing}
 use Rattle.ffg_law.specs.Links.{IsOneOf}
 use Rattle.spec_state.specs.declared.plain.PlainState.{PlainState}
 use Rattle.spec_forensics.specs.Histories.{AcceptedBlock}

@@ -1,7 +1,7 @@
 -- A vote names one attestation, where each block of a history has an event of its own.
 use Rattle.std.proofs.Common.{◌≡◌, ◌∙◌, ℕ, ◌+◌, ◌<◌, ◌≤◌, inl, inr, true, List, [], ◌∷◌, Some, sym, ap, ap₂, subst, arith}
 use Rattle.std.specs.List.{Contains, enumerate_from}
-use Rattle.beacon_body.specs.declared.attestation.Attestation.{Attestation}
+use Rattle.beacon_types.specs.declared.attestation.Attestation.{Attestation}
 use Rattle.ffg_law.specs.Links.{IsOneOf}
 use Rattle.spec_state.specs.declared.plain.PlainState.{PlainState}
 use Rattle.spec_forensics.specs.declared.vote.Vote.{Vote}

@@ -5,7 +5,7 @@ use Rattle.std.proofs.lemmas.Bool.{false≢true}
 use Rattle.std.proofs.lemmas.Option.{same_Some}
 use Rattle.beacon_types.specs.Slashable.{is_slashable_attestation_data}
 use Rattle.beacon_types.specs.declared.attestation_data.AttestationData.{AttestationData}
-use Rattle.beacon_body.specs.declared.attester_slashing.AttesterSlashing.{AttesterSlashing}
+use Rattle.beacon_types.specs.declared.attester_slashing.AttesterSlashing.{AttesterSlashing}
 use Rattle.ffg_law.specs.Links.{IsOneOf}
 use Rattle.spec_state.specs.declared.plain.PlainState.{PlainState}
 use Rattle.spec_fork_choice.specs.SameBlock.{same_attester_slashing}

@@ -9,10 +9,10 @@ use Rattle.ssz_codec.specs.laws.Basic.{uint64_lawful}
 use Rattle.beacon_types.specs.Limits.{max_validators_per_committee}
 use Rattle.beacon_types.specs.Containers.{attestation_data_codec, indexed_attestation_codec}
 use Rattle.beacon_types.specs.laws.Containers.{attestation_data_lawful}
-use Rattle.beacon_body.specs.Containers.{attestation_codec, attester_slashing_codec}
-use Rattle.beacon_body.specs.laws.Containers.{attester_slashing_lawful}
-use Rattle.beacon_body.specs.declared.attestation.Attestation.{Attestation}
-use Rattle.beacon_body.specs.declared.attester_slashing.AttesterSlashing.{AttesterSlashing}
+use Rattle.beacon_types.specs.Blocks.{attestation_codec, attester_slashing_codec}
+use Rattle.beacon_types.specs.laws.Blocks.{attester_slashing_lawful}
+use Rattle.beacon_types.specs.declared.attestation.Attestation.{Attestation}
+use Rattle.beacon_types.specs.declared.attester_slashing.AttesterSlashing.{AttesterSlashing}
 use Rattle.spec_state.specs.declared.plain.PlainState.{PlainState}
 use Rattle.spec_state.specs.Accessors.{get_attesting_indices, members_with_bits, get_beacon_committee}
 use Rattle.ffg_law.specs.Links.{IsOneOf}

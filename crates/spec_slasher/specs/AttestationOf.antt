@@ -5,7 +5,7 @@ use Rattle.std.specs.List.{find, list_any, enumerate_from}
 use Rattle.std.specs.Option.{option_map}
 use Rattle.beacon_types.specs.Equality.{same_root, same_data}
 use Rattle.beacon_types.specs.declared.indexed_attestation.IndexedAttestation.{IndexedAttestation}
-use Rattle.beacon_body.specs.declared.attestation.Attestation.{Attestation}
+use Rattle.beacon_types.specs.declared.attestation.Attestation.{Attestation}
 use Rattle.spec_state.specs.declared.plain.PlainState.{PlainState}
 use Rattle.spec_forensics.specs.declared.vote.Vote.{Vote}
 use Rattle.spec_forensics.specs.Histories.{AcceptedBlock}

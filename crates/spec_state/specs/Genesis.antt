@@ -7,7 +7,7 @@ use Rattle.beacon_types.specs.declared.block_header.BeaconBlockHeader.{BeaconBlo
 use Rattle.beacon_types.specs.declared.checkpoint.Checkpoint.{Checkpoint}
 use Rattle.beacon_types.specs.declared.validator.Validator.{Validator}
 use Rattle.beacon_types.specs.Containers.{block_header_codec}
-use Rattle.beacon_body.specs.Containers.{empty_body_root}
+use Rattle.beacon_types.specs.Blocks.{empty_body_root}
 use Rattle.spec_state.specs.declared.plain.PlainState.{PlainState}
 use Rattle.spec_state.specs.declared.fault.ValidatorFault.{ValidatorFault}
 use Rattle.spec_state.specs.declared.fault.ValidatorFault.TheVariants as validators

@@ -13,9 +13,10 @@ use attest_ops::process_attestation::process_counted_attestation;
 use balance_totals::{count_active, current_epoch, previous_epoch};
 use bc_preset::Config;
 use bc_words::{Refusal, Stop, checked_sub};
-use beacon_body::{Attestation, AttesterSlashing, BeaconBlockBody, ProposerSlashing};
 use beacon_state::State;
-use beacon_types::{Deposit, SignedVoluntaryExit};
+use beacon_types::{
+    Attestation, AttesterSlashing, BeaconBlockBody, Deposit, ProposerSlashing, SignedVoluntaryExit,
+};
 use deposit_ops::PubkeyIndex;
 use deposit_ops::process_deposit::process_deposit;
 use exit_queue::process_voluntary_exit::process_voluntary_exit;

@@ -14,8 +14,8 @@ use bc_preset::Config;
 use bc_preset::constants::MAX_SLOTS;
 use bc_words::{Limit, NoMemory, Refusal, Stop};
 use beacon_state::State;
-use slot_step::process_slot::process_slot;
 use epoch_visitor::{Seen, Visitor};
+use slot_step::process_slot::process_slot;
 use std::alloc::Global;
 
 /// Whether the state's slot is the last one of its epoch.

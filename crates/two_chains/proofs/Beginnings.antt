@@ -9,7 +9,7 @@ use Rattle.bc_words.proofs.Sums.{checked_sum_fits}
 use Rattle.bc_preset.specs.declared.configuration.ConfigValues.{ConfigValues}
 use Rattle.bc_preset.specs.laws.Bounds.{HasPresetBounds}
 use Rattle.bc_preset.proofs.Bounds.{preset_bounds}
-use Rattle.beacon_body.specs.declared.block.BeaconBlock.{BeaconBlock}
+use Rattle.beacon_types.specs.declared.block.BeaconBlock.{BeaconBlock}
 use Rattle.beacon_types.specs.declared.validator.Validator.{Validator}
 use Rattle.beacon_types.specs.Containers.{validator_codec}
 use Rattle.beacon_types.specs.Equality.{same_root}

@@ -11,7 +11,7 @@ use Rattle.bc_words.specs.declared.stop.Limit.{Limit}
 use Rattle.bc_words.specs.declared.store_stop.ClashKind.{ClashKind}
 use Rattle.bc_words.specs.declared.store_stop.ClashKind.TheVariants as kinds
 use Rattle.bc_words.specs.declared.refusal.Refusal.{Refusal}
-use Rattle.beacon_body.specs.declared.block.BeaconBlock.{BeaconBlock}
+use Rattle.beacon_types.specs.declared.block.BeaconBlock.{BeaconBlock}
 use Rattle.ssz_codec.specs.Lawful.{IsBytes}
 use Rattle.record_file.specs.Record as record_file
 use Rattle.record_file.specs.Record.{Events, with_event}

@@ -10,8 +10,8 @@ use Rattle.beacon_types.specs.Containers.{attestation_data_codec, checkpoint_cod
 use Rattle.beacon_types.specs.declared.attestation_data.AttestationData.{AttestationData}
 use Rattle.beacon_types.specs.declared.checkpoint.Checkpoint.{Checkpoint}
 use Rattle.beacon_types.specs.declared.indexed_attestation.IndexedAttestation.{IndexedAttestation}
-use Rattle.beacon_body.specs.Containers.{attester_slashing_codec}
-use Rattle.beacon_body.specs.declared.attester_slashing.AttesterSlashing.{AttesterSlashing}
+use Rattle.beacon_types.specs.Blocks.{attester_slashing_codec}
+use Rattle.beacon_types.specs.declared.attester_slashing.AttesterSlashing.{AttesterSlashing}
 use Rattle.spec_state.specs.declared.plain.PlainState.{PlainState}
 use Rattle.spec_fork_choice.specs.Store.{Store}
 use Rattle.spec_forensics.specs.Histories.{AcceptedBlock}

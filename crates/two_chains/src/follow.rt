@@ -16,15 +16,15 @@ ghost use Rattle.two_chains.specs.inside.Following.{BlockFollowed, ClashesBy, Ev
 
 use bc_outside::Shelf;
 use bc_words::{ClashKind, Limit, StoreStop};
-use beacon_body::BeaconBlock;
 use beacon_state::State;
+use beacon_types::BeaconBlock;
+use epoch_visitor::Watched;
 use forensics::{VoteBook, Watch};
 use fork_store::{Accepted, BlockIn, Store};
 use hash_tree::Root;
 use one_chain::{Status, unread};
 use record_file::{Event, EventSource, Frames, SourceStop};
 use std::alloc::Global;
-use epoch_visitor::Watched;
 
 /// Which record is followed.
 #[derive(Clone, Copy)]

@@ -4,7 +4,7 @@ ghost use Rattle.std.specs.Prelude.{◌≡◌, ◌≤◌, ◌++◌, length, flat
 ghost use Rattle.record_file.specs.Record.{magic};
 ghost use Rattle.record_file.specs.declared.version.Version.TheVariants.{Two};
 ghost use Rattle.beacon_types.specs.Containers.{attestation_data_codec, indexed_attestation_codec};
-ghost use Rattle.beacon_body.specs.Containers.{attester_slashing_codec};
+ghost use Rattle.beacon_types.specs.Blocks.{attester_slashing_codec};
 ghost use Rattle.spec_slasher.specs.Operations.{operations};
 ghost use Rattle.spec_replay.specs.Run.{after_lines, done, over};
 ghost use Rattle.spec_replay.specs.Slasher.{slashing_frame, slashing_record};
@@ -13,8 +13,7 @@ ghost use Rattle.one_chain.specs.inside.Texts.{WritesText};
 
 use bc_outside::{Sink, Trouble, write_all};
 use bc_words::NoMemory;
-use beacon_body::AttesterSlashing;
-use beacon_types::{AttestationData, IndexedAttestation};
+use beacon_types::{AttestationData, AttesterSlashing, IndexedAttestation};
 use forensics::{VoteBook, operations};
 use one_chain::{Status, written};
 use ssz_codec::Ssz;

@@ -8,8 +8,8 @@ use Rattle.bc_words.specs.Outcome.{Outcome, done, refused, limited, Stops, Gives
 use Rattle.bc_words.specs.declared.stop.Stop.{Stop}
 use Rattle.bc_preset.specs.declared.configuration.ConfigValues.{ConfigValues}
 use Rattle.beacon_types.specs.Equality.{same_root}
-use Rattle.beacon_body.specs.Containers.{block_codec}
-use Rattle.beacon_body.specs.declared.signed_block.SignedBeaconBlock.{SignedBeaconBlock}
+use Rattle.beacon_types.specs.Blocks.{block_codec}
+use Rattle.beacon_types.specs.declared.signed_block.SignedBeaconBlock.{SignedBeaconBlock}
 use Rattle.spec_state.specs.declared.plain.PlainState.{PlainState}
 use Rattle.spec_state.specs.Genesis.{zero_root, header_root_of}
 use Rattle.spec_state.specs.Soundness.{IsSound}

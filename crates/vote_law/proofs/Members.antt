@@ -6,8 +6,8 @@ use Rattle.std.proofs.Math.Nat.{mod-lt, mul-le-mul_left}
 use Rattle.bc_preset.specs.laws.Bounds.{HasPresetBounds}
 use Rattle.beacon_types.specs.declared.attestation_data.AttestationData.{AttestationData}
 use Rattle.beacon_types.specs.declared.pending_attestation.PendingAttestation.{PendingAttestation}
-use Rattle.shuffling.specs.Shuffling.{compute_shuffled_index}
-use Rattle.shuffling.proofs.Rounds.{place_below}
+use Rattle.committees.specs.Shuffling.{compute_shuffled_index}
+use Rattle.committees.proofs.Rounds.{place_below}
 use Rattle.committees.specs.Committees.{committee_start, compute_committee}
 use Rattle.committees.proofs.Parts.{first_fits}
 use Rattle.spec_state.specs.declared.plain.PlainState.{PlainState}

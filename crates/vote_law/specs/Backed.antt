@@ -5,7 +5,7 @@ use Rattle.std.specs.List.{AllByRecursion}
 use Rattle.beacon_types.specs.declared.attestation_data.AttestationData.{AttestationData}
 use Rattle.beacon_types.specs.declared.checkpoint.Checkpoint.{Checkpoint}
 use Rattle.beacon_types.specs.declared.pending_attestation.PendingAttestation.{PendingAttestation}
-use Rattle.beacon_body.specs.declared.attestation.Attestation.{Attestation}
+use Rattle.beacon_types.specs.declared.attestation.Attestation.{Attestation}
 use Rattle.spec_state.specs.declared.plain.PlainState.{PlainState}
 use Rattle.spec_state.specs.Misc.{compute_epoch_at_slot}
 use Rattle.spec_state.specs.Accessors.{get_current_epoch, get_previous_epoch, get_committee_count_per_slot, get_attesting_indices}

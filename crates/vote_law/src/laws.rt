@@ -7,8 +7,8 @@ ghost use Rattle.bc_preset.specs.declared.configuration.ConfigValues.{ConfigValu
 ghost use Rattle.bc_preset.specs.laws.Bounds.{HasPresetBounds};
 ghost use Rattle.beacon_types.specs.Equality.{same_root};
 ghost use Rattle.beacon_types.specs.declared.attestation_data.AttestationData.{AttestationData};
-ghost use Rattle.beacon_body.specs.Containers.{block_codec};
-ghost use Rattle.beacon_body.specs.declared.signed_block.SignedBeaconBlock.{SignedBeaconBlock};
+ghost use Rattle.beacon_types.specs.Blocks.{block_codec};
+ghost use Rattle.beacon_types.specs.declared.signed_block.SignedBeaconBlock.{SignedBeaconBlock};
 ghost use Rattle.spec_state.specs.declared.plain.PlainState.{PlainState};
 ghost use Rattle.spec_state.specs.Genesis.{header_root_of, zero_root};
 ghost use Rattle.spec_state.specs.States.{state_codec};

@@ -3,7 +3,7 @@ use Rattle.std.specs.Prelude.{◌≡◌, Bool, not, length, Result, Ok, Err, ◌
 use Rattle.bc_words.specs.Outcome.{Outcome, done, StopsExactly}
 use Rattle.bc_words.specs.declared.stop.Stop.{Stop}
 use Rattle.beacon_types.specs.declared.attestation_data.AttestationData.{AttestationData}
-use Rattle.beacon_body.specs.declared.attestation.Attestation.{Attestation}
+use Rattle.beacon_types.specs.declared.attestation.Attestation.{Attestation}
 use Rattle.spec_state.specs.declared.plain.PlainState.{PlainState}
 use Rattle.spec_state.specs.Misc.{compute_epoch_at_slot}
 use Rattle.spec_state.specs.Accessors.{get_current_epoch, get_previous_epoch, get_attesting_indices}

@@ -4,7 +4,7 @@ use Rattle.bc_words.specs.Outcome.{Outcome, done, ◌>>=◌}
 use Rattle.bc_words.specs.declared.refusal.Refusal.{Refusal}
 use Rattle.bc_words.specs.declared.refusal.Refusal.TheVariants.{AtEmpty, ListFull}
 use Rattle.beacon_types.specs.declared.pending_attestation.PendingAttestation.{PendingAttestation}
-use Rattle.beacon_body.specs.declared.attestation.Attestation.{Attestation}
+use Rattle.beacon_types.specs.declared.attestation.Attestation.{Attestation}
 use Rattle.spec_state.specs.declared.plain.PlainState.{PlainState}
 use Rattle.spec_blocks.specs.Checks.{check, ◌>>◌}
 use Rattle.spec_blocks.specs.ProcessAttestation.{with_pending, with_current_pending, with_previous_pending}

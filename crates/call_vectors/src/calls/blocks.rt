@@ -4,7 +4,7 @@ use crate::calls::answers::root_line;
 use crate::calls::given::Given;
 use anyhow::{Result, bail};
 use bc_words::NoMemory;
-use beacon_body::SignedBeaconBlock;
+use beacon_types::SignedBeaconBlock;
 use hash_tree::Leaf;
 use ssz_codec::{Ssz, SszFault};
 use std::alloc::Global;

@@ -3,8 +3,8 @@
 use crate::calls::given::Given;
 use anyhow::Result;
 use bc_words::Stop;
-use beacon_body::{BeaconBlock, BeaconBlockBody};
 use beacon_state::State;
+use beacon_types::{BeaconBlock, BeaconBlockBody};
 use ssz_codec::Ssz;
 use std::alloc::Global;
 

@@ -3,8 +3,8 @@
 use crate::calls::given::Given;
 use anyhow::Result;
 use bc_words::Stop;
-use beacon_body::{AttesterSlashing, ProposerSlashing};
 use beacon_state::State;
+use beacon_types::{AttesterSlashing, ProposerSlashing};
 use ssz_codec::Ssz;
 use std::alloc::Global;
 

@@ -1,7 +1,7 @@
 -- The attestations of a slot that are given one after another.
 use Rattle.std.specs.Prelude.{◌≡◌, ℕ, List, [], ◌∷◌, map, drop, Option, Some, None, Result, Ok, Err}
 use Rattle.bc_words.specs.declared.stop.NoMemory.{NoMemory}
-use Rattle.beacon_body.specs.declared.attestation.Attestation.{Attestation}
+use Rattle.beacon_types.specs.declared.attestation.Attestation.{Attestation}
 use Rattle.record_file.specs.declared.event.Event.{Event}
 use Rattle.spec_drill.specs.Make.{MadeEvent}
 use Rattle.spec_drill.specs.Make as makes

@@ -1,6 +1,6 @@
 -- The attestations of blocks as they are added to the votes: each with its place and its attesters.
 use Rattle.std.specs.Prelude.{ℕ, ◌+◌, List, [], ◌∷◌, ◌++◌, map}
-use Rattle.beacon_body.specs.declared.attestation.Attestation.{Attestation}
+use Rattle.beacon_types.specs.declared.attestation.Attestation.{Attestation}
 use Rattle.spec_state.specs.declared.plain.PlainState.{PlainState}
 use Rattle.spec_state.specs.Accessors.{get_attesting_indices}
 use Rattle.spec_forensics.specs.Histories.{AcceptedBlock}

@@ -5,7 +5,7 @@ use Rattle.bc_words.specs.Outcome.{Outcome}
 use Rattle.bc_words.specs.declared.refusal.Refusal.TheVariants.{FutureBlock, BeforeFinalized, NotOnFinalized}
 use Rattle.beacon_types.specs.Equality.{same_root}
 use Rattle.beacon_types.specs.declared.checkpoint.Checkpoint.{Checkpoint}
-use Rattle.beacon_body.specs.declared.block.BeaconBlock.{BeaconBlock}
+use Rattle.beacon_types.specs.declared.block.BeaconBlock.{BeaconBlock}
 use Rattle.spec_state.specs.declared.plain.PlainState.{PlainState}
 use Rattle.spec_blocks.specs.Checks.{check, ◌>>◌}
 use Rattle.spec_fork_choice.specs.GetAncestor.{get_ancestor}

@@ -2,8 +2,8 @@
 use Rattle.std.specs.Prelude.{◌≡◌, ℕ, ◌<◌, List, [], Option, Some, None, slice_get}
 use Rattle.bc_words.specs.Outcome.{Outcome, done, refused, limited}
 use Rattle.bc_preset.specs.declared.configuration.ConfigValues.{ConfigValues}
-use Rattle.beacon_body.specs.declared.block.BeaconBlock.{BeaconBlock}
-use Rattle.beacon_body.specs.declared.signed_block.SignedBeaconBlock.{SignedBeaconBlock}
+use Rattle.beacon_types.specs.declared.block.BeaconBlock.{BeaconBlock}
+use Rattle.beacon_types.specs.declared.signed_block.SignedBeaconBlock.{SignedBeaconBlock}
 use Rattle.spec_state.specs.declared.plain.PlainState.{PlainState}
 use Rattle.spec_transition.specs.ProcessSlots.{Stepped}
 use Rattle.spec_transition.specs.StateTransition.{state_transition}

@@ -2,7 +2,7 @@
 use Rattle.std.specs.Prelude.{◌≡◌, ℕ, List, Some}
 use Rattle.bc_words.specs.Outcome.{done}
 use Rattle.bc_preset.specs.declared.configuration.ConfigValues.{ConfigValues}
-use Rattle.beacon_body.specs.declared.signed_block.SignedBeaconBlock.{SignedBeaconBlock}
+use Rattle.beacon_types.specs.declared.signed_block.SignedBeaconBlock.{SignedBeaconBlock}
 use Rattle.spec_state.specs.declared.plain.PlainState.{PlainState}
 use Rattle.spec_fork_choice.specs.Store.{KeptBlock, block_of}
 use Rattle.fork_store.specs.ChainStep.{CanStep, chain_step}

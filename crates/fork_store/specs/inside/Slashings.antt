@@ -2,7 +2,7 @@
 use Rattle.bc_words.specs.Outcome.{Outcome, ◌>>=◌}
 use Rattle.bc_words.specs.declared.refusal.Refusal.TheVariants.{AsData, IndexRange}
 use Rattle.beacon_types.specs.Slashable.{is_slashable_attestation_data}
-use Rattle.beacon_body.specs.declared.attester_slashing.AttesterSlashing.{AttesterSlashing}
+use Rattle.beacon_types.specs.declared.attester_slashing.AttesterSlashing.{AttesterSlashing}
 use Rattle.spec_state.specs.declared.plain.PlainState.{PlainState}
 use Rattle.spec_blocks.specs.Checks.{check, ◌>>◌}
 use Rattle.spec_blocks.specs.IsValidIndexedAttestation.{is_valid_indexed_attestation}

@@ -3,7 +3,7 @@ use Rattle.std.specs.Prelude.{ℕ, Bool, not, leb, List, length, Option, Some, N
 use Rattle.bc_words.specs.Outcome.{Outcome, done, refused, ◌>>=◌}
 use Rattle.bc_words.specs.Events.{EventOutcome, accepted, on_the_way}
 use Rattle.bc_words.specs.declared.refusal.Refusal.TheVariants.{FcSlotEpoch, FcTargetUnknown, FcBlockUnknown, FcBlockAfter, FcTargetChain, FcTooEarly, FcCommittee, FcBitsShort, FcEmpty}
-use Rattle.beacon_body.specs.declared.attestation.Attestation.{Attestation}
+use Rattle.beacon_types.specs.declared.attestation.Attestation.{Attestation}
 use Rattle.spec_state.specs.declared.plain.PlainState.{PlainState}
 use Rattle.spec_state.specs.Accessors.{members_with_bits, get_attesting_indices}
 use Rattle.spec_blocks.specs.Checks.{check, ◌>>◌}

@@ -1,7 +1,7 @@
 -- Events that the handlers of the store take, before they are written.
 use Rattle.std.specs.Prelude.{◌<◌, ◌^◌, true, false, List, [], ◌∷◌}
 use Rattle.bc_words.specs.Events.{EventOutcome, accepted, then_event}
-use Rattle.beacon_body.specs.Containers.{signed_block_codec, attestation_codec}
+use Rattle.beacon_types.specs.Blocks.{signed_block_codec, attestation_codec}
 use Rattle.spec_fork_choice.specs.Store.{Store}
 use Rattle.spec_fork_choice.specs.OnTick.{on_tick}
 use Rattle.spec_fork_choice.specs.OnBlock.{on_block}

@@ -4,7 +4,7 @@ use Rattle.bc_words.specs.Outcome.{Outcome, done, bind, ◌>>=◌, each_from}
 use Rattle.bc_words.specs.declared.refusal.Refusal.TheVariants.{StateRoot}
 use Rattle.bc_preset.specs.declared.configuration.ConfigValues.{ConfigValues}
 use Rattle.beacon_types.specs.Equality.{same_root}
-use Rattle.beacon_body.specs.declared.signed_block.SignedBeaconBlock.{SignedBeaconBlock}
+use Rattle.beacon_types.specs.declared.signed_block.SignedBeaconBlock.{SignedBeaconBlock}
 use Rattle.spec_state.specs.declared.plain.PlainState.{PlainState}
 use Rattle.spec_state.specs.States.{state_codec}
 use Rattle.spec_blocks.specs.Checks.{check, ◌>>◌}

@@ -1,7 +1,7 @@
 -- One attestation more, and they are few.
 use Rattle.std.proofs.Common.{List, [], ◌∷◌, ◌++◌, ◌∙◌, length, sym, ap, ap₂, arith}
 use Rattle.std.proofs.lemmas.List.FromFn.{map-range_with_len_more, length-map-range_with_len}
-use Rattle.beacon_body.specs.declared.attestation.Attestation.{Attestation}
+use Rattle.beacon_types.specs.declared.attestation.Attestation.{Attestation}
 use Rattle.spec_drill.specs.MakeVotes.{vote_of}
 use Rattle.chain_maker.proofs.attestations.votes_of.Goals as goal
 

@@ -1,6 +1,6 @@
 use Rattle.std.proofs.Common.{◌∙◌, Bool, ◌||◌, get_or, sym, ap}
 use Rattle.std.proofs.lemmas.List.Folds.{list_any_at, list_any_more}
-use Rattle.beacon_body.specs.declared.attester_slashing.AttesterSlashing.{AttesterSlashing}
+use Rattle.beacon_types.specs.declared.attester_slashing.AttesterSlashing.{AttesterSlashing}
 use Rattle.spec_fork_choice.specs.SameBlock.{same_attester_slashing}
 use Rattle.spec_slasher.specs.Operations.{is_listed}
 use Rattle.forensics.proofs.slashings.is_listed.Goals as goal

@@ -1,6 +1,6 @@
 use Rattle.std.proofs.Common.{◌≡◌, true}
 use Rattle.beacon_types.specs.Slashable.{is_slashable_attestation_data}
-use Rattle.beacon_body.specs.declared.attester_slashing.AttesterSlashing.{AttesterSlashing}
+use Rattle.beacon_types.specs.declared.attester_slashing.AttesterSlashing.{AttesterSlashing}
 use Rattle.spec_slasher.specs.Accepts.{IsProcessed, IsTaken}
 use Rattle.spec_slasher.proofs.Operations.{all_slashable}
 use Rattle.spec_slasher.proofs.Processed.{all_processed}

@@ -1,5 +1,5 @@
 use Rattle.std.proofs.Common.{◌∙◌, List, sym, ap}
-use Rattle.beacon_body.specs.declared.attester_slashing.AttesterSlashing.{AttesterSlashing}
+use Rattle.beacon_types.specs.declared.attester_slashing.AttesterSlashing.{AttesterSlashing}
 use Rattle.spec_slasher.specs.Operations.{is_listed}
 use Rattle.forensics.proofs.Listing.{listed_already, one_behind}
 use Rattle.forensics.proofs.slashings.put.Goals as goal

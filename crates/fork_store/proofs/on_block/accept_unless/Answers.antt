@@ -2,7 +2,7 @@
 use Rattle.std.proofs.Common.{◌≡◌, ◌∙◌, ℕ, ◌<◌, ◌-◌, ◌^◌, List, Option, Some, None, length, ap, refl, subst, sym}
 use Rattle.bc_words.specs.Events.{accepted, event_clashes}
 use Rattle.bc_words.specs.declared.store_stop.ClashKind.{ClashKind}
-use Rattle.beacon_body.specs.declared.block.BeaconBlock.{BeaconBlock}
+use Rattle.beacon_types.specs.declared.block.BeaconBlock.{BeaconBlock}
 use Rattle.spec_fork_choice.specs.Store.{KeptBlock, Store}
 use Rattle.spec_fork_choice.specs.Clash.{clash_of}
 use Rattle.spec_fork_choice.specs.OnBlock.{BlockIn, accept_block, with_accepted}

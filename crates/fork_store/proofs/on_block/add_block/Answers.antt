@@ -3,7 +3,7 @@ use Rattle.block_array.specs.PlainArray.{PlainArray}
 use Rattle.block_array.specs.declared.facts.Facts.{Facts}
 use Rattle.block_array.specs.Calls.{with_node}
 use Rattle.spec_fork_choice.specs.Store.{Store}
-use Rattle.beacon_body.specs.declared.signed_block.SignedBeaconBlock.{SignedBeaconBlock}
+use Rattle.beacon_types.specs.declared.signed_block.SignedBeaconBlock.{SignedBeaconBlock}
 use Rattle.fork_store.specs.inside.Accepted.{kept_of}
 use Rattle.fork_store.specs.Arrays.{node_number, IsArrayOf}
 use Rattle.fork_store.specs.inside.Keepers.{IsStepOn}

@@ -1,6 +1,6 @@
 -- The slots up to a block, and the block.
 use Rattle.std.proofs.Common.{◌++◌, sym}
-use Rattle.beacon_body.specs.Containers.{block_codec}
+use Rattle.beacon_types.specs.Blocks.{block_codec}
 use Rattle.vote_law.specs.Backed.{Adding, AreAmong, votes_of}
 use Rattle.vote_law.specs.Runs.{AreAt}
 use Rattle.vote_law.proofs.ListedVotes.{added_are_among, goes_more}

@@ -1,6 +1,6 @@
 use Rattle.std.proofs.Common.{◌≡◌, ◌∙◌, ℕ, ◌≤◌, List, length, sym, ap, subst, arith}
 use Rattle.beacon_types.specs.Limits.{max_validators_per_committee}
-use Rattle.beacon_body.specs.declared.attestation.Attestation.{Attestation}
+use Rattle.beacon_types.specs.declared.attestation.Attestation.{Attestation}
 use Rattle.committees.specs.Committees.{Committees}
 use Rattle.spec_slasher.specs.GetIndexedAttestation.{in_order}
 use Rattle.spec_slasher.proofs.Lists.{in_order_long}

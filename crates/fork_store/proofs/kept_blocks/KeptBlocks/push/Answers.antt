@@ -2,7 +2,7 @@
 use Rattle.std.proofs.Common.{◌≡◌, ◌∙◌, ◌++◌, ◌∷◌, [], sym, ap, subst, arith}
 use Rattle.std.specs.List.{AllByRecursion}
 use Rattle.bc_preset.specs.declared.configuration.ConfigValues.{ConfigValues}
-use Rattle.beacon_body.specs.declared.signed_block.SignedBeaconBlock.{SignedBeaconBlock}
+use Rattle.beacon_types.specs.declared.signed_block.SignedBeaconBlock.{SignedBeaconBlock}
 use Rattle.state_parts.proofs.Within.{all_push}
 use Rattle.spec_fork_choice.specs.Store.{KeptBlock}
 use Rattle.state_keeper.specs.Chain.{Kept}

@@ -1,6 +1,0 @@
-use Rattle.std.proofs.Common.{refl}
-use Rattle.beacon_body.proofs.limits.AttesterSlashingsLimitListLimit.LIMIT.Goals as goal
-
--- MAX_ATTESTER_SLASHINGS
-pub returns : goal.returns
-returns c = refl

@@ -1,0 +1,5 @@
+use Rattle.committees.specs.inside.Pass.{by_source, Passed}
+use Rattle.committees.proofs.narrow.swap_each.Given as goal
+
+abbrev pub invariant-loop-position : goal.invariant-loop-position
+invariant-loop-position l = Passed (by_source l.source l.sum) l.sum l.first l.position l.fn.list l.list

@@ -1,5 +1,0 @@
-pub mod Bits
-pub mod Joined
-pub mod Pass
-pub mod Rounds
-pub mod SixteenLanes

@@ -1,6 +1,0 @@
--- The bytes are read from the last one to the first.
-use Rattle.std.proofs.Common.{rules, arith}
-use Rattle.shuffling.proofs.lanes.load_turned.Goals as goal
-
-pub returns : goal.returns
-returns c = search (rules, arith)

@@ -1,6 +1,0 @@
-use Rattle.std.proofs.Common.{arith}
-use Rattle.shuffling.proofs.SixteenLanes.{chosen}
-use Rattle.shuffling.proofs.lanes.mixed.Goals as goal
-
-pub returns : goal.returns
-returns c = chosen c.args.bits c.bytes_of.result c.bytes_of.ensures.long c.bytes_of.ensures.low c.bytes_of.ensures.high c.args.one c.args.other (omega arith) (omega arith)

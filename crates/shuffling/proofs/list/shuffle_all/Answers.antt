@@ -1,6 +1,0 @@
--- The list that is answered is the one after all rounds.
-use Rattle.std.proofs.Common.{◌∙◌}
-use Rattle.shuffling.proofs.list.shuffle_all.Goals as goal
-
-pub returns-clause-shuffled : goal.returns-clause-shuffled
-returns-clause-shuffled c = c.into_list.ensures ∙ (rw (c.new-seed.ensures, c.new-items.ensures) at c.shuffle_rounds.ensures)

@@ -1,5 +1,0 @@
-use Rattle.std.proofs.Common.{arith}
-use Rattle.shuffling.proofs.planes.join.Goals as goal
-
-pub returns : goal.returns
-returns c = λ k less. c.loop-i.invariant k (omega arith)

@@ -1,8 +1,0 @@
--- The bit of a position is the bit of its byte.
-use Rattle.std.proofs.Common.{refl}
-use Rattle.shuffling.specs.Shuffling.{bit_in}
-use Rattle.shuffling.proofs.round.bit_at.Goals as goal
-
-pub returns-clause-bit : goal.returns-clause-bit
-unfolding bit_in
-returns-clause-bit c = refl

@@ -1,2 +1,0 @@
-pub mod Shuffling
-pub mod inside
