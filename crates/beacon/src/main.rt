@@ -6,17 +6,25 @@ mod program;
 mod progress;
 mod stack;
 
-use crate::program::run;
+use crate::program::{explain_words, run, words_of};
 use crate::progress::Progress;
-use crate::stack::{PAGES, pages_taken};
+use crate::stack::{pages_for, pages_taken};
 use beacon_node::Status;
 use std::process;
 use std::process::ExitCode;
 
 fn main(rt: HostRuntime) -> ExitCode {
-    if pages_taken(PAGES, process::id(rt.process()) as usize) > PAGES {
+    let words = match words_of(&rt) {
+        Ok(words) => words,
+        Err(status) => {
+            explain_words(&rt, &status);
+            return ExitCode::from(status.number());
+        }
+    };
+    let pages = pages_for(&words);
+    if pages_taken(pages, process::id(rt.process()) as usize) > pages {
         return ExitCode::from(Status::NoMemory.number());
     }
     let progress = Progress::beside(&rt.stdout(), &rt.stderr());
-    ExitCode::from(run(&rt, progress))
+    ExitCode::from(run(&rt, &words, progress))
 }

@@ -12,7 +12,7 @@ use std::time::Clock;
 use std::{env, io};
 
 /// The words behind the program's name. A word that isn't text is none of a command.
-fn words_of<R: Env + AllocGlobal>(rt: &R) -> Result<Vec<String>, Status> {
+pub fn words_of<R: Env + AllocGlobal>(rt: &R) -> Result<Vec<String>, Status> {
     let mut words = Vec::new(rt.alloc());
     match env::args(rt) {
         Ok(args) => {
@@ -29,7 +29,7 @@ fn words_of<R: Env + AllocGlobal>(rt: &R) -> Result<Vec<String>, Status> {
 }
 
 /// Says on one line of standard error why there are no words.
-fn explain_words<R: Eprint>(rt: &R, status: &Status) {
+pub fn explain_words<R: Eprint>(rt: &R, status: &Status) {
     let _ = match status {
         Status::Words => eprintln!(rt; "Words: a word isn't text in UTF-8"),
         _ => eprintln!(rt; "NoMemory: memory ran out"),
@@ -109,26 +109,20 @@ fn explain<'a, R: Eprint + Files, W: io::Write>(
     }
 }
 
-/// Runs the command that the program's words are, over the disk and standard output, and answers the number that the
-/// program ends with. Where it isn't 0, one line on standard error says why. The progress of a long record is shown there
+/// Runs the command that these words are, over the disk and standard output, and answers the number that the program ends
+/// with. Where it isn't 0, one line on standard error says why. The progress of a long record is shown there
 /// where it is asked for, and cleared at the end.
-pub fn run<R: Env + Files + Print + Eprint + Clock + AllocGlobal>(
+pub fn run<R: Files + Print + Eprint + Clock + AllocGlobal>(
     rt: &R,
+    words: &[String],
     progress: Progress,
 ) -> u8 {
-    let words = match words_of(rt) {
-        Ok(words) => words,
-        Err(status) => {
-            explain_words(rt, &status);
-            return status.number();
-        }
-    };
-    let watch = Watch::new(rt, progress, record_of(rt.alloc(), &words));
+    let watch = Watch::new(rt, progress, record_of(rt.alloc(), words));
     let mut shelf = WatchedShelf::new(DiskShelf::new(rt.alloc(), rt), &watch);
     let written = StdSink::new(rt.alloc(), WatchedOut::new(rt, &watch));
     let mut out = WatchedSink::new(written, &watch);
-    let status = beacon_main(rt.alloc(), &words, &mut shelf, &mut out);
+    let status = beacon_main(rt.alloc(), words, &mut shelf, &mut out);
     watch.clear();
-    explain(rt.alloc(), rt, &status, &words, shelf.shelf(), out.sink());
+    explain(rt.alloc(), rt, &status, words, shelf.shelf(), out.sink());
     status.number()
 }

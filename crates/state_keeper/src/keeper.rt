@@ -23,7 +23,7 @@ use std::snapshot::Snapshot;
 use std::sync::ledger::Ledger;
 
 /// How many states the cache has at most.
-const CACHED: usize = 32;
+const CACHED: usize = 16;
 
 /// The states behind kept blocks, each of which is behind its parent by a step. Contracts see the list of blocks, each with its
 /// parent's number and the state that it stands for, whichever states are held.
