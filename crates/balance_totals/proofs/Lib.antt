@@ -1,3 +1,4 @@
 pub mod ActiveLeft
 pub mod LeftOf
 pub mod LookedUp
+pub mod Gathered

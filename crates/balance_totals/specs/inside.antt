@@ -1,3 +1,5 @@
 -- Words of this crate's own contracts.
 pub mod PerSlot
 pub mod Sums
+pub mod Stakes
+pub mod Stirring

@@ -6,11 +6,11 @@ ghost use Rattle.spec_state.specs.Accessors.{get_current_epoch, get_previous_epo
 use crate::ratio::{Time, now, tell_ratio, time_since};
 use crate::states::{Shape, put_offset, put_vote, read_mainnet};
 use anyhow::Result;
-use attest_ops::process_attestation::process_counted_attestation;
 use balance_totals::{count_active, current_epoch, previous_epoch};
 use bc_words::Stop;
 use beacon_state::State;
 use beacon_types::Attestation;
+use block_operations::process_attestation::process_counted_attestation;
 use ssz_codec::Ssz;
 use std::time::CpuClock;
 

@@ -9,22 +9,21 @@ ghost use Rattle.spec_state.specs.Soundness.{IsSound, IsSoundWithinEpoch};
 use crate::ratio::{Time, now, tell_numbers, tell_ratio, tell_times, time_since};
 use crate::states::{CONFIG, Shape, read_mainnet};
 use anyhow::{Result, bail};
-use balance_totals::{committees_of_epoch, current_epoch, previous_epoch};
+use balance_totals::{Stakes, committees_of_epoch, current_epoch, gather, previous_epoch};
 use bc_preset::Config;
 use bc_words::{NoMemory, Stop};
 use beacon_state::State;
 use committees::EpochCommittees;
-use epoch_close::process_effective_balance_updates::process_effective_balances;
-use epoch_close::process_eth1_data_reset::process_eth1_reset;
-use epoch_close::process_historical_roots_update::process_historical_roots;
-use epoch_close::process_participation_record_updates::process_rotation;
-use epoch_close::process_randao_mixes_reset::process_randao_reset;
-use epoch_close::process_slashings::process_slashings;
-use epoch_close::process_slashings_reset::process_slashings_reset;
+use epoch_processing::process_effective_balance_updates::process_effective_balances;
+use epoch_processing::process_eth1_data_reset::process_eth1_reset;
+use epoch_processing::process_historical_roots_update::process_historical_roots;
+use epoch_processing::process_justification;
+use epoch_processing::process_participation_record_updates::process_rotation;
+use epoch_processing::process_randao_mixes_reset::process_randao_reset;
+use epoch_processing::process_slashings::process_slashings;
+use epoch_processing::process_slashings_reset::process_slashings_reset;
 use epoch_rewards::process_rewards;
-use justification::process_justification;
 use participation::{current_flags, previous_statuses};
-use stakes::{Stakes, gather};
 use std::alloc::Global;
 use std::time::CpuClock;
 use transition::{is_sound, is_sound_within_epoch, sound_within_epoch};
@@ -224,7 +223,7 @@ fn time_resets(rt: &impl CpuClock, state: &mut State) -> Result<Time, Stop> {
 }
 
 /// The time of the effective balances.
-#[tactic(auto, using(epoch_close::proofs::Gathered::gathered_balances))]
+#[tactic(auto, using(epoch_processing::proofs::Gathered::gathered_balances))]
 fn time_effective_balances(
     rt: &(impl AllocGlobal + CpuClock),
     state: &mut State,

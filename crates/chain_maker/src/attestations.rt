@@ -8,11 +8,11 @@ ghost use Rattle.spec_state.specs.Misc.{compute_epoch_at_slot};
 ghost use Rattle.spec_drill.specs.MakeVotes.{source_for, vote_of, votes_of};
 ghost use Rattle.spec_drill.specs.inside.Calm.{IsCalm};
 
-use attest_ops::committee_size;
 use balance_totals::{block_root, count_active, current_epoch};
 use bc_words::NoMemory;
 use beacon_state::State;
 use beacon_types::{AggregationBits, Attestation, AttestationData, Attestations, Checkpoint};
+use block_operations::committee_size;
 use committees::committee_count_per_slot;
 use hash_tree::Root;
 use ssz_codec::{BitList, Items, VariableList};

@@ -11,8 +11,8 @@ use Rattle.spec_blocks.specs.Checks.{item_at, found}
 use Rattle.spec_epochs.specs.GetBaseReward.{get_base_reward}
 use Rattle.spec_epochs.proofs.Each.{bound_done}
 use Rattle.spec_epochs.proofs.Totals.{least_total}
-use Rattle.stakes.specs.declared.stake.Stake.{Stake}
-use Rattle.stakes.specs.inside.Stakes.{stake_of, stakes_of}
+use Rattle.balance_totals.specs.declared.stake.Stake.{Stake}
+use Rattle.balance_totals.specs.inside.Stakes.{stake_of, stakes_of}
 use Rattle.epoch_rewards.specs.inside.Divisor.{divisor_of}
 use Rattle.epoch_rewards.specs.inside.Rates.{base_by_balance}
 use Rattle.epoch_rewards.proofs.Gathered.{by_stake}

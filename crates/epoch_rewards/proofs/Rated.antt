@@ -5,8 +5,8 @@ use Rattle.spec_state.specs.declared.plain.PlainState.{PlainState}
 use Rattle.spec_epochs.specs.GetBaseReward.{get_base_reward}
 use Rattle.spec_epochs.specs.RewardHelpers.{get_proposer_reward}
 use Rattle.spec_epochs.specs.GetInactivityPenaltyDeltas.{absence_penalty}
-use Rattle.stakes.specs.declared.stake.Stake.{Stake}
-use Rattle.stakes.specs.inside.Stakes.{stakes_of}
+use Rattle.balance_totals.specs.declared.stake.Stake.{Stake}
+use Rattle.balance_totals.specs.inside.Stakes.{stakes_of}
 use Rattle.epoch_rewards.specs.declared.rates.Rates.{Rates}
 use Rattle.epoch_rewards.specs.inside.Rates.{base_by_balance, proposer_by_balance, absence_by_balance, AreRates}
 use Rattle.epoch_rewards.proofs.Divisor.{base_here}

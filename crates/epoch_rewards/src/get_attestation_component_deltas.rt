@@ -5,7 +5,7 @@ ghost use Rattle.std.specs.Prelude.{◌≡◌, ◌≤◌};
 ghost use Rattle.bc_words.specs.Outcome.{GivesExactly, Gives};
 ghost use Rattle.spec_epochs.specs.GetAttestationComponentDeltas.{attester_reward};
 ghost use Rattle.spec_epochs.specs.GetBaseReward.{get_base_reward};
-ghost use Rattle.stakes.specs.inside.Stakes.{stakes_of};
+ghost use Rattle.balance_totals.specs.inside.Stakes.{stakes_of};
 ghost use Rattle.participation.specs.inside.Marks.{flagged};
 ghost use Rattle.participation.specs.inside.Statuses.{flags_of};
 ghost use Rattle.epoch_rewards.specs.inside.Components.{AreWeights, component_reward, component_penalty, needed_balance, component_deltas};
@@ -15,13 +15,12 @@ use crate::amounts::{Amounts, all_amounts};
 use crate::get_eligible_validator_indices::{is_attester, is_eligible};
 use crate::is_in_inactivity_leak::is_in_inactivity_leak;
 use crate::standing::Standing;
-use balance_totals::{current_epoch, total_active};
+use balance_totals::{Stake, current_epoch, total_active};
 use bc_words::{Stop, checked_mul, isqrt};
 use beacon_state::State;
 use participation::{Status, Vote, vote_balance};
 use spec_epochs::Deltas;
 use ssz_codec::Items;
-use stakes::Stake;
 use std::alloc::Global;
 
 /// What rewards and penalties of a component are reckoned by.

@@ -4,7 +4,7 @@ ghost use Rattle.std.specs.Prelude.{◌≡◌, if◌then◌else◌};
 ghost use Rattle.bc_words.specs.Outcome.{GivesExactly, done, Gives, GivesBy};
 ghost use Rattle.spec_epochs.specs.Each.{is_among};
 ghost use Rattle.spec_epochs.specs.GetInactivityPenaltyDeltas.{absence_penalty, inactivity_penalty, get_inactivity_penalty_deltas};
-ghost use Rattle.stakes.specs.inside.Stakes.{stakes_of};
+ghost use Rattle.balance_totals.specs.inside.Stakes.{stakes_of};
 ghost use Rattle.participation.specs.declared.matching.Vote.TheVariants as votes;
 ghost use Rattle.participation.specs.inside.Marks.{flagged};
 ghost use Rattle.participation.specs.inside.Statuses.{flags_of, statuses_of};
@@ -20,12 +20,12 @@ use crate::get_finality_delay::get_finality_delay;
 use crate::is_in_inactivity_leak::is_in_inactivity_leak;
 use crate::numbers::zeros;
 use crate::standing::Standing;
+use balance_totals::Stake;
 use bc_words::{Stop, checked_add, checked_mul, checked_sub};
 use beacon_state::State;
 use participation::{Status, Vote};
 use spec_epochs::Deltas;
 use ssz_codec::Items;
-use stakes::Stake;
 use std::alloc::Global;
 
 /// What a validator that didn't attest to the target loses besides, in Gwei, by its effective balance.

@@ -3,7 +3,7 @@
 
 ghost use Rattle.std.specs.Prelude.{◌≡◌, ◌/◌, slice_index, slice_set};
 ghost use Rattle.bc_words.specs.Outcome.{GivesExactly, Moves, bind, done, checked_add, Gives, GivesBy};
-ghost use Rattle.stakes.specs.inside.Stakes.{stakes_of};
+ghost use Rattle.balance_totals.specs.inside.Stakes.{stakes_of};
 ghost use Rattle.participation.specs.declared.matching.Vote.TheVariants as votes;
 ghost use Rattle.participation.specs.inside.Marks.{flagged};
 ghost use Rattle.participation.specs.inside.Statuses.{flags_of, entries_of, statuses_of};
@@ -21,12 +21,12 @@ use crate::get_eligible_validator_indices::is_attester;
 use crate::numbers::{number_at, zeros};
 use crate::rates::{follow, rates_of};
 use crate::standing::Standing;
+use balance_totals::{Stake, stake_at};
 use bc_words::{Stop, checked_add, checked_sub};
 use beacon_state::State;
 use participation::{Status, Vote, counted, inclusion_at};
 use spec_epochs::Deltas;
 use ssz_codec::Items;
-use stakes::{Stake, stake_at};
 use std::alloc::Global;
 
 /// Adds to the gains of a validator.

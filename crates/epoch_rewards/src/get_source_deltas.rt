@@ -4,15 +4,15 @@ ghost use Rattle.std.specs.Prelude.{◌≡◌};
 ghost use Rattle.bc_words.specs.Outcome.{Gives};
 ghost use Rattle.spec_state.specs.Accessors.{get_previous_epoch};
 ghost use Rattle.spec_epochs.specs.GetSourceDeltas.{get_source_deltas};
-ghost use Rattle.stakes.specs.inside.Stakes.{stakes_of};
+ghost use Rattle.balance_totals.specs.inside.Stakes.{stakes_of};
 ghost use Rattle.participation.specs.inside.Statuses.{statuses_of};
 
 use crate::vote_deltas::vote_deltas;
+use balance_totals::Stake;
 use bc_words::Stop;
 use beacon_state::State;
 use participation::{Status, Vote};
 use spec_epochs::Deltas;
-use stakes::Stake;
 use std::alloc::Global;
 
 /// What each validator gains and loses by the source of the previous epoch's attestations (beacon-chain.md,

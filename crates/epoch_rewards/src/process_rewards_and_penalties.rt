@@ -5,7 +5,7 @@ ghost use Rattle.bc_words.specs.Outcome.{Changes, GivesBy, GivesExactly, bind, d
 ghost use Rattle.spec_state.specs.Accessors.{get_previous_epoch};
 ghost use Rattle.spec_state.specs.Soundness.{IsSoundWithinEpoch};
 ghost use Rattle.spec_epochs.specs.ProcessRewardsAndPenalties.{process_rewards_and_penalties};
-ghost use Rattle.stakes.specs.inside.Stakes.{stakes_of};
+ghost use Rattle.balance_totals.specs.inside.Stakes.{stakes_of};
 ghost use Rattle.participation.specs.declared.matching.Vote.{Vote};
 ghost use Rattle.participation.specs.declared.matching.Vote.TheVariants as votes;
 ghost use Rattle.participation.specs.inside.Marks.{flagged};
@@ -20,11 +20,10 @@ use crate::get_attestation_component_deltas::{Weights, needed_balance, weights_o
 use crate::get_inclusion_delay_deltas::proposer_gains;
 use crate::is_in_inactivity_leak::is_in_inactivity_leak;
 use crate::paid::Paid;
-use balance_totals::{current_epoch, total_active};
+use balance_totals::{Stake, current_epoch, total_active};
 use bc_words::{Stop, isqrt};
 use beacon_state::State;
 use participation::{Status, Vote};
-use stakes::Stake;
 use std::alloc::Global;
 
 /// The balances of all validators after their rewards and penalties, in Gwei, by how each attested and by what each vote is

@@ -2,15 +2,15 @@
 //! each, and every part reads it there.
 
 ghost use Rattle.std.specs.Prelude.{◌≡◌, Some, slice_get};
-ghost use Rattle.stakes.specs.inside.Stakes.{stakes_of};
+ghost use Rattle.balance_totals.specs.inside.Stakes.{stakes_of};
 ghost use Rattle.epoch_rewards.specs.inside.Rates.{AreRates};
 ghost use Rattle.epoch_rewards.specs.inside.Standings.{IsStanding};
 
 use crate::get_eligible_validator_indices::has_right;
 use crate::rates::Rates;
+use balance_totals::Stake;
 use beacon_state::State;
 use participation::{Inclusion, Status, Vote, inclusion_at};
-use stakes::Stake;
 
 /// How a validator stands.
 #[derive(Clone, Copy)]

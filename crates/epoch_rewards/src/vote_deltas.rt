@@ -4,16 +4,16 @@
 ghost use Rattle.std.specs.Prelude.{◌≡◌};
 ghost use Rattle.bc_words.specs.Outcome.{Gives};
 ghost use Rattle.spec_state.specs.Accessors.{get_previous_epoch};
-ghost use Rattle.stakes.specs.inside.Stakes.{stakes_of};
+ghost use Rattle.balance_totals.specs.inside.Stakes.{stakes_of};
 ghost use Rattle.participation.specs.inside.Statuses.{statuses_of};
 ghost use Rattle.epoch_rewards.specs.inside.Components.{vote_deltas};
 
 use crate::get_attestation_component_deltas::get_attestation_component_deltas;
+use balance_totals::Stake;
 use bc_words::Stop;
 use beacon_state::State;
 use participation::{Status, Vote};
 use spec_epochs::Deltas;
-use stakes::Stake;
 use std::alloc::Global;
 
 /// What each validator gains and loses by a vote of the previous epoch's attestations. The stakes are the state's,

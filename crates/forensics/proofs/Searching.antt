@@ -3,7 +3,7 @@ use Rattle.std.proofs.Common.{◌≡◌, ◌∙◌, ℕ, ◌+◌, ◌<◌, ◌�
 use Rattle.std.specs.List.{list_any}
 use Rattle.std.specs.Option.{unwrap_or}
 use Rattle.spec_state.specs.Accessors.{members_with_bits}
-use Rattle.attest_ops.proofs.Members.{one_does_not, one_attests, members_end}
+use Rattle.block_operations.proofs.Members.{one_does_not, one_attests, members_end}
 
 abbrev left : List ℕ → List Bool → ℕ → List ℕ
 left members bits i = members_with_bits (drop i members) (drop i bits)

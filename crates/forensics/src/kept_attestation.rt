@@ -9,9 +9,9 @@ ghost use Rattle.spec_state.specs.Accessors.{members_with_bits};
 ghost use Rattle.forensics.specs.inside.Carriers.{attesters_among, attested_among, has_vote, indexed_of};
 
 use crate::indices::in_order;
-use attest_ops::attesting_indices;
 use bc_words::NoMemory;
 use beacon_types::{Attestation, AttestationData, AttestingIndices, IndexedAttestation};
+use block_operations::attesting_indices;
 use committees::EpochCommittees;
 use spec_forensics::Vote;
 use ssz_codec::{BitList, VariableSsz};

@@ -26,8 +26,8 @@ use bc_words::{NoMemory, Refusal, Stop, StoreStop};
 use beacon_state::State;
 use beacon_types::{AttesterSlashing, is_slashable_data};
 use block_array::BlockArray;
-use slashing_ops::is_valid_indexed_attestation::is_valid_indexed_attestation;
-use slashing_ops::process_attester_slashing::is_among;
+use block_operations::is_valid_indexed_attestation::is_valid_indexed_attestation;
+use block_operations::process_attester_slashing::is_among;
 use state_keeper::Keeper;
 use std::alloc::Global;
 

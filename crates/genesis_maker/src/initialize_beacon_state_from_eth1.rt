@@ -3,7 +3,7 @@
 
 ghost use Rattle.std.specs.Prelude.{◌≡◌, ◌≤◌, ◌<◌, ◌*◌, ◌^◌, [], length, IfOk};
 ghost use Rattle.bc_preset.specs.Presets.{IsPreset};
-ghost use Rattle.deposit_ops.specs.Indexes.{Indexes};
+ghost use Rattle.block_operations.specs.Indexes.{Indexes};
 ghost use Rattle.spec_state.specs.Writing.{HasWriting};
 ghost use Rattle.spec_genesis.specs.InitializeBeaconStateFromEth1.{activated, initialize_beacon_state_from_eth1, process_genesis_deposits};
 ghost use Rattle.spec_genesis.specs.MadeGenesis.{IsGenesis};
@@ -19,7 +19,7 @@ use crate::stops::{MakeStop, StoppedAt};
 use bc_preset::Preset;
 use bc_words::{NoMemory, Stop};
 use beacon_state::State;
-use deposit_ops::PubkeyIndex;
+use block_operations::PubkeyIndex;
 use hash_tree::Root;
 use std::alloc::Global;
 

@@ -4,15 +4,15 @@
 ghost use Rattle.std.specs.Prelude.{◌≡◌, ◌<◌, ◌^◌, ◌++◌, ◌∷◌, [], length, IfOk, OnOk};
 ghost use Rattle.bc_words.specs.Outcome.{Moves};
 ghost use Rattle.beacon_types.specs.Containers.{deposit_data_codec};
-ghost use Rattle.deposit_ops.specs.Indexes.{Indexes};
+ghost use Rattle.block_operations.specs.Indexes.{Indexes};
 ghost use Rattle.genesis_maker.specs.inside.Making.{process_on_leaves, with_root};
 
 use crate::deposit_tree::DepositTree;
 use bc_words::{NoMemory, Stop};
 use beacon_state::State;
 use beacon_types::{Deposit, DepositData, DepositProof};
-use deposit_ops::PubkeyIndex;
-use deposit_ops::process_deposit::process_deposit;
+use block_operations::PubkeyIndex;
+use block_operations::process_deposit::process_deposit;
 use hash_tree::{Leaf, Root};
 use std::alloc::Global;
 

@@ -5,9 +5,9 @@ use Rattle.beacon_types.specs.declared.validator.Validator.{Validator}
 use Rattle.spec_state.specs.declared.plain.PlainState.{PlainState}
 use Rattle.spec_state.specs.Misc.{effective_balance}
 use Rattle.spec_state.specs.Accessors.{get_previous_epoch}
-use Rattle.stakes.specs.declared.stake.Stake.{Stake}
-use Rattle.stakes.specs.inside.Stakes.{stake_of, stakes_of}
-use Rattle.stakes.proofs.Gathered.{read_at}
+use Rattle.balance_totals.specs.declared.stake.Stake.{Stake}
+use Rattle.balance_totals.specs.inside.Stakes.{stake_of, stakes_of}
+use Rattle.balance_totals.proofs.Gathered.{read_at}
 use Rattle.participation.specs.inside.Marks.{flagged_from}
 use Rattle.participation.proofs.Weighed.{one_counts, one_slashed, one_absent, none_there, weight_read}
 

@@ -4,16 +4,16 @@ ghost use Rattle.std.specs.Prelude.{◌≡◌, MatchOption};
 ghost use Rattle.bc_words.specs.Outcome.{GivesExactly, checked_sum_by};
 ghost use Rattle.spec_state.specs.Misc.{effective_balance};
 ghost use Rattle.spec_state.specs.Accessors.{get_total_balance};
-ghost use Rattle.stakes.specs.inside.Stakes.{stakes_of};
+ghost use Rattle.balance_totals.specs.inside.Stakes.{stakes_of};
 ghost use Rattle.participation.specs.inside.Marks.{flagged, IsPassedOver, IsTaken};
 ghost use Rattle.participation.specs.inside.Statuses.{flags_of};
 
 use crate::flagged::{Flagged, Voters};
 use crate::matching::Vote;
 use crate::table::Status;
+use balance_totals::{Stake, find_stake};
 use bc_words::{Stop, checked_add};
 use beacon_state::State;
-use stakes::{Stake, find_stake};
 
 /// The effective balance of the validator with an index, in Gwei, where it is flagged and isn't slashed. The stakes are the state's.
 #[tactic(auto, using(crate::proofs::ByStake::counting))]

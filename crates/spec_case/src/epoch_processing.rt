@@ -3,19 +3,18 @@
 use crate::case::Case;
 use crate::verdict::{Outside, Verdict, judged};
 use anyhow::Result;
+use balance_totals::{Stakes, gather};
 use bc_preset::Config;
 use bc_words::Stop;
 use beacon_state::State;
-use epoch_close::process_effective_balance_updates;
-use epoch_close::process_eth1_data_reset::process_eth1_reset;
-use epoch_close::process_historical_roots_update::process_historical_roots;
-use epoch_close::process_participation_record_updates::process_rotation;
-use epoch_close::process_randao_mixes_reset::process_randao_reset;
-use epoch_close::process_slashings::process_slashings;
-use epoch_close::process_slashings_reset::process_slashings_reset;
+use epoch_processing::process_eth1_data_reset::process_eth1_reset;
+use epoch_processing::process_historical_roots_update::process_historical_roots;
+use epoch_processing::process_participation_record_updates::process_rotation;
+use epoch_processing::process_randao_mixes_reset::process_randao_reset;
+use epoch_processing::process_slashings::process_slashings;
+use epoch_processing::process_slashings_reset::process_slashings_reset;
+use epoch_processing::{process_effective_balance_updates, process_registry_updates};
 use participation::{current_targets, previous_table};
-use registry_queue::process_registry_updates;
-use stakes::{Stakes, gather};
 use std::alloc::Global;
 use std::rt::Files;
 use transition::{is_sound, is_sound_within_epoch, sound_within_epoch};
@@ -29,7 +28,7 @@ fn justify(alloc: Global, state: &mut State, config: &Config) -> Result<Option<R
     let Stakes { list, stirs: _ } = gather(alloc, state, config)?;
     let previous = previous_table(alloc, state)?;
     let current = current_targets(alloc, state)?;
-    Ok(Some(justification::process_justification(state, &list, &previous, &current)))
+    Ok(Some(epoch_processing::process_justification(state, &list, &previous, &current)))
 }
 
 /// Pays what the votes of the previous epoch bring and cost. None where the state isn't sound.
@@ -50,7 +49,7 @@ fn process_registry(alloc: Global, state: &mut State, config: &Config) -> Result
 }
 
 /// Lets each validator's effective balance follow its balance.
-#[tactic(auto, using(epoch_close::proofs::Gathered::gathered_balances))]
+#[tactic(auto, using(epoch_processing::proofs::Gathered::gathered_balances))]
 fn process_effective_balances(
     alloc: Global,
     state: &mut State,

@@ -7,7 +7,7 @@ use anyhow::{Context, Result, bail};
 use balance_totals::count_active;
 use beacon_state::State;
 use beacon_types::Deposit;
-use deposit_ops::branch_holds;
+use block_operations::branch_holds;
 use genesis_maker::{DepositTree, Deposits, make_genesis};
 use hash_tree::Leaf;
 use ssz_codec::{Ssz, Writer};

@@ -7,7 +7,7 @@ use balance_totals::{committees_of_epoch, current_epoch, previous_epoch};
 use bc_words::Stop;
 use beacon_state::State;
 use beacon_types::{Attestation, BeaconBlock};
-use deposit_ops::PubkeyIndex;
+use block_operations::PubkeyIndex;
 use hash_tree::Leaf;
 use std::alloc::Global;
 use std::rt::Files;
@@ -22,7 +22,7 @@ fn process_attestation(
     let proposer = get_beacon_proposer_index(alloc, state)?;
     let previous = committees_of_epoch(alloc, state, previous_epoch(state))?;
     let current = committees_of_epoch(alloc, state, current_epoch(state))?;
-    attest_ops::process_attestation::process_attestation(
+    block_operations::process_attestation::process_attestation(
         state,
         attestation,
         proposer,
@@ -40,7 +40,7 @@ fn attester_slashing(
     let slashing = case.value(rt, "attester_slashing")?;
     match get_beacon_proposer_index(rt.alloc(), state) {
         Ok(proposer) => Ok(
-            slashing_ops::process_attester_slashing::process_attester_slashing(
+            block_operations::process_attester_slashing::process_attester_slashing(
                 state,
                 &slashing,
                 proposer,
@@ -60,7 +60,7 @@ fn proposer_slashing(
     let slashing = case.value(rt, "proposer_slashing")?;
     match get_beacon_proposer_index(rt.alloc(), state) {
         Ok(proposer) => Ok(
-            slashing_ops::process_proposer_slashing::process_proposer_slashing(
+            block_operations::process_proposer_slashing::process_proposer_slashing(
                 state,
                 &slashing,
                 proposer,
@@ -79,7 +79,7 @@ fn deposit(
 ) -> Result<Result<(), Stop>> {
     let deposit = case.value(rt, "deposit")?;
     let mut keys = PubkeyIndex::of(rt.alloc(), state)?;
-    Ok(deposit_ops::process_deposit::process_deposit(state, &deposit, &mut keys))
+    Ok(block_operations::process_deposit::process_deposit(state, &deposit, &mut keys))
 }
 
 /// Reads an exit, and processes it.
@@ -89,7 +89,13 @@ fn voluntary_exit(
     state: &mut State,
 ) -> Result<Result<(), Stop>> {
     let exit = case.value(rt, "voluntary_exit")?;
-    Ok(exit_queue::process_voluntary_exit::process_voluntary_exit(state, &exit, case.config()))
+    Ok(
+        block_operations::process_voluntary_exit::process_voluntary_exit(
+            state,
+            &exit,
+            case.config(),
+        ),
+    )
 }
 
 /// Which condition a header doesn't meet, that it is of the state's slot, behind the latest block's, and its child.
@@ -109,7 +115,7 @@ fn outside(state: &State, block: &BeaconBlock) -> Option<Outside> {
 /// Processes the header of a block.
 fn process_header(alloc: Global, state: &mut State, block: &BeaconBlock) -> Result<(), Stop> {
     let proposer = get_beacon_proposer_index(alloc, state)?;
-    block_head::process_header(state, block, proposer)
+    block_operations::process_header(state, block, proposer)
 }
 
 /// Reads a block, and processes its header.

@@ -3,14 +3,14 @@
 ghost use Rattle.std.specs.Prelude.{◌≡◌};
 ghost use Rattle.spec_state.specs.Accessors.{get_previous_epoch};
 ghost use Rattle.spec_state.specs.Soundness.{IsSoundWithinEpoch};
-ghost use Rattle.stakes.specs.inside.Stakes.{stakes_of};
+ghost use Rattle.balance_totals.specs.inside.Stakes.{stakes_of};
 ghost use Rattle.participation.specs.inside.Statuses.{statuses_of};
 
 use crate::case::Case;
 use crate::difference::Difference;
 use crate::verdict::{Outside, Verdict, not_accepted};
 use anyhow::Result;
-use balance_totals::{committees_of_epoch, previous_epoch};
+use balance_totals::{Stake, Stakes, committees_of_epoch, gather, previous_epoch};
 use bc_words::Stop;
 use beacon_state::State;
 use epoch_rewards::{
@@ -18,7 +18,6 @@ use epoch_rewards::{
 };
 use participation::{Status, previous_statuses};
 use ssz_codec::{Field, Items, cut, read_list};
-use stakes::{Stake, Stakes, gather};
 use std::alloc::Global;
 use std::rt::Files;
 use transition::is_sound_within_epoch;

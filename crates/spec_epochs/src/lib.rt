@@ -8,4 +8,4 @@ mod deltas;
 mod justification;
 
 pub use deltas::Deltas;
-pub use justification::Justification;
+pub use epoch_processing::Justification;

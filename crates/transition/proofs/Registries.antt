@@ -18,11 +18,11 @@ use Rattle.spec_epochs.specs.ProcessRegistryUpdates.{process_registry_updates}
 use Rattle.spec_epochs.specs.ProcessSlashings.{process_slashings, penalized_balance}
 use Rattle.spec_epochs.specs.ProcessEth1DataReset.{process_eth1_data_reset}
 use Rattle.spec_epochs.proofs.SoundJustification.{justification_leaves}
-use Rattle.stakes.specs.declared.stake.Stake.{Stake}
-use Rattle.stakes.specs.inside.Stakes.{stake_of, stakes_of, balances_read, effective_balances}
-use Rattle.stakes.specs.inside.Stirring.{stirs, registry_stirs}
-use Rattle.epoch_close.proofs.Gathered.{gathered_balances}
-use Rattle.registry_queue.proofs.Balances.{keeps_effective_balances}
+use Rattle.balance_totals.specs.declared.stake.Stake.{Stake}
+use Rattle.balance_totals.specs.inside.Stakes.{stake_of, stakes_of, balances_read, effective_balances}
+use Rattle.balance_totals.specs.inside.Stirring.{stirs, registry_stirs}
+use Rattle.epoch_processing.proofs.Gathered.{gathered_balances}
+use Rattle.epoch_processing.proofs.Balances.{keeps_effective_balances}
 
 -- ---- what is gathered depends on the preset, the slot and the registry alone
 

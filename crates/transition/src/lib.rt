@@ -10,6 +10,7 @@ mod pending;
 pub mod process_block;
 pub mod process_epoch;
 pub mod process_operations;
+pub mod process_slot;
 pub mod process_slots;
 mod soundness;
 pub mod state_transition;

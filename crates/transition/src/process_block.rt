@@ -12,9 +12,9 @@ use bc_preset::Config;
 use bc_words::{NoMemory, Stop};
 use beacon_state::State;
 use beacon_types::BeaconBlock;
-use block_head::process_eth1_data::process_eth1_data;
-use block_head::process_header;
-use block_head::process_randao::process_randao;
+use block_operations::process_eth1_data::process_eth1_data;
+use block_operations::process_header;
+use block_operations::process_randao::process_randao;
 use std::alloc::Global;
 
 /// The state keeps the active validators of the previous and the current epoch, and the committees of the current one, where it

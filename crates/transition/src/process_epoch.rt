@@ -9,26 +9,25 @@ ghost use Rattle.spec_state.specs.Soundness.{IsSound};
 ghost use Rattle.spec_epochs.specs.ProcessEpoch.{process_epoch};
 ghost use Rattle.participation.specs.declared.matching.Vote.TheVariants as votes;
 ghost use Rattle.participation.specs.inside.Statuses.{statuses_of, flags_of};
-ghost use Rattle.stakes.specs.inside.Stakes.{balances_read, effective_balances, stakes_of};
-ghost use Rattle.stakes.specs.inside.Stirring.{registry_stirs};
+ghost use Rattle.balance_totals.specs.inside.Stakes.{balances_read, effective_balances, stakes_of};
+ghost use Rattle.balance_totals.specs.inside.Stirring.{registry_stirs};
 ghost use Rattle.transition.specs.inside.Epochs.{resets, closing_parts};
 
-use balance_totals::{current_epoch, keep_active, note_total};
+use balance_totals::{Stake, Stakes, current_epoch, gather, keep_active, note_total};
 use bc_preset::Config;
 use bc_words::{NoMemory, Stop};
 use beacon_state::State;
-use epoch_close::process_effective_balance_updates::process_effective_balances;
-use epoch_close::process_eth1_data_reset::process_eth1_reset;
-use epoch_close::process_historical_roots_update::process_historical_roots;
-use epoch_close::process_participation_record_updates::process_rotation;
-use epoch_close::process_randao_mixes_reset::process_randao_reset;
-use epoch_close::process_slashings::process_slashings;
-use epoch_close::process_slashings_reset::process_slashings_reset;
+use epoch_processing::process_effective_balance_updates::process_effective_balances;
+use epoch_processing::process_eth1_data_reset::process_eth1_reset;
+use epoch_processing::process_historical_roots_update::process_historical_roots;
+use epoch_processing::process_justification;
+use epoch_processing::process_participation_record_updates::process_rotation;
+use epoch_processing::process_randao_mixes_reset::process_randao_reset;
+use epoch_processing::process_registry_updates::process_registry;
+use epoch_processing::process_slashings::process_slashings;
+use epoch_processing::process_slashings_reset::process_slashings_reset;
 use epoch_rewards::process_rewards;
-use justification::process_justification;
 use participation::{Status, current_targets, previous_table};
-use registry_queue::process_registry_updates::process_registry;
-use stakes::{Stake, Stakes, gather};
 use std::alloc::Global;
 
 /// The state keeps who is active at its epoch, and what they weigh together, which several parts ask for.

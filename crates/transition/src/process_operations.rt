@@ -6,10 +6,9 @@ ghost use Rattle.spec_state.specs.Accessors.{get_current_epoch, get_previous_epo
 ghost use Rattle.spec_blocks.specs.Checks.{each_of};
 ghost use Rattle.spec_blocks.specs.ProcessDeposit.{process_deposit};
 ghost use Rattle.spec_blocks.specs.ProcessOperations.{check_deposit_count, process_operations};
-ghost use Rattle.deposit_ops.specs.Indexes.{Indexes};
+ghost use Rattle.block_operations.specs.Indexes.{Indexes};
 ghost use Rattle.transition.specs.inside.Operations.{by_proposer_slashing, by_attester_slashing, by_attestation, by_exit};
 
-use attest_ops::process_attestation::process_counted_attestation;
 use balance_totals::{count_active, current_epoch, previous_epoch};
 use bc_preset::Config;
 use bc_words::{Refusal, Stop, checked_sub};
@@ -17,11 +16,12 @@ use beacon_state::State;
 use beacon_types::{
     Attestation, AttesterSlashing, BeaconBlockBody, Deposit, ProposerSlashing, SignedVoluntaryExit,
 };
-use deposit_ops::PubkeyIndex;
-use deposit_ops::process_deposit::process_deposit;
-use exit_queue::process_voluntary_exit::process_voluntary_exit;
-use slashing_ops::process_attester_slashing::process_attester_slashing;
-use slashing_ops::process_proposer_slashing::process_proposer_slashing;
+use block_operations::PubkeyIndex;
+use block_operations::process_attestation::process_counted_attestation;
+use block_operations::process_attester_slashing::process_attester_slashing;
+use block_operations::process_deposit::process_deposit;
+use block_operations::process_proposer_slashing::process_proposer_slashing;
+use block_operations::process_voluntary_exit::process_voluntary_exit;
 use std::alloc::Global;
 
 /// One proposer slashing.

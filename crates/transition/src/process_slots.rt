@@ -9,13 +9,13 @@ ghost use Rattle.transition.specs.Shown.{showing, WasShown};
 ghost use Rattle.transition.specs.inside.Visits.{end_visited, next_visited, visited, IsLeft};
 
 use crate::process_epoch::process_epoch;
+use crate::process_slot::process_slot;
 use crate::step::Step;
 use bc_preset::Config;
 use bc_preset::constants::MAX_SLOTS;
 use bc_words::{Limit, NoMemory, Refusal, Stop};
 use beacon_state::State;
 use epoch_visitor::{Seen, Visitor};
-use slot_step::process_slot::process_slot;
 use std::alloc::Global;
 
 /// Whether the state's slot is the last one of its epoch.

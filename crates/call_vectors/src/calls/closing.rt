@@ -2,20 +2,20 @@
 
 use crate::calls::given::Given;
 use anyhow::Result;
+use balance_totals::{Stakes, gather};
 use bc_words::Stop;
 use beacon_state::State;
-use epoch_close::process_effective_balance_updates;
-use epoch_close::process_eth1_data_reset::process_eth1_reset;
-use epoch_close::process_historical_roots_update::process_historical_roots;
-use epoch_close::process_participation_record_updates::process_rotation;
-use epoch_close::process_randao_mixes_reset::process_randao_reset;
-use epoch_close::process_slashings::process_slashings;
-use epoch_close::process_slashings_reset::process_slashings_reset;
-use stakes::{Stakes, gather};
+use epoch_processing::process_effective_balance_updates;
+use epoch_processing::process_eth1_data_reset::process_eth1_reset;
+use epoch_processing::process_historical_roots_update::process_historical_roots;
+use epoch_processing::process_participation_record_updates::process_rotation;
+use epoch_processing::process_randao_mixes_reset::process_randao_reset;
+use epoch_processing::process_slashings::process_slashings;
+use epoch_processing::process_slashings_reset::process_slashings_reset;
 use std::alloc::Global;
 
 /// Lets each validator's effective balance follow its balance.
-#[tactic(auto, using(epoch_close::proofs::Gathered::gathered_balances))]
+#[tactic(auto, using(epoch_processing::proofs::Gathered::gathered_balances))]
 pub fn process_effective_balances(
     alloc: Global,
     state: &mut State,

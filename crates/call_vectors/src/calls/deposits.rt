@@ -5,14 +5,14 @@ use anyhow::{Result, bail};
 use bc_words::Stop;
 use beacon_state::State;
 use beacon_types::Deposit;
-use deposit_ops::PubkeyIndex;
+use block_operations::PubkeyIndex;
 use ssz_codec::Ssz;
 use std::alloc::Global;
 
 /// Processes a deposit with the index of the state's keys.
 fn processed(alloc: Global, state: &mut State, deposit: &Deposit) -> Result<Result<(), Stop>> {
     match PubkeyIndex::of(alloc, state) {
-        Ok(mut keys) => Ok(deposit_ops::process_deposit::process_deposit(
+        Ok(mut keys) => Ok(block_operations::process_deposit::process_deposit(
             state, deposit, &mut keys,
         )),
         Err(_) => bail!("out of memory"),

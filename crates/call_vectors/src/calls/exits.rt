@@ -16,5 +16,5 @@ pub fn process_voluntary_exit(
 ) -> Result<Result<(), Stop>> {
     let config = given.config()?;
     let exit = SignedVoluntaryExit::read(alloc, given.input()?)?;
-    Ok(exit_queue::process_voluntary_exit::process_voluntary_exit(state, &exit, &config))
+    Ok(block_operations::process_voluntary_exit::process_voluntary_exit(state, &exit, &config))
 }

@@ -2,10 +2,10 @@
 
 use crate::calls::given::Given;
 use anyhow::{Result, bail};
+use balance_totals::{Stakes, gather};
 use bc_words::Stop;
 use beacon_state::State;
 use participation::{current_targets, previous_table};
-use stakes::{Stakes, gather};
 use std::alloc::Global;
 use transition::{is_sound, sound_within_epoch};
 
@@ -23,5 +23,5 @@ pub fn process_justification(
     let Stakes { list, stirs: _ } = gather(alloc, state, &config)?;
     let previous = previous_table(alloc, state)?;
     let current = current_targets(alloc, state)?;
-    Ok(justification::process_justification(state, &list, &previous, &current))
+    Ok(epoch_processing::process_justification(state, &list, &previous, &current))
 }

@@ -12,13 +12,13 @@ use std::alloc::Global;
 pub fn process_header(alloc: Global, state: &mut State, given: &Given) -> Result<Result<(), Stop>> {
     let proposer = given.number()?;
     let block = BeaconBlock::read(alloc, given.input()?)?;
-    Ok(block_head::process_header(state, &block, proposer))
+    Ok(block_operations::process_header(state, &block, proposer))
 }
 
 /// Reads a body, and processes its randao reveal.
 pub fn process_randao(alloc: Global, state: &mut State, given: &Given) -> Result<Result<(), Stop>> {
     let body = BeaconBlockBody::read(alloc, given.input()?)?;
-    Ok(block_head::process_randao::process_randao(state, &body).map_err(|_| Stop::NoMemory))
+    Ok(block_operations::process_randao::process_randao(state, &body).map_err(|_| Stop::NoMemory))
 }
 
 /// Reads a body, and processes its vote.
@@ -28,5 +28,5 @@ pub fn process_eth1_data(
     given: &Given,
 ) -> Result<Result<(), Stop>> {
     let body = BeaconBlockBody::read(alloc, given.input()?)?;
-    Ok(block_head::process_eth1_data::process_eth1_data(state, &body))
+    Ok(block_operations::process_eth1_data::process_eth1_data(state, &body))
 }

@@ -2,10 +2,10 @@
 
 use crate::calls::given::Given;
 use anyhow::Result;
+use balance_totals::{Stakes, gather};
 use bc_words::Stop;
 use beacon_state::State;
-use registry_queue::process_registry_updates;
-use stakes::{Stakes, gather};
+use epoch_processing::process_registry_updates;
 use std::alloc::Global;
 
 /// Lets in those that are due, and ejects those of too little balance.

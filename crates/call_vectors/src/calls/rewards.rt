@@ -3,12 +3,13 @@
 ghost use Rattle.std.specs.Prelude.{◌≡◌};
 ghost use Rattle.spec_state.specs.Accessors.{get_previous_epoch};
 ghost use Rattle.spec_state.specs.Soundness.{IsSoundWithinEpoch};
-ghost use Rattle.stakes.specs.inside.Stakes.{stakes_of};
+ghost use Rattle.balance_totals.specs.inside.Stakes.{stakes_of};
 ghost use Rattle.participation.specs.inside.Statuses.{statuses_of};
 
 use crate::calls::answers::stop_line;
 use crate::calls::given::Given;
 use anyhow::{Result, bail};
+use balance_totals::{Stake, Stakes, gather};
 use bc_words::Stop;
 use beacon_state::State;
 use epoch_rewards::{
@@ -16,7 +17,6 @@ use epoch_rewards::{
 };
 use participation::{Status, previous_table};
 use ssz_codec::Items;
-use stakes::{Stake, Stakes, gather};
 use std::alloc::Global;
 use transition::is_sound_within_epoch;
 

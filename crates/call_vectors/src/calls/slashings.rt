@@ -18,7 +18,7 @@ pub fn process_proposer_slashing(
     let config = given.config()?;
     let slashing = ProposerSlashing::read(alloc, given.input()?)?;
     Ok(
-        slashing_ops::process_proposer_slashing::process_proposer_slashing(
+        block_operations::process_proposer_slashing::process_proposer_slashing(
             state, &slashing, proposer, &config,
         ),
     )
@@ -34,7 +34,7 @@ pub fn process_attester_slashing(
     let config = given.config()?;
     let slashing = AttesterSlashing::read(alloc, given.input()?)?;
     Ok(
-        slashing_ops::process_attester_slashing::process_attester_slashing(
+        block_operations::process_attester_slashing::process_attester_slashing(
             state, &slashing, proposer, &config,
         ),
     )

@@ -6,5 +6,5 @@ use beacon_state::State;
 
 /// Ends the slot.
 pub fn process_slot(state: &mut State) -> Result<Result<(), Stop>> {
-    Ok(slot_step::process_slot::process_slot(state).map_err(|_| Stop::NoMemory))
+    Ok(transition::process_slot::process_slot(state).map_err(|_| Stop::NoMemory))
 }

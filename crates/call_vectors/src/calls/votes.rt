@@ -2,11 +2,11 @@
 
 use crate::calls::given::Given;
 use anyhow::{Result, bail};
-use attest_ops::attesting_indices;
 use balance_totals::{committees_of_epoch, current_epoch, previous_epoch};
 use bc_words::Stop;
 use beacon_state::State;
 use beacon_types::{Attestation, PendingAttestation};
+use block_operations::attesting_indices;
 use committees::EpochCommittees;
 use participation::{matching_head, matching_target};
 use ssz_codec::Ssz;
@@ -22,7 +22,7 @@ pub fn process_attestation(
     let attestation = Attestation::read(alloc, given.input()?)?;
     let previous = committees_of_epoch(alloc, state, previous_epoch(state))?;
     let current = committees_of_epoch(alloc, state, current_epoch(state))?;
-    Ok(attest_ops::process_attestation::process_attestation(
+    Ok(block_operations::process_attestation::process_attestation(
         state,
         &attestation,
         proposer,

@@ -6,7 +6,7 @@ use Rattle.spec_epochs.specs.Each.{is_among}
 use Rattle.spec_epochs.specs.GetBaseReward.{get_base_reward}
 use Rattle.spec_epochs.specs.RewardHelpers.{get_proposer_reward}
 use Rattle.spec_epochs.specs.GetInactivityPenaltyDeltas.{absence_penalty}
-use Rattle.stakes.specs.inside.Stakes.{stakes_of}
+use Rattle.balance_totals.specs.inside.Stakes.{stakes_of}
 use Rattle.participation.specs.declared.matching.Vote.TheVariants.{Source, Target, Head}
 use Rattle.participation.specs.declared.table.Status.{Status}
 use Rattle.participation.specs.inside.Marks.{flagged}

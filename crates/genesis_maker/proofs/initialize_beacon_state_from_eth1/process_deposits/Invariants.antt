@@ -1,5 +1,5 @@
 use Rattle.std.proofs.Common.{◌≡◌, [], take, drop}
-use Rattle.deposit_ops.specs.Indexes.{Indexes}
+use Rattle.block_operations.specs.Indexes.{Indexes}
 use Rattle.spec_genesis.specs.Branches.{deposit_leaves}
 use Rattle.spec_genesis.specs.InitializeBeaconStateFromEth1.{process_genesis_deposits}
 use Rattle.genesis_maker.proofs.initialize_beacon_state_from_eth1.process_deposits.Given as goal

@@ -1,7 +1,7 @@
 use Rattle.std.proofs.Common.{◌≡◌, drop}
 use Rattle.spec_blocks.specs.Checks.{each_of}
 use Rattle.spec_blocks.specs.ProcessDeposit.{process_deposit}
-use Rattle.deposit_ops.specs.Indexes.{Indexes}
+use Rattle.block_operations.specs.Indexes.{Indexes}
 use Rattle.transition.proofs.process_operations.each_deposit.Given as goal
 
 abbrev pub invariant-loop-brought : goal.invariant-loop-brought

@@ -1,6 +1,0 @@
--- There are as many bits as members, and somebody attested where one is set.
-use Rattle.std.proofs.Common.{rules}
-use Rattle.attest_ops.proofs.counted.attested_among.Goals as goal
-
-pub returns : goal.returns
-returns c = search rules

@@ -1,6 +1,0 @@
--- It waits with the delay and the proposer that are given.
-use Rattle.std.proofs.Common.{rules}
-use Rattle.attest_ops.proofs.pending.pending_of.Goals as goal
-
-pub returns : goal.returns
-returns c = search rules

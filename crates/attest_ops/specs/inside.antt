@@ -1,5 +1,0 @@
--- Words of this crate's own contracts.
-pub mod Attested
-pub mod Bits
-pub mod Pending
-pub mod Counted

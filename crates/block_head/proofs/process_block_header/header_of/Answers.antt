@@ -1,6 +1,0 @@
--- The state root is zero.
-use Rattle.std.proofs.Common.{rules}
-use Rattle.block_head.proofs.process_block_header.header_of.Goals as goal
-
-pub returns : goal.returns
-returns c = search rules

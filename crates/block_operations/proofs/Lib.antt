@@ -1,0 +1,10 @@
+pub mod Votes
+pub mod Xor
+pub mod Queue
+pub mod Ascending
+pub mod Each
+pub mod Members
+pub mod AmongActive
+pub mod Registry
+pub mod Branch
+pub mod Joining

@@ -1,0 +1,113 @@
+//! The vote of a committee (beacon-chain.md, "Attestations").
+
+ghost use Rattle.std.specs.Prelude.{◌≡◌, length, OnOk};
+ghost use Rattle.bc_words.specs.Outcome.{Changes, GivesExactly, done};
+ghost use Rattle.spec_state.specs.Misc.{compute_epoch_at_slot};
+ghost use Rattle.spec_state.specs.Accessors.{get_current_epoch, get_previous_epoch, get_active_validator_indices};
+ghost use Rattle.spec_state.specs.inside.EpochCommittees.{epoch_committees};
+ghost use Rattle.spec_blocks.specs.ProcessAttestation.{check_times, check_committee, process_attestation};
+ghost use Rattle.block_operations.specs.inside.Attested.{is_attested, Attests, IsTimely};
+
+use crate::counted::counted_in;
+use crate::pending::{pending_of, push_attested};
+use balance_totals::{current_epoch, previous_epoch};
+use bc_words::{Refusal, Stop, checked_add, checked_sub};
+use beacon_state::State;
+use beacon_types::{Attestation, AttestationData};
+use committees::EpochCommittees;
+
+/// The epoch of a slot.
+fn epoch_at_slot(state: &State, slot: u64) -> u64
+    ensures { result ≡ compute_epoch_at_slot state.now.preset slot }
+{
+    let preset = state.preset();
+    preset.bounds();
+    slot / preset.slots_per_epoch
+}
+
+/// Refused where the vote's target is of another epoch than the previous and the current one, or than its slot; where the
+/// inclusion delay hasn't passed; or where more than an epoch has.
+#[tactic(auto, unfolding(spec_blocks::specs::ProcessAttestation::check_times))]
+fn check_times(state: &State, content: &AttestationData) -> Result<(), Stop>
+    ensures timely { OnOk result (IsTimely state.now content.now) }
+    ensures exact { GivesExactly result (check_times state.now content.now) }
+{
+    let epoch = content.target.epoch;
+    if epoch != previous_epoch(state) && epoch != current_epoch(state) {
+        return Err(Stop::Refused(Refusal::AtTargetEpoch));
+    }
+    if epoch != epoch_at_slot(state, content.slot) {
+        return Err(Stop::Refused(Refusal::AtSlotEpoch));
+    }
+    let preset = state.preset();
+    if state.slot() < checked_add(content.slot, preset.min_attestation_inclusion_delay)? {
+        return Err(Stop::Refused(Refusal::AtEarly));
+    }
+    if checked_add(content.slot, preset.slots_per_epoch)? < state.slot() {
+        return Err(Stop::Refused(Refusal::AtLate));
+    }
+    Ok(())
+}
+
+/// Puts the vote of a committee into the list of its epoch, where it comes in time and it is known whether somebody attested, or
+/// why that is refused. After a stop the state is as before.
+#[tactic(auto, unfolding(spec_blocks::specs::ProcessAttestation::process_attestation, crate::specs::inside::Pending::with_attested, crate::specs::inside::Attested::is_attested))]
+fn take_vote(
+    state: &mut State,
+    attestation: &Attestation,
+    proposer: u64,
+    attested: Result<bool, Stop>,
+) -> Result<(), Stop>
+    requires times { check_times state.old attestation.now.content ≡ done tt }
+    requires attested { Attests attested (check_committee state.old attestation.now.content attestation.now.aggregation_bits) (is_attested state.old attestation.now) }
+    ensures { Changes result state.old state.new (process_attestation state.old attestation.now proposer) }
+{
+    let has_one = attested?;
+    let delay = checked_sub(state.slot(), attestation.content.slot)?;
+    let pending = pending_of(attestation, delay, proposer)?;
+    push_attested(state, pending, has_one)
+}
+
+/// Puts the vote of a committee into the list of its epoch, where it waits for the end of the epoch (beacon-chain.md,
+/// `process_attestation`). `proposer` is the block's proposer; `previous` and `current` are how many validators are active in the
+/// state's previous and current epoch. The members of a committee aren't needed, since the signature isn't checked: how many
+/// there are decides.
+///
+/// Refused, in this order: `AtTargetEpoch`, `AtSlotEpoch`, `AtEarly`, `AtLate`, `AtIndex`, `AtBits`, `AtSource`, `ListFull`,
+/// `AtEmpty`, and `Overflow` where a sum on the way doesn't fit. After a stop the state is as before: all checks come before
+/// the one write.
+#[tactic(auto, unfolding(spec_blocks::specs::ProcessAttestation::process_attestation))]
+pub fn process_counted_attestation(
+    state: &mut State,
+    attestation: &Attestation,
+    proposer: u64,
+    previous: u64,
+    current: u64,
+) -> Result<(), Stop>
+    requires previous { previous ≡ length (get_active_validator_indices state.old (get_previous_epoch state.old)) }
+    requires current { current ≡ length (get_active_validator_indices state.old (get_current_epoch state.old)) }
+    ensures { Changes result state.old state.new (process_attestation state.old attestation.now proposer) }
+{
+    check_times(state, &attestation.content)?;
+    let attested = counted_in(state, attestation, previous, current);
+    take_vote(state, attestation, proposer, attested)
+}
+
+/// The same, where `previous` and `current` are the committees of the state's previous and current epoch: as many validators
+/// are active as are members of committees.
+#[tactic(auto, using(crate::proofs::AmongActive::members_are_active))]
+pub fn process_attestation(
+    state: &mut State,
+    attestation: &Attestation,
+    proposer: u64,
+    previous: &EpochCommittees,
+    current: &EpochCommittees,
+) -> Result<(), Stop>
+    requires previous { previous.now ≡ epoch_committees state.old (get_previous_epoch state.old) }
+    requires current { current.now ≡ epoch_committees state.old (get_current_epoch state.old) }
+    ensures { Changes result state.old state.new (process_attestation state.old attestation.now proposer) }
+{
+    let _preset = state.preset();
+    let (previous, current) = (previous.member_count(), current.member_count());
+    process_counted_attestation(state, attestation, proposer, previous, current)
+}

@@ -1,3 +1,0 @@
-pub mod Registry
-pub mod Branch
-pub mod Joining

@@ -1,6 +1,0 @@
-use Rattle.std.proofs.Common.{sym}
-use Rattle.deposit_ops.proofs.Registry.{front_grows}
-use Rattle.deposit_ops.proofs.pubkey_index.PubkeyIndex.note_at.Goals as goal
-
-pub returns : goal.returns
-returns c = front_grows c.args.self.now c.note.new.self c.args.state.now.validators c.in-Some.validator.now c.args.index (sym c.in-Some.ensures) c.requires.front c.in_ok-note-in-Some.ensures

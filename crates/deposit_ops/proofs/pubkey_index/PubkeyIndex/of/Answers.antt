@@ -1,5 +1,0 @@
-use Rattle.deposit_ops.proofs.Registry.{nobody}
-use Rattle.deposit_ops.proofs.pubkey_index.PubkeyIndex.of.Goals as goal
-
-pub loop-index-init : goal.loop-index-init
-loop-index-init c = nobody _ c.new.ensures.empty

@@ -1,4 +1,0 @@
-pub mod Gathered
-pub mod MadeLeft
-pub mod Unpaid
-pub mod Updating

@@ -1,2 +1,0 @@
-pub mod Penalties
-pub mod Updates

@@ -1,0 +1,13 @@
+pub mod Sound
+pub mod Targets
+pub mod Passes
+pub mod Exits
+pub mod Steps
+pub mod Updates
+pub mod Quiet
+pub mod Ranks
+pub mod Balances
+pub mod Gathered
+pub mod MadeLeft
+pub mod Unpaid
+pub mod Updating

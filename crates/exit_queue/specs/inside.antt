@@ -1,2 +1,0 @@
--- Words of this crate's own contracts.
-pub mod Queue

@@ -1,3 +1,0 @@
--- Words of this crate's own contracts.
-pub mod Exits
-pub mod Ranks

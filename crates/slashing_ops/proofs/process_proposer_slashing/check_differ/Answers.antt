@@ -1,6 +1,0 @@
--- Two headers that are equal show nothing.
-use Rattle.std.proofs.Common.{rules}
-use Rattle.slashing_ops.proofs.process_proposer_slashing.check_differ.Goals as goal
-
-pub returns : goal.returns
-returns c = search rules

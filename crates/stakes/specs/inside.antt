@@ -1,3 +1,0 @@
--- Words of this crate's contracts.
-pub mod Stakes
-pub mod Stirring
