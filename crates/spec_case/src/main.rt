@@ -10,7 +10,7 @@
 mod blocks;
 mod case;
 mod difference;
-mod epoch_processing;
+mod epoch_part;
 mod genesis;
 mod operations;
 mod rewards;
@@ -36,7 +36,7 @@ fn run_on(
 ) -> Result<Verdict> {
     match runner {
         "operations" => operations::run(rt, case, handler, state),
-        "epoch_processing" => epoch_processing::run(rt, case, handler, state),
+        "epoch_processing" => epoch_part::run(rt, case, handler, state),
         "rewards" => rewards::run(rt, case, state),
         "sanity" if handler == "slots" => slots::run(rt, case, state),
         _ => blocks::run(rt, case, state),

@@ -8,4 +8,4 @@ mod deltas;
 mod justification;
 
 pub use deltas::Deltas;
-pub use epoch_processing::Justification;
+pub use justification::Justification;
