@@ -4,9 +4,9 @@ ghost use Rattle.std.specs.Prelude.{◌≡◌, IfOk};
 ghost use Rattle.balance_totals.specs.inside.Stakes.{stakes_of};
 ghost use Rattle.balance_totals.specs.inside.Stirring.{registry_stirs};
 
+use crate::epochs::{current_epoch, previous_epoch};
 use crate::stake::{Stake, stake_of};
 use crate::stirring::stirs;
-use balance_totals::{current_epoch, previous_epoch};
 use bc_preset::Config;
 use bc_words::NoMemory;
 use beacon_state::State;

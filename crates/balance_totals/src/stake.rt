@@ -3,7 +3,7 @@
 ghost use Rattle.std.specs.Prelude.{◌≡◌, ◌+◌, ◌<◌, ◌^◌, Some, length, slice_get};
 ghost use Rattle.balance_totals.specs.inside.Stakes.{is_reached, stake_of, stakes_of};
 
-use balance_totals::is_active_validator;
+use active_sets::is_active_validator;
 use beacon_state::State;
 use beacon_types::Validator;
 

@@ -4,7 +4,7 @@ ghost use Rattle.std.specs.Prelude.{◌≡◌, ◌||◌};
 ghost use Rattle.spec_state.specs.Predicates.{is_eligible_for_activation_queue};
 ghost use Rattle.balance_totals.specs.inside.Stirring.{is_ejected, is_pending, stirs};
 
-use balance_totals::is_active_validator;
+use active_sets::is_active_validator;
 use bc_preset::constants::FAR_FUTURE_EPOCH;
 use bc_preset::{Config, Preset};
 use beacon_types::Validator;
