@@ -6,7 +6,7 @@ pub mod Steps
 pub mod Updates
 pub mod Quiet
 pub mod Ranks
-pub mod Balances
+pub mod BalancesKept
 pub mod Gathered
 pub mod MadeLeft
 pub mod Unpaid

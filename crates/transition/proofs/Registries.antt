@@ -22,7 +22,7 @@ use Rattle.balance_totals.specs.declared.stake.Stake.{Stake}
 use Rattle.balance_totals.specs.inside.Stakes.{stake_of, stakes_of, balances_read, effective_balances}
 use Rattle.balance_totals.specs.inside.Stirring.{stirs, registry_stirs}
 use Rattle.epoch_processing.proofs.Gathered.{gathered_balances}
-use Rattle.epoch_processing.proofs.Balances.{keeps_effective_balances}
+use Rattle.epoch_processing.proofs.BalancesKept.{keeps_effective_balances}
 
 -- ---- what is gathered depends on the preset, the slot and the registry alone
 
