@@ -44,3 +44,4 @@ pub use chain_stepper::ChainStepper;
 pub use clashes::{clash, same_block_is_equality};
 pub use on_event::{Accepted, EventKind};
 pub use store::Store;
+pub use transition::is_sound;

@@ -19,6 +19,7 @@ use bc_preset::{Config, MAX_CONFIG_LEN, Preset};
 use beacon_state::State;
 use command_words::DutiesWords;
 use duties::{DutiesFault, DutyStop, duties_of};
+use fork_store::is_sound;
 use ssz_codec::SszFault;
 use std::alloc::Global;
 
