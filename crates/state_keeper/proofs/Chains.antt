@@ -54,7 +54,7 @@ module _ {B : Type 0} (can : PlainState → B → Type 0) (step : PlainState →
   unfolding distances_of
   distances_are [] each = refl
   distances_are (genesis ∷ entries) each =
-      let none : genesis.distance ≡ 0 = (each 0 genesis refl).distance in
+      let none : genesis.distance ≡ 0 = each 0 genesis refl in
       ap (λ d. along (λ before block. before + 1) 0 (d ∷ []) (map plain_of entries)) (sym none) ∙
       along_is (λ before block. before + 1) 0 (λ e. e.distance) (genesis ∷ []) entries (λ n e some there.
       let behind = behind_of (genesis ∷ entries) each n e some there in

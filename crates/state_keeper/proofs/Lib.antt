@@ -4,4 +4,5 @@ pub mod Chains
 pub mod Items
 pub mod Keeps
 pub mod Made
+pub mod Places
 pub mod Taken

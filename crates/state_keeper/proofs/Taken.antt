@@ -5,7 +5,7 @@ use Rattle.std.proofs.lemmas.Option.{slice_get-map}
 use Rattle.bc_words.specs.Outcome.{Outcome}
 use Rattle.spec_state.specs.declared.plain.PlainState.{PlainState}
 use Rattle.state_keeper.specs.declared.entry.Entry.{Entry}
-use Rattle.state_keeper.specs.Chain.{ChainBlock, WasStep}
+use Rattle.state_keeper.specs.Chain.{WasStep}
 use Rattle.state_keeper.specs.inside.Entries.{plain_of, IsBehind, IsEntry, AreEntries}
 use Rattle.state_keeper.proofs.Items.{item_at}
 

@@ -7,7 +7,7 @@ ghost use Rattle.std.specs.Prelude.{◌≡◌, ℕ, ◌+◌, ◌-◌, ◌%◌, �
 ghost use Rattle.bc_words.specs.Outcome.{Becomes, done};
 ghost use Rattle.spec_state.specs.declared.plain.PlainState.{PlainState};
 ghost use Rattle.state_keeper.specs.Chain.{HasState, WasStep, state_at, distance_of, kept_every};
-ghost use Rattle.state_keeper.specs.inside.Entries.{kept_of};
+ghost use Rattle.state_keeper.specs.inside.Entries.{place_of};
 
 use crate::cache::{recall, remember, share_found};
 use crate::entry::{Entry, push_entry};
@@ -30,6 +30,7 @@ const CACHED: usize = 16;
 pub struct Keeper<P: Stepper> {
     stepper: P,
     entries: Vec<Entry<P::Block, State>>,
+    states: Vec<State>,
     cache: LruCache<u32, State>,
     alloc: Global,
 }
@@ -40,42 +41,45 @@ impl<P: Stepper> Drop for Keeper<P> {
         let Keeper {
             stepper,
             entries,
+            states,
             cache,
             alloc: _,
         } = self;
         drop(stepper);
         drop(entries);
+        drop(states);
         drop(cache);
     }
 }
 
 impl<P: Stepper> Model for Keeper<P> {
-    ghost use Rattle.std.specs.Prelude.{map, ◌-◌};
+    ghost use Rattle.std.specs.Prelude.{map, min, ◌-◌};
     ghost use Rattle.state_keeper.specs.Chain.{Kept};
 
     ghost Value = { Kept P P.Block };
 
     ghost use Rattle.state_keeper.specs.inside.Entries.{plain_of, IsKeeper};
 
-    ghost view = { λ keeper. record { stepper = keeper.stepper; blocks = map plain_of keeper.entries.items; spare = keeper.entries.cap - keeper.entries.len } };
+    ghost view = { λ keeper. record { stepper = keeper.stepper; blocks = map plain_of keeper.entries.items; spare = min (keeper.entries.cap - keeper.entries.len) (keeper.states.cap - keeper.states.len) } };
 
-    ghost invariant = { λ keeper. IsKeeper (P.can_step keeper.stepper) (P.plain_step keeper.stepper) keeper.entries.items keeper.cache.entries };
+    ghost invariant = { λ keeper. IsKeeper (P.can_step keeper.stepper) (P.plain_step keeper.stepper) keeper.entries.items keeper.states.items keeper.cache.entries };
 }
 
-/// The entries of one block, number 0, and a cache that has no state.
+/// The entries of one block, number 0, its state, which is kept, and a cache that has no state.
 fn beginning<B: Drop, S: Drop>(
     alloc: Global,
     block: B,
     state: S,
     seen: Snapshot<S>,
-) -> Result<(Vec<Entry<B, S>>, LruCache<u32, S>), NoMemory>
-    ensures entries { IfOk result (λ made. made.0.items ≡ record { block = block; parent = 0; distance = 0; kept = kept_of 0 state; state = seen } ∷ []) }
-    ensures cache { IfOk result (λ made. made.1.entries ≡ []) }
+) -> Result<(Vec<Entry<B, S>>, Vec<S>, LruCache<u32, S>), NoMemory>
+    ensures entries { IfOk result (λ made. made.0.items ≡ record { block = block; parent = 0; distance = 0; kept = place_of 0 0; state = seen } ∷ []) }
+    ensures states { IfOk result (λ made. IfSome (place_of 0 0) (λ place. slice_get made.1.items place ≡ Some state)) }
+    ensures cache { IfOk result (λ made. made.2.entries ≡ []) }
 {
     let cache = LruCache::new(alloc, NonZeroUsize::new(CACHED).unwrap())?;
-    let mut entries = Vec::new(alloc);
-    let _other = push_entry(&mut entries, block, 0, 0, state, seen)?;
-    Ok((entries, cache))
+    let (mut entries, mut states) = (Vec::new(alloc), Vec::new(alloc));
+    let _other = push_entry(&mut entries, &mut states, block, 0, 0, state, seen)?;
+    Ok((entries, states, cache))
 }
 
 impl<P: Stepper> Keeper<P> {
@@ -90,10 +94,11 @@ impl<P: Stepper> Keeper<P> {
         ensures blocks { IfOk result (λ keeper. keeper.blocks ≡ record { block = block; parent = 0; state = state } ∷ []) }
     {
         let seen = Snapshot::of(&state);
-        let (entries, cache) = beginning(alloc, block, state, seen)?;
+        let (entries, states, cache) = beginning(alloc, block, state, seen)?;
         Ok(Keeper {
             stepper,
             entries,
+            states,
             cache,
             alloc,
         })
@@ -105,7 +110,8 @@ impl<P: Stepper> Keeper<P> {
         ensures blocks { self.new.blocks ≡ self.old.blocks }
         ensures room { OnOk result (0 < self.new.spare) }
     {
-        Ok(self.entries.reserve(1)?)
+        self.entries.reserve(1)?;
+        Ok(self.states.reserve(1)?)
     }
 
     /// Adds the block behind the parent of that number, with the state that the plain step from the parent's gives, and answers
@@ -123,7 +129,15 @@ impl<P: Stepper> Keeper<P> {
         let number = self.entries.len() as u32;
         let distance = distance_at(self.entries.as_slice(), parent) + 1;
         let seen = Snapshot::of(&state);
-        match push_entry(&mut self.entries, block, parent, distance, state, seen)? {
+        match push_entry(
+            &mut self.entries,
+            &mut self.states,
+            block,
+            parent,
+            distance,
+            state,
+            seen,
+        )? {
             Some(state) => self.cache_state(number, state),
             None => {}
         }
@@ -177,8 +191,8 @@ impl<P: Stepper> Keeper<P> {
         ensures state { IfOk result (λ found. IfSome found (λ state. HasState self.old.blocks n state)) }
         ensures same { self.new ≡ self.old }
     {
-        match &self.entries[n as usize].kept {
-            Some(state) => share_found(state),
+        match self.entries[n as usize].kept {
+            Some(place) => share_found(&self.states[place]),
             None => recall(&mut self.cache, n),
         }
     }
@@ -189,7 +203,8 @@ impl<P: Stepper> Keeper<P> {
         ensures state { IfOk result (λ state. HasState self.now.blocks n state) }
         ensures steps { steps.new ≤ steps.old + distance_of self.now.blocks n % kept_every }
     {
-        remade(self.alloc, &self.stepper, self.entries.as_slice(), n, steps)
+        let (entries, states) = (self.entries.as_slice(), self.states.as_slice());
+        remade(self.alloc, &self.stepper, entries, states, n, steps)
     }
 
     /// The state behind a block, made again and put into the cache, where memory allows that.

@@ -1,7 +1,7 @@
 //! States that are made again: steps from the nearest ancestor whose state is kept.
 
 ghost use Rattle.std.specs.Prelude.{◌≡◌, ◌+◌, ◌<◌, ◌≤◌, ◌%◌, Some, Ok, length, IfOk, IsOk, OnOk};
-ghost use Rattle.state_keeper.specs.inside.Entries.{StandsFor, HasKept, IsStep, AreEntries, ancestor_at, parent_at, distance_at};
+ghost use Rattle.state_keeper.specs.inside.Entries.{StandsFor, HasKept, IsStep, AreEntries, AreKept, ancestor_at, parent_at, distance_at};
 ghost use Rattle.state_keeper.specs.Chain.{kept_every};
 
 use crate::entry::{Entry, KEPT_EVERY};
@@ -43,12 +43,16 @@ fn ancestor_at<B: Drop>(entries: &[Entry<B, State>], n: u32, back: u32) -> u32
 }
 
 /// The state of a block whose state is kept.
-fn kept_state<B: Drop>(entries: &[Entry<B, State>], n: u32) -> Result<State, NoMemory>
-    requires { HasKept entries.now n }
+fn kept_state<B: Drop>(
+    entries: &[Entry<B, State>],
+    states: &[State],
+    n: u32,
+) -> Result<State, NoMemory>
+    requires { HasKept entries.now states.now n }
     ensures { IfOk result (λ state. StandsFor entries.now n state) }
 {
-    match &entries[n as usize].kept {
-        Some(state) => state.share(),
+    match entries[n as usize].kept {
+        Some(place) => states[place].share(),
         None => unreachable!(),
     }
 }
@@ -138,16 +142,18 @@ pub(crate) fn remade<P: Stepper, L: Ledger>(
     alloc: Global,
     stepper: &P,
     entries: &[Entry<P::Block, State>],
+    states: &[State],
     n: u32,
     steps: &mut Steps<L>,
 ) -> Result<State, NoMemory>
     requires entries { AreEntries (P.can_step stepper.now) (P.plain_step stepper.now) entries.now }
+    requires kept { AreKept entries.now states.now }
     requires inside { n < length entries.now }
     ensures state { IfOk result (λ state. StandsFor entries.now n state) }
     ensures steps { steps.new ≤ steps.old + distance_at entries.now n % kept_every }
 {
     let far = distance_at(entries, n) % KEPT_EVERY;
-    let mut state = kept_state(entries, ancestor_at(entries, n, far))?;
+    let mut state = kept_state(entries, states, ancestor_at(entries, n, far))?;
     let done = steps_down(alloc, stepper, entries, n, far, &mut state, steps);
     once_done(done, state)
 }

@@ -5,9 +5,13 @@ use Rattle.spec_state.specs.declared.plain.PlainState.{PlainState}
 use Rattle.state_keeper.specs.declared.entry.Entry.{Entry}
 use Rattle.state_keeper.specs.Chain.{ChainBlock, kept_every}
 
--- what is kept of the state of a block so far from the first block
-unfoldable pub kept_of : {S : Type 0} → ℕ → S → Option S
-kept_of distance state = if distance % kept_every == 0 then Some state else None
+-- where, behind so many kept states, the state of a block is kept that is so far from the first block
+unfoldable pub place_of : ℕ → ℕ → Option ℕ
+place_of distance many = if distance % kept_every == 0 then Some many else None
+
+-- Each of the states stands at its place among the others too
+abbrev pub Stay : {S : Type 0} → List S → List S → Type 0
+Stay {S} states others = (place : ℕ) (state : S) → slice_get states place ≡ Some state → slice_get others place ≡ Some state
 
 module _ {B : Type 0} where
   -- the block that an entry stands for
@@ -30,16 +34,25 @@ module _ {B : Type 0} where
   ancestor_at entries n zero = n
   ancestor_at entries n (suc back) = parent_at entries (ancestor_at entries n back)
 
+  -- The state of an entry is kept
+  pub record IsHeld (states : List PlainState) (e : Entry B PlainState) : Type 0 where
+    pub place : ℕ
+    pub kept : e.kept ≡ Some place
+    pub there : slice_get states place ≡ Some e.state.value
+
   -- The state of the block of a number is kept
-  pub record HasKept (entries : List (Entry B PlainState)) (n : ℕ) : Type 0 where
+  pub record HasKept (entries : List (Entry B PlainState)) (states : List PlainState) (n : ℕ) : Type 0 where
     pub entry : Entry B PlainState
     pub there : slice_get entries n ≡ Some entry
-    pub kept : entry.kept ≡ Some entry.state.value
+    pub held : IsHeld states entry
 
-  -- The entry of the first block
-  pub record IsFirst (e : Entry B PlainState) : Type 0 where
-    pub distance : e.distance ≡ 0
-    pub kept : e.kept ≡ Some e.state.value
+  -- Every eighth state is kept, and where a state is said to be kept it is that of the entry
+  pub record IsKept (states : List PlainState) (e : Entry B PlainState) : Type 0 where
+    pub whole : e.distance % kept_every ≡ 0 → IsHeld states e
+    pub right : (place : ℕ) → e.kept ≡ Some place → slice_get states place ≡ Some e.state.value
+
+  abbrev pub AreKept : List (Entry B PlainState) → List PlainState → Type 0
+  AreKept entries states = (n : ℕ) (e : Entry B PlainState) → slice_get entries n ≡ Some e → IsKept states e
 
   -- The pairs of the cache are numbers of blocks with their states
   abbrev pub IsCache : List (Entry B PlainState) → List (ℕ × PlainState) → Type 0
@@ -62,17 +75,17 @@ module _ {B : Type 0} where
       pub done_step : step parent.state.value e.block ≡ done e.state.value
       pub distance : e.distance ≡ parent.distance + 1
       pub near : e.distance ≤ n
-      pub kept : e.kept ≡ kept_of e.distance e.state.value
 
     abbrev pub IsEntry : List (Entry B PlainState) → ℕ → Entry B PlainState → Type 0
-    IsEntry entries zero e = IsFirst e
+    IsEntry entries zero e = e.distance ≡ 0
     IsEntry entries (suc n) e = IsBehind entries (suc n) e
 
     abbrev pub AreEntries : List (Entry B PlainState) → Type 0
     AreEntries entries = (n : ℕ) (e : Entry B PlainState) → slice_get entries n ≡ Some e → IsEntry entries n e
 
-    -- What holds of a keeper's entries and its cache
-    pub record IsKeeper (entries : List (Entry B PlainState)) (pairs : List (ℕ × PlainState)) : Type 0 where
+    -- What holds of a keeper's entries, its kept states and its cache
+    pub record IsKeeper (entries : List (Entry B PlainState)) (states : List PlainState) (pairs : List (ℕ × PlainState)) : Type 0 where
       pub some : 0 < length entries
       pub each : AreEntries entries
+      pub kept : AreKept entries states
       pub cached : IsCache entries pairs

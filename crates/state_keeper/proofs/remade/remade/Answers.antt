@@ -9,8 +9,8 @@ use Rattle.state_keeper.proofs.remade.remade.Goals as goal
 pub kept_state-requires : goal.kept_state-requires
 kept_state-requires g c =
     let is : ancestor_at c.args.entries.now c.args.n (distance_at c.args.entries.now c.args.n % kept_every) ≡ c.ancestor_at.result = ap (λ d. ancestor_at c.args.entries.now c.args.n (d % kept_every)) (sym c.distance_at-far.ensures) ∙ sym c.ancestor_at.ensures in
-    subst (λ k. HasKept c.args.entries.now k) is
-    (ancestor_kept (g.P.Stepper.can_step c.args.stepper.now) (g.P.Stepper.plain_step c.args.stepper.now) c.args.entries.now c.requires.entries c.args.n c.requires.inside)
+    subst (λ k. HasKept c.args.entries.now c.args.states.now k) is
+    (ancestor_kept (g.P.Stepper.can_step c.args.stepper.now) (g.P.Stepper.plain_step c.args.stepper.now) c.args.entries.now c.requires.entries c.args.states.now c.requires.kept c.args.n c.requires.inside)
 
 pub steps_down-done-requires-clause-state : goal.steps_down-done-requires-clause-state
 steps_down-done-requires-clause-state g c =

@@ -1,14 +1,14 @@
 -- The blocks with one more, which stands for the state that came with it.
-use Rattle.std.proofs.Common.{◌≡◌, ◌+◌, ◌-◌, ◌^◌, ◌<◌, List, [], ◌∷◌, ◌++◌, length, map, IfSome, Option, slice_get, refl, sym, ap, ◌∙◌, subst, arith}
+use Rattle.std.proofs.Common.{◌≡◌, ◌+◌, ◌-◌, ◌^◌, ◌<◌, List, [], ◌∷◌, ◌++◌, length, map, min, IfSome, Option, slice_get, refl, sym, ap, ◌∙◌, subst, arith}
 use Rattle.std.proofs.lemmas.List.{length-map}
 use Rattle.std.proofs.lemmas.Result.{IfOk-from_err}
 use Rattle.bc_words.specs.Outcome.{done}
 use Rattle.spec_state.specs.declared.plain.PlainState.{PlainState}
 use Rattle.state_keeper.specs.declared.entry.Entry.{Entry}
 use Rattle.state_keeper.specs.Chain.{Kept}
-use Rattle.state_keeper.specs.inside.Entries.{plain_of, distance_at, kept_of, IsKeeper}
+use Rattle.state_keeper.specs.inside.Entries.{plain_of, distance_at, place_of, IsKeeper}
 use Rattle.state_keeper.proofs.Chains.{has_state}
-use Rattle.state_keeper.proofs.Keeps.{keeps_added, added_stands, added_blocks, near_at}
+use Rattle.state_keeper.proofs.Keeps.{keeps_added, keeps_still, added_stands, added_blocks, near_at}
 use Rattle.state_keeper.proofs.Made.{refused_as_before}
 use Rattle.state_keeper.proofs.keeper.Keeper.add.Goals as goal
 
@@ -23,13 +23,13 @@ overflow_add-distance g c =
 
 pub invariant_of-self-in-Some : goal.invariant_of-self-in-Some
 invariant_of-self-in-Some g c =
-    keeps_added (g.P.Stepper.can_step c.self.inside.stepper) (g.P.Stepper.plain_step c.self.inside.stepper) c.self.inside.entries.items c.as_slice.result.now c.push_entry.new.entries.items c.self.inside.cache.entries
-    (record { block = c.args.block; parent = c.args.parent; distance = c.distance_at-distance.result + 1; kept = kept_of (c.distance_at-distance.result + 1) c.args.state; state = c.of-seen.result })
-    c.args.state c.distance_at-distance.result c.self.invariant c.as_slice.ensures.value
+    keeps_added (g.P.Stepper.can_step c.self.inside.stepper) (g.P.Stepper.plain_step c.self.inside.stepper) c.self.inside.entries.items c.as_slice.result.now c.push_entry.new.entries.items c.self.inside.states.items c.push_entry.new.states.items c.self.inside.cache.entries
+    (record { block = c.args.block; parent = c.args.parent; distance = c.distance_at-distance.result + 1; kept = place_of (c.distance_at-distance.result + 1) c.self.inside.states.len; state = c.of-seen.result })
+    c.args.state c.distance_at-distance.result c.self.inside.states.len c.self.invariant c.as_slice.ensures.value
     (subst (λ (kept : Kept _ _). c.args.parent < length kept.blocks) (sym c.self.view_is) c.requires.parent)
     (subst (λ (kept : Kept _ _). IfSome (slice_get kept.blocks c.args.parent) (λ before. g.P.Stepper.can_step kept.stepper before.state c.args.block)) (sym c.self.view_is) c.requires.can)
     (subst (λ (kept : Kept _ _). IfSome (slice_get kept.blocks c.args.parent) (λ before. g.P.Stepper.plain_step kept.stepper before.state c.args.block ≡ done c.args.state)) (sym c.self.view_is) c.requires.step)
-    c.distance_at-distance.ensures refl c.of-seen.ensures refl c.in_ok-state.ensures.items
+    c.distance_at-distance.ensures refl c.of-seen.ensures refl c.in_ok-state.ensures.kept c.push_entry.ensures.stay c.in_ok-state.ensures.items
 
 pub cache_state-requires : goal.cache_state-requires
 cache_state-requires g c =
@@ -37,18 +37,18 @@ cache_state-requires g c =
     let long : c.len-number.result ≡ length c.self.inside.entries.items = omega (arith, c.as_slice.ensures.len, ap (λ (es : List (Entry _ _)). length es) c.as_slice.ensures.value) in
     has_state c.push_entry.new.entries.items c.len-number.result c.in-Some.state
     (added_stands c.self.inside.entries.items c.push_entry.new.entries.items
-    (record { block = c.args.block; parent = c.args.parent; distance = c.distance_at-distance.result + 1; kept = kept_of (c.distance_at-distance.result + 1) c.args.state; state = c.of-seen.result })
+    (record { block = c.args.block; parent = c.args.parent; distance = c.distance_at-distance.result + 1; kept = place_of (c.distance_at-distance.result + 1) c.self.inside.states.len; state = c.of-seen.result })
     c.len-number.result c.in-Some.state c.in_ok-state.ensures.items long (c.of-seen.ensures ∙ sym same))
 
 pub invariant_of-self-in-None : goal.invariant_of-self-in-None
 invariant_of-self-in-None g c =
-    keeps_added (g.P.Stepper.can_step c.self.inside.stepper) (g.P.Stepper.plain_step c.self.inside.stepper) c.self.inside.entries.items c.as_slice.result.now c.push_entry.new.entries.items c.self.inside.cache.entries
-    (record { block = c.args.block; parent = c.args.parent; distance = c.distance_at-distance.result + 1; kept = kept_of (c.distance_at-distance.result + 1) c.args.state; state = c.of-seen.result })
-    c.args.state c.distance_at-distance.result c.self.invariant c.as_slice.ensures.value
+    keeps_added (g.P.Stepper.can_step c.self.inside.stepper) (g.P.Stepper.plain_step c.self.inside.stepper) c.self.inside.entries.items c.as_slice.result.now c.push_entry.new.entries.items c.self.inside.states.items c.push_entry.new.states.items c.self.inside.cache.entries
+    (record { block = c.args.block; parent = c.args.parent; distance = c.distance_at-distance.result + 1; kept = place_of (c.distance_at-distance.result + 1) c.self.inside.states.len; state = c.of-seen.result })
+    c.args.state c.distance_at-distance.result c.self.inside.states.len c.self.invariant c.as_slice.ensures.value
     (subst (λ (kept : Kept _ _). c.args.parent < length kept.blocks) (sym c.self.view_is) c.requires.parent)
     (subst (λ (kept : Kept _ _). IfSome (slice_get kept.blocks c.args.parent) (λ before. g.P.Stepper.can_step kept.stepper before.state c.args.block)) (sym c.self.view_is) c.requires.can)
     (subst (λ (kept : Kept _ _). IfSome (slice_get kept.blocks c.args.parent) (λ before. g.P.Stepper.plain_step kept.stepper before.state c.args.block ≡ done c.args.state)) (sym c.self.view_is) c.requires.step)
-    c.distance_at-distance.ensures refl c.of-seen.ensures refl c.in_ok-state.ensures.items
+    c.distance_at-distance.ensures refl c.of-seen.ensures refl c.in_ok-state.ensures.kept c.push_entry.ensures.stay c.in_ok-state.ensures.items
 
 pub returns-in-Some-clause-number : goal.returns-in-Some-clause-number
 returns-in-Some-clause-number g c =
@@ -62,7 +62,7 @@ pub returns-in-Some-clause-blocks : goal.returns-in-Some-clause-blocks
 returns-in-Some-clause-blocks g c =
     ap (λ (kept : Kept _ _). kept.blocks) c.cache_state.ensures
     ∙ subst (λ (kept : Kept _ _). map plain_of c.push_entry.new.entries.items ≡ kept.blocks ++ record { block = c.args.block; parent = c.args.parent; state = c.args.state } ∷ []) c.self.view_is
-    (added_blocks c.self.inside.entries.items c.push_entry.new.entries.items (record { block = c.args.block; parent = c.args.parent; distance = c.distance_at-distance.result + 1; kept = kept_of (c.distance_at-distance.result + 1) c.args.state; state = c.of-seen.result }) c.args.state c.in_ok-state.ensures.items c.of-seen.ensures)
+    (added_blocks c.self.inside.entries.items c.push_entry.new.entries.items (record { block = c.args.block; parent = c.args.parent; distance = c.distance_at-distance.result + 1; kept = place_of (c.distance_at-distance.result + 1) c.self.inside.states.len; state = c.of-seen.result }) c.args.state c.in_ok-state.ensures.items c.of-seen.ensures)
 
 pub returns-in-Some-clause-succeeds : goal.returns-in-Some-clause-succeeds
 returns-in-Some-clause-succeeds g c = λ _. refl
@@ -78,7 +78,7 @@ returns-in-None-clause-stepper g c = ap (λ (kept : Kept _ _). kept.stepper) c.s
 pub returns-in-None-clause-blocks : goal.returns-in-None-clause-blocks
 returns-in-None-clause-blocks g c =
     subst (λ (kept : Kept _ _). map plain_of c.push_entry.new.entries.items ≡ kept.blocks ++ record { block = c.args.block; parent = c.args.parent; state = c.args.state } ∷ []) c.self.view_is
-    (added_blocks c.self.inside.entries.items c.push_entry.new.entries.items (record { block = c.args.block; parent = c.args.parent; distance = c.distance_at-distance.result + 1; kept = kept_of (c.distance_at-distance.result + 1) c.args.state; state = c.of-seen.result }) c.args.state c.in_ok-state.ensures.items c.of-seen.ensures)
+    (added_blocks c.self.inside.entries.items c.push_entry.new.entries.items (record { block = c.args.block; parent = c.args.parent; distance = c.distance_at-distance.result + 1; kept = place_of (c.distance_at-distance.result + 1) c.self.inside.states.len; state = c.of-seen.result }) c.args.state c.in_ok-state.ensures.items c.of-seen.ensures)
 
 pub returns-in-None-clause-succeeds : goal.returns-in-None-clause-succeeds
 returns-in-None-clause-succeeds g c = λ _. refl
@@ -89,8 +89,8 @@ returns-in_err-state g c = record {
   stepper = ap (λ (kept : Kept _ _). kept.stepper) c.self.view_is;
   blocks = refused_as_before c.from_residual.result _ _ _ c.from_residual.ensures.0 (ap (λ (es : List (Entry _ _)). map plain_of es) c.in_err-state.ensures.same ∙ ap (λ (kept : Kept _ _). kept.blocks) c.self.view_is);
   succeeds = λ spare. absurd (
-      let room : c.args.self.now.spare ≡ c.self.inside.entries.cap - c.self.inside.entries.len = sym (ap (λ (kept : Kept _ _). kept.spare) c.self.view_is) in
-      let no = c.in_err-state.ensures.succeeds (omega arith) in
+      let room : c.args.self.now.spare ≡ min (c.self.inside.entries.cap - c.self.inside.entries.len) (c.self.inside.states.cap - c.self.inside.states.len) = sym (ap (λ (kept : Kept _ _). kept.spare) c.self.view_is) in
+      let no = c.in_err-state.ensures.succeeds (omega arith) (omega arith) in
       cc);
 }
 
@@ -100,4 +100,6 @@ overflow_cast-number g c =
     omega (arith, length-map c.self.inside.entries.items plain_of)
 
 pub invariant_of-self : goal.invariant_of-self
-invariant_of-self g c = subst (λ es. IsKeeper (g.P.Stepper.can_step c.self.inside.stepper) (g.P.Stepper.plain_step c.self.inside.stepper) es c.self.inside.cache.entries) (sym c.in_err-state.ensures.same) c.self.invariant
+invariant_of-self g c =
+    subst (λ es. IsKeeper (g.P.Stepper.can_step c.self.inside.stepper) (g.P.Stepper.plain_step c.self.inside.stepper) es c.push_entry.new.states.items c.self.inside.cache.entries) (sym c.in_err-state.ensures.same)
+    (keeps_still (g.P.Stepper.can_step c.self.inside.stepper) (g.P.Stepper.plain_step c.self.inside.stepper) c.self.inside.entries.items c.self.inside.states.items c.push_entry.new.states.items c.self.inside.cache.entries c.self.invariant c.push_entry.ensures.stay)

@@ -10,5 +10,6 @@ invariant_of-self g c =
     record {
       some = c.self.invariant.some;
       each = c.self.invariant.each;
+      kept = c.self.invariant.kept;
       cached = put_cache c.self.inside.entries.items c.self.inside.cache.entries c.remember.new.cache.entries c.args.n c.args.state c.self.invariant.cached (stands_for c.self.inside.entries.items c.args.n c.args.state has) c.remember.ensures;
     }

@@ -1,7 +1,7 @@
 -- What is found is the state of the block.
 use Rattle.std.proofs.Common.{◌≡◌, ◌<◌, nat_eq, IfOk, IfSome, Option, Some, length, map, refl, sym, subst, arith}
 use Rattle.std.proofs.lemmas.List.{length-map}
-use Rattle.std.proofs.lemmas.Option.{slice_get_read}
+use Rattle.std.proofs.lemmas.Option.{slice_get_read, slice_get_within}
 use Rattle.std.proofs.lemmas.Result.{IfOk-weaker}
 use Rattle.std.specs.Map.{lookup}
 use Rattle.spec_state.specs.declared.plain.PlainState.{PlainState}
@@ -16,17 +16,27 @@ pub invariant_of-self : goal.invariant_of-self
 invariant_of-self g c = record {
   some = c.self.invariant.some;
   each = c.self.invariant.each;
+  kept = c.self.invariant.kept;
   cached = subst (λ pairs. IsCache c.self.inside.entries.items pairs) (sym c.recall.ensures.entries) (promoted_cache c.self.inside.entries.items c.self.inside.cache.entries c.args.n c.self.invariant.cached);
 }
+
+pub index-requires-in-Some : goal.index-requires-in-Some
+index-requires-in-Some g c =
+    let within : c.args.n < length (map plain_of c.self.inside.entries.items) = subst (λ (kept : Kept _ _). c.args.n < length kept.blocks) (sym c.self.view_is) c.requires in
+    let less : c.args.n < length c.self.inside.entries.items = omega (arith, length-map c.self.inside.entries.items plain_of) in
+    let there = slice_get_read c.self.inside.entries.items (length c.self.inside.entries.items) c.args.n c.index.result.now refl less c.index.ensures in
+    let below = slice_get_within c.self.inside.states.items c.in-Some.place c.index.result.now.state.value ((c.self.invariant.kept c.args.n c.index.result.now there).right c.in-Some.place c.in-Some.is) in
+    omega (arith, below, c.self.inside.states.ok.0)
 
 pub returns-in-Some-clause-state : goal.returns-in-Some-clause-state
 returns-in-Some-clause-state g c =
     let within : c.args.n < length (map plain_of c.self.inside.entries.items) = subst (λ (kept : Kept _ _). c.args.n < length kept.blocks) (sym c.self.view_is) c.requires in
     let less : c.args.n < length c.self.inside.entries.items = omega (arith, length-map c.self.inside.entries.items plain_of) in
     let there = slice_get_read c.self.inside.entries.items (length c.self.inside.entries.items) c.args.n c.index.result.now refl less c.index.ensures in
-    let stands = kept_stands (g.P.Stepper.can_step c.self.inside.stepper) (g.P.Stepper.plain_step c.self.inside.stepper) c.self.inside.entries.items c.self.invariant.each c.args.n c.index.result.now c.in-Some.state there c.in-Some.is in
-    let has = subst (λ (kept : Kept _ _). HasState kept.blocks c.args.n c.in-Some.state) c.self.view_is (has_state c.self.inside.entries.items c.args.n c.in-Some.state stands) in
-    IfOk-weaker c.share_found.result (λ found. found ≡ Some c.in-Some.state) (λ found. IfSome found (λ state. HasState c.args.self.now.blocks c.args.n state))
+    let right = (c.self.invariant.kept c.args.n c.index.result.now there).right c.in-Some.place c.in-Some.is in
+    let stands = kept_stands c.self.inside.entries.items c.self.inside.states.items c.args.n c.index.result.now c.in-Some.place c.index-in-Some.result.now there right c.index-in-Some.ensures in
+    let has = subst (λ (kept : Kept _ _). HasState kept.blocks c.args.n c.index-in-Some.result.now) c.self.view_is (has_state c.self.inside.entries.items c.args.n c.index-in-Some.result.now stands) in
+    IfOk-weaker c.share_found.result (λ found. found ≡ Some c.index-in-Some.result.now) (λ found. IfSome found (λ state. HasState c.args.self.now.blocks c.args.n state))
     (λ found is. subst (λ (o : Option PlainState). IfSome o (λ state. HasState c.args.self.now.blocks c.args.n state)) (sym is) has)
     c.share_found.ensures
 
