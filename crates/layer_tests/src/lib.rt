@@ -45,5 +45,3 @@ mod trees;
 mod votes;
 #[cfg(test)]
 mod words;
-
-fn main(_rt: HostRuntime) {}
