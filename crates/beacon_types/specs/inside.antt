@@ -1,1 +1,2 @@
+pub mod RootedAttestations
 pub mod ValidatorChunks

@@ -9,7 +9,7 @@ use anyhow::Result;
 use balance_totals::{count_active, current_epoch, previous_epoch};
 use bc_words::Stop;
 use beacon_state::State;
-use beacon_types::Attestation;
+use beacon_types::{Attestation, RootedAttestation};
 use block_operations::process_attestation::process_counted_attestation;
 use ssz_codec::Ssz;
 use std::time::CpuClock;
@@ -29,7 +29,8 @@ fn time_one(
     requires current { current ≡ length (get_active_validator_indices state.old (get_current_epoch state.old)) }
 {
     let begin = now(rt);
-    process_counted_attestation(state, attestation, 0, previous, current)?;
+    let rooted = RootedAttestation::of(attestation);
+    process_counted_attestation(state, &rooted, 0, previous, current)?;
     Ok(time_since(rt, begin))
 }
 

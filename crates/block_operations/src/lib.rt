@@ -34,6 +34,6 @@ pub use get_attesting_indices::attesting_indices;
 pub use get_validator_churn_limit::churn_limit;
 pub use initiate_validator_exit::{exit_queue_churn, initiate_exit, queue_end, withdrawable_epoch};
 pub use is_valid_merkle_branch::branch_holds;
-pub use process_block_header::process_header;
+pub use process_block_header::{process_header, process_rooted_header};
 pub use pubkey_index::PubkeyIndex;
 pub use slash_validator::slash;

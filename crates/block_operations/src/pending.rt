@@ -2,6 +2,7 @@
 
 ghost use Rattle.std.specs.Prelude.{◌≡◌, ◌^◌, ◌≤◌, IfOk};
 ghost use Rattle.bc_words.specs.Outcome.{Changes};
+ghost use Rattle.beacon_types.specs.Containers.{pending_attestation_codec};
 ghost use Rattle.beacon_types.specs.Equality.{same_checkpoint};
 ghost use Rattle.spec_state.specs.States.{attestations_limit};
 ghost use Rattle.block_operations.specs.inside.Pending.{full_or_empty, with_current_attested, with_previous_attested, with_attested, pending_of};
@@ -10,6 +11,7 @@ use balance_totals::current_epoch;
 use bc_words::{NoMemory, Refusal, Stop};
 use beacon_state::State;
 use beacon_types::{Attestation, Checkpoint, PendingAttestation, same_checkpoint};
+use hash_tree::Root;
 
 /// How many attestations a list may have.
 #[tactic(auto, using(bc_preset::proofs::Bounds::preset_bounds))]
@@ -56,9 +58,15 @@ fn is_current_source(state: &State, source: &Checkpoint) -> bool
     same_checkpoint(source, &state.current_justified_checkpoint())
 }
 
-/// Puts an attestation into the list of the current epoch, where its source is right, there is room, and somebody attested.
+/// Puts an attestation, which has this root, into the list of the current epoch, where its source is right, there is room, and somebody attested.
 #[tactic(auto, unfolding(crate::specs::inside::Pending::with_current_attested, spec_blocks::specs::ProcessAttestation::with_current_pending, bc_words::specs::Outcome::checked_push))]
-fn push_current(state: &mut State, pending: PendingAttestation, attested: bool) -> Result<(), Stop>
+fn push_current(
+    state: &mut State,
+    pending: PendingAttestation,
+    root: Root,
+    attested: bool,
+) -> Result<(), Stop>
+    requires { root ≡ pending_attestation_codec.hash_tree_root pending }
     ensures { Changes result state.old state.new (with_current_attested state.old pending attested) }
 {
     if !is_current_source(state, &pending.content.source) {
@@ -69,7 +77,7 @@ fn push_current(state: &mut State, pending: PendingAttestation, attested: bool) 
         let why = full_or_empty(len, attestations_limit(state));
         return Err(Stop::Refused(why));
     }
-    state.push_current_epoch_attestations(pending)?;
+    state.push_current_epoch_attestations(pending, root)?;
     Ok(())
 }
 
@@ -82,7 +90,13 @@ fn is_previous_source(state: &State, source: &Checkpoint) -> bool
 
 /// The same with the list of the previous epoch.
 #[tactic(auto, unfolding(crate::specs::inside::Pending::with_previous_attested, spec_blocks::specs::ProcessAttestation::with_previous_pending, bc_words::specs::Outcome::checked_push))]
-fn push_previous(state: &mut State, pending: PendingAttestation, attested: bool) -> Result<(), Stop>
+fn push_previous(
+    state: &mut State,
+    pending: PendingAttestation,
+    root: Root,
+    attested: bool,
+) -> Result<(), Stop>
+    requires { root ≡ pending_attestation_codec.hash_tree_root pending }
     ensures { Changes result state.old state.new (with_previous_attested state.old pending attested) }
 {
     if !is_previous_source(state, &pending.content.source) {
@@ -93,23 +107,25 @@ fn push_previous(state: &mut State, pending: PendingAttestation, attested: bool)
         let why = full_or_empty(len, attestations_limit(state));
         return Err(Stop::Refused(why));
     }
-    state.push_previous_epoch_attestations(pending)?;
+    state.push_previous_epoch_attestations(pending, root)?;
     Ok(())
 }
 
-/// Puts an attestation into the list of its target's epoch, where its source is right, there is room, and somebody attested.
+/// Puts an attestation, which has this root, into the list of its target's epoch, where its source is right, there is room, and somebody attested.
 /// After a stop the state is as before.
 #[tactic(auto, unfolding(crate::specs::inside::Pending::with_attested, crate::specs::inside::Pending::with_current_attested, crate::specs::inside::Pending::with_previous_attested, spec_blocks::specs::ProcessAttestation::with_pending))]
 pub(crate) fn push_attested(
     state: &mut State,
     pending: PendingAttestation,
+    root: Root,
     attested: bool,
 ) -> Result<(), Stop>
+    requires { root ≡ pending_attestation_codec.hash_tree_root pending }
     ensures { Changes result state.old state.new (with_attested state.old pending attested) }
 {
     if pending.content.target.epoch == current_epoch(state) {
-        push_current(state, pending, attested)
+        push_current(state, pending, root, attested)
     } else {
-        push_previous(state, pending, attested)
+        push_previous(state, pending, root, attested)
     }
 }

@@ -13,7 +13,7 @@ use crate::pending::{pending_of, push_attested};
 use balance_totals::{current_epoch, previous_epoch};
 use bc_words::{Refusal, Stop, checked_add, checked_sub};
 use beacon_state::State;
-use beacon_types::{Attestation, AttestationData};
+use beacon_types::{Attestation, AttestationData, RootedAttestation};
 use committees::EpochCommittees;
 
 /// The epoch of a slot.
@@ -54,24 +54,26 @@ fn check_times(state: &State, content: &AttestationData) -> Result<(), Stop>
 #[tactic(auto, unfolding(spec_blocks::specs::ProcessAttestation::process_attestation, crate::specs::inside::Pending::with_attested, crate::specs::inside::Attested::is_attested))]
 fn take_vote(
     state: &mut State,
-    attestation: &Attestation,
+    rooted: &RootedAttestation<'_>,
     proposer: u64,
     attested: Result<bool, Stop>,
 ) -> Result<(), Stop>
-    requires times { check_times state.old attestation.now.content ≡ done tt }
-    requires attested { Attests attested (check_committee state.old attestation.now.content attestation.now.aggregation_bits) (is_attested state.old attestation.now) }
-    ensures { Changes result state.old state.new (process_attestation state.old attestation.now proposer) }
+    requires times { check_times state.old rooted.now.content ≡ done tt }
+    requires attested { Attests attested (check_committee state.old rooted.now.content rooted.now.aggregation_bits) (is_attested state.old rooted.now) }
+    ensures { Changes result state.old state.new (process_attestation state.old rooted.now proposer) }
 {
+    let attestation = rooted.attestation();
     let has_one = attested?;
     let delay = checked_sub(state.slot(), attestation.content.slot)?;
     let pending = pending_of(attestation, delay, proposer)?;
-    push_attested(state, pending, has_one)
+    let root = rooted.pending_root(delay, proposer);
+    push_attested(state, pending, root, has_one)
 }
 
 /// Puts the vote of a committee into the list of its epoch, where it waits for the end of the epoch (beacon-chain.md,
 /// `process_attestation`). `proposer` is the block's proposer; `previous` and `current` are how many validators are active in the
 /// state's previous and current epoch. The members of a committee aren't needed, since the signature isn't checked: how many
-/// there are decides.
+/// there are decides. The vote comes with its roots, which the block's root took in too.
 ///
 /// Refused, in this order: `AtTargetEpoch`, `AtSlotEpoch`, `AtEarly`, `AtLate`, `AtIndex`, `AtBits`, `AtSource`, `ListFull`,
 /// `AtEmpty`, and `Overflow` where a sum on the way doesn't fit. After a stop the state is as before: all checks come before
@@ -79,18 +81,19 @@ fn take_vote(
 #[tactic(auto, unfolding(spec_blocks::specs::ProcessAttestation::process_attestation))]
 pub fn process_counted_attestation(
     state: &mut State,
-    attestation: &Attestation,
+    rooted: &RootedAttestation<'_>,
     proposer: u64,
     previous: u64,
     current: u64,
 ) -> Result<(), Stop>
     requires previous { previous ≡ length (get_active_validator_indices state.old (get_previous_epoch state.old)) }
     requires current { current ≡ length (get_active_validator_indices state.old (get_current_epoch state.old)) }
-    ensures { Changes result state.old state.new (process_attestation state.old attestation.now proposer) }
+    ensures { Changes result state.old state.new (process_attestation state.old rooted.now proposer) }
 {
+    let attestation = rooted.attestation();
     check_times(state, &attestation.content)?;
     let attested = counted_in(state, attestation, previous, current);
-    take_vote(state, attestation, proposer, attested)
+    take_vote(state, rooted, proposer, attested)
 }
 
 /// The same, where `previous` and `current` are the committees of the state's previous and current epoch: as many validators
@@ -109,5 +112,11 @@ pub fn process_attestation(
 {
     let _preset = state.preset();
     let (previous, current) = (previous.member_count(), current.member_count());
-    process_counted_attestation(state, attestation, proposer, previous, current)
+    process_counted_attestation(
+        state,
+        &RootedAttestation::of(attestation),
+        proposer,
+        previous,
+        current,
+    )
 }

@@ -137,11 +137,28 @@ impl<T: Leaf + Drop> SharedList<T> {
         ensures steps { OnOk result (steps.new ≡ steps.old + (depth_for self.old.limit + 1)) }
         ensures at_most { steps.new ≤ steps.old + (depth_for self.old.limit + 1) }
     {
+        let root = value.root();
+        self.push_known(value, root, steps)
+    }
+
+    /// The same, where the item's root is known, so that it isn't made anew.
+    pub fn push_known<L: Ledger>(
+        &mut self,
+        value: T,
+        root: Root,
+        steps: &mut Steps<L>,
+    ) -> Result<(), PushStop>
+        requires { root ≡ T.root_of value }
+        ensures pushes { Pushes result self.old.items self.new.items (checked_push self.old.limit self.old.items value) }
+        ensures limit { self.new.limit ≡ self.old.limit }
+        ensures steps { OnOk result (steps.new ≡ steps.old + (depth_for self.old.limit + 1)) }
+        ensures at_most { steps.new ≤ steps.old + (depth_for self.old.limit + 1) }
+    {
         let len = self.tree.len();
         if len >= self.limit {
             return Err(PushStop::Full);
         }
-        self.tree.put(len, value, steps)?;
+        self.tree.put_known(len, value, root, steps)?;
         self.root = mix_step(&self.tree.top(), len + 1, steps);
         Ok(())
     }

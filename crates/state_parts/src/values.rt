@@ -56,20 +56,22 @@ fn set_item<T: Leaf + Drop, L: Ledger>(
     list.set(i, value, &mut steps)
 }
 
-/// Puts one more item at the end of a list, with a counter of its own.
+/// Puts one more item, whose root is known, at the end of a list, with a counter of its own.
 fn push_item<T: Leaf + Drop, L: Ledger>(
     list: &mut SharedList<T>,
     value: T,
+    root: Root,
     blank: Blank,
 ) -> Result<(), PushStop>
     requires name { blank.name ≡ L.name }
     requires parts { blank.parts ≡ L.parts }
     requires some { 0 < blank.parts }
+    requires root { root ≡ T.root_of value }
     ensures pushes { Pushes result list.old.items list.new.items (checked_push list.old.limit list.old.items value) }
     ensures limit { list.new.limit ≡ list.old.limit }
 {
     let mut steps = Steps::<L>::new(blank);
-    list.push(value, &mut steps)
+    list.push_known(value, root, &mut steps)
 }
 
 /// Sets many items of a list, with a counter of its own.
@@ -167,14 +169,25 @@ impl<T: InRange> Values<T> {
     }
 
     /// One more value at the end, where there are fewer than the limit. After a stop they are as before.
-    #[tactic(auto, unfolding(bc_words::specs::Outcome::checked_push), using(crate::proofs::Within::all_push))]
     pub fn push(&mut self, value: T) -> Result<(), PushStop>
         ensures pushes { Pushes result self.old.items self.new.items (checked_push self.old.limit self.old.items value) }
         ensures limit { self.new.limit ≡ self.old.limit }
         ensures fits { length self.new.items ≤ self.new.limit }
     {
+        let root = value.root();
+        self.push_known(value, root)
+    }
+
+    /// The same, where the value's root is known, so that it isn't made anew.
+    #[tactic(auto, unfolding(bc_words::specs::Outcome::checked_push), using(crate::proofs::Within::all_push))]
+    pub fn push_known(&mut self, value: T, root: Root) -> Result<(), PushStop>
+        requires { root ≡ T.Ssz.codec.hash_tree_root value }
+        ensures pushes { Pushes result self.old.items self.new.items (checked_push self.old.limit self.old.items value) }
+        ensures limit { self.new.limit ≡ self.old.limit }
+        ensures fits { length self.new.items ≤ self.new.limit }
+    {
         value.in_range();
-        let pushed = push_item::<T, Brand>(&mut self.list, value, Blank::new(1));
+        let pushed = push_item::<T, Brand>(&mut self.list, value, root, Blank::new(1));
         let _limit = self.list.limit();
         pushed
     }

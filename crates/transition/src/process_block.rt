@@ -11,10 +11,10 @@ use balance_totals::{current_epoch, keep_active, keep_committees, previous_epoch
 use bc_preset::Config;
 use bc_words::{NoMemory, Stop};
 use beacon_state::State;
-use beacon_types::BeaconBlock;
+use beacon_types::{BeaconBlock, RootedAttestation, rooted_attestations};
 use block_operations::process_eth1_data::process_eth1_data;
-use block_operations::process_header;
 use block_operations::process_randao::process_randao;
+use block_operations::process_rooted_header;
 use std::alloc::Global;
 
 /// The state keeps the active validators of the previous and the current epoch, and the committees of the current one, where it
@@ -31,21 +31,24 @@ fn keep_epoch(alloc: Global, state: &mut State) -> Result<(), NoMemory>
     keep_committees(alloc, state, now)
 }
 
-/// The parts of a block, one after another.
+/// The parts of a block, one after another. Its attestations come with their roots, which its own root and the state's lists take in.
 #[tactic(auto, unfolding(spec_blocks::specs::ProcessBlock::process_block))]
 fn take_parts(
     alloc: Global,
     state: &mut State,
     block: &BeaconBlock,
+    attestations: &[RootedAttestation<'_>],
     config: &Config,
 ) -> Result<(), Stop>
+    requires { attestations.now ≡ block.now.body.attestations }
     ensures { Moves result state.new (process_block state.old block.now config.now) }
 {
     let proposer = get_beacon_proposer_index(alloc, state)?;
-    process_header(state, block, proposer)?;
+    let body_root = block.body.root_over(attestations);
+    process_rooted_header(state, block, body_root, proposer)?;
     process_randao(state, &block.body)?;
     process_eth1_data(state, &block.body)?;
-    process_operations(alloc, state, &block.body, proposer, config)
+    process_operations(alloc, state, &block.body, attestations, proposer, config)
 }
 
 /// The steps of a block, once the state keeps who is active.
@@ -58,7 +61,8 @@ fn take_steps(
     ensures { Moves result state.new (process_block state.old block.now config.now) }
 {
     keep_epoch(alloc, state)?;
-    take_parts(alloc, state, block, config)
+    let attestations = rooted_attestations(alloc, block.body.attestations.as_slice())?;
+    take_parts(alloc, state, block, &attestations, config)
 }
 
 /// The block's header, randomness, vote for the deposit contract, and operations (beacon-chain.md, `process_block`), on a

@@ -14,7 +14,8 @@ use bc_preset::Config;
 use bc_words::{Refusal, Stop, checked_sub};
 use beacon_state::State;
 use beacon_types::{
-    Attestation, AttesterSlashing, BeaconBlockBody, Deposit, ProposerSlashing, SignedVoluntaryExit,
+    AttesterSlashing, BeaconBlockBody, Deposit, ProposerSlashing, RootedAttestation,
+    SignedVoluntaryExit,
 };
 use block_operations::PubkeyIndex;
 use block_operations::process_attestation::process_counted_attestation;
@@ -113,7 +114,7 @@ fn voluntary_exits(
 #[tactic(auto, using(crate::proofs::Counted::previous_stays, crate::proofs::Counted::current_stays), unfolding(crate::specs::inside::Operations::by_attestation))]
 fn attestation(
     state: &mut State,
-    attestation: &Attestation,
+    attestation: &RootedAttestation<'_>,
     proposer: u64,
     previous: u64,
     current: u64,
@@ -131,7 +132,7 @@ fn attestation(
 #[tactic(auto, using(spec_blocks::proofs::Each::each_item))]
 fn each_attestation(
     state: &mut State,
-    attestations: &[Attestation],
+    attestations: &[RootedAttestation<'_>],
     proposer: u64,
     previous: u64,
     current: u64,
@@ -149,7 +150,11 @@ fn each_attestation(
 /// The attestations of a block: the active validators of the two epochs whose attestations may wait are counted once for all
 /// of them, and not at all where there are none.
 #[tactic(auto, using(spec_blocks::proofs::Each::no_items))]
-fn attestations(state: &mut State, attestations: &[Attestation], proposer: u64) -> Result<(), Stop>
+fn attestations(
+    state: &mut State,
+    attestations: &[RootedAttestation<'_>],
+    proposer: u64,
+) -> Result<(), Stop>
     ensures { Moves result state.new (each_of (by_attestation proposer) state.old attestations.now) }
 {
     if attestations.len() == 0 {
@@ -206,8 +211,8 @@ fn check_deposit_count(state: &State, body: &BeaconBlockBody) -> Result<(), Stop
     Ok(())
 }
 
-/// Each operation of each list, in order (beacon-chain.md, `process_operations`). `proposer` is the block's proposer. It
-/// leaves anything in the state after a stop.
+/// Each operation of each list, in order (beacon-chain.md, `process_operations`). `attested` is the body's attestations with their
+/// roots, and `proposer` the block's proposer. It leaves anything in the state after a stop.
 ///
 /// Refused as `DepositCount` where the block doesn't bring as many deposits as are due, and where an operation is.
 #[tactic(auto, unfolding(spec_blocks::specs::ProcessOperations::process_operations, crate::specs::inside::Operations::by_proposer_slashing, crate::specs::inside::Operations::by_attester_slashing, crate::specs::inside::Operations::by_attestation, crate::specs::inside::Operations::by_exit))]
@@ -215,15 +220,17 @@ pub fn process_operations(
     alloc: Global,
     state: &mut State,
     body: &BeaconBlockBody,
+    attested: &[RootedAttestation<'_>],
     proposer: u64,
     config: &Config,
 ) -> Result<(), Stop>
+    requires { attested.now ≡ body.now.attestations }
     ensures { Moves result state.new (process_operations state.old body.now proposer config.now) }
 {
     check_deposit_count(state, body)?;
     proposer_slashings(state, body.proposer_slashings.as_slice(), proposer, config)?;
     attester_slashings(state, body.attester_slashings.as_slice(), proposer, config)?;
-    attestations(state, body.attestations.as_slice(), proposer)?;
+    attestations(state, attested, proposer)?;
     deposits(alloc, state, body.deposits.as_slice())?;
     voluntary_exits(state, body.voluntary_exits.as_slice(), config)
 }

@@ -9,7 +9,7 @@ ghost use Rattle.tree_nodes.specs.inside.Puts.{put_at, Grows, Reaches};
 
 use crate::build::leaves_of;
 use crate::layers::layered;
-use crate::node::{Node, half_width};
+use crate::node::{NewLeaf, Node, half_width};
 use crate::plan::plan_all;
 use crate::several::{settle_apart, settle_one};
 use crate::taking::next_of;
@@ -22,31 +22,31 @@ use std::sync::ledger::Ledger;
 /// From how many changes on the pairs of a layer are hashed by one call: so many are hashed side by side.
 const LANES: usize = 8;
 
-/// The tree of a depth whose first leaf is an item, and which has no other. A step for each level.
+/// The tree of a depth whose first leaf is this one, and which has no other. A step for each level.
 fn sprout<T: Leaf + Drop, L: Ledger>(
-    item: T,
+    leaf: NewLeaf<T>,
     depth: u32,
     alloc: Global,
     steps: &mut Steps<L>,
 ) -> Result<Node<T>, NoMemory>
     requires { depth ≤ 40 }
-    ensures one { IfOk result (λ node. node ≡ (depth, item ∷ [])) }
+    ensures one { IfOk result (λ node. node ≡ (depth, leaf ∷ [])) }
     ensures steps { OnOk result (steps.new ≡ steps.old + depth) }
     ensures at_most { steps.new ≤ steps.old + depth }
 {
     if depth == 0 {
-        return Node::item(item, alloc);
+        return Ok(leaf.node());
     }
-    let left = sprout(item, depth - 1, alloc, steps);
+    let left = sprout(leaf, depth - 1, alloc, steps);
     pair_step(left, Ok(Node::absent(depth - 1)), alloc, steps)
 }
 
-/// The tree with the item at a place: in the place of the one that is there, or behind the last. A step for each level.
+/// The tree with a leaf at a place: in the place of the one that is there, or behind the last. A step for each level.
 pub(crate) fn put<T: Leaf + Drop, L: Ledger>(
     node: &Node<T>,
     depth: u32,
     at: u64,
-    item: T,
+    leaf: NewLeaf<T>,
     alloc: Global,
     steps: &mut Steps<L>,
 ) -> Result<Node<T>, NoMemory>
@@ -55,19 +55,19 @@ pub(crate) fn put<T: Leaf + Drop, L: Ledger>(
     requires fits { length node.now.1 ≤ 2 ^ depth }
     requires room { at < 2 ^ depth }
     requires place { at ≤ length node.now.1 }
-    ensures put { IfOk result (λ new. new ≡ (depth, put_at node.now.1 at item)) }
+    ensures put { IfOk result (λ new. new ≡ (depth, put_at node.now.1 at leaf)) }
     ensures steps { OnOk result (steps.new ≡ steps.old + depth) }
     ensures at_most { steps.new ≤ steps.old + depth }
 {
     let Some((left, right)) = node.halves() else {
-        return sprout(item, depth, alloc, steps);
+        return sprout(leaf, depth, alloc, steps);
     };
     let half = half_width(depth);
     if at < half {
-        let left = put(left, depth - 1, at, item, alloc, steps);
+        let left = put(left, depth - 1, at, leaf, alloc, steps);
         return pair_step(left, right.share(), alloc, steps);
     }
-    let right = put(right, depth - 1, at - half, item, alloc, steps);
+    let right = put(right, depth - 1, at - half, leaf, alloc, steps);
     pair_step(left.share(), right, alloc, steps)
 }
 
@@ -82,14 +82,14 @@ pub(crate) fn depth_with(depth: u32, at: u64) -> u32
     depth + 1
 }
 
-/// The tree with the item at a place, which may be the one behind the last of a full tree: that becomes the left half of one
+/// The tree with a leaf at a place, which may be the one behind the last of a full tree: that becomes the left half of one
 /// that is a level deeper. A step for each level.
 pub(crate) fn put_or_grow<T: Leaf + Drop, L: Ledger>(
     node: &Node<T>,
     depth: u32,
     grown: u32,
     at: u64,
-    item: T,
+    leaf: NewLeaf<T>,
     alloc: Global,
     steps: &mut Steps<L>,
 ) -> Result<Node<T>, NoMemory>
@@ -98,14 +98,14 @@ pub(crate) fn put_or_grow<T: Leaf + Drop, L: Ledger>(
     requires place { at ≤ length node.now.1 }
     requires low { depth ≤ 40 }
     requires grows { Grows depth at grown }
-    ensures put { IfOk result (λ new. new ≡ (grown, put_at node.now.1 at item)) }
+    ensures put { IfOk result (λ new. new ≡ (grown, put_at node.now.1 at leaf)) }
     ensures steps { OnOk result (steps.new ≡ steps.old + grown) }
     ensures at_most { steps.new ≤ steps.old + grown }
 {
     if grown == depth {
-        return put(node, depth, at, item, alloc, steps);
+        return put(node, depth, at, leaf, alloc, steps);
     }
-    let right = sprout(item, depth, alloc, steps);
+    let right = sprout(leaf, depth, alloc, steps);
     pair_step(node.share(), right, alloc, steps)
 }
 

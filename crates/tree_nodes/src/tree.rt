@@ -15,7 +15,7 @@ use crate::build::{depth_over, leaves_of};
 use crate::find::find;
 use crate::iter::Iter;
 use crate::layers::{build, layered};
-use crate::node::Node;
+use crate::node::{NewLeaf, Node};
 use crate::put::{depth_with, put_all, put_or_grow};
 use crate::repeated::repeat_item;
 use crate::work::{lift, lift_steps};
@@ -133,8 +133,28 @@ impl<T: Leaf + Drop> Tree<T> {
         ensures steps { OnOk result (steps.new ≡ steps.old + self.old.0) }
         ensures at_most { steps.new ≤ steps.old + self.old.0 }
     {
+        let root = item.root();
+        self.put_known(at, item, root, steps)
+    }
+
+    /// The same, where the item's root is known, so that it isn't made anew.
+    pub fn put_known<L: Ledger>(
+        &mut self,
+        at: u64,
+        item: T,
+        root: Root,
+        steps: &mut Steps<L>,
+    ) -> Result<(), NoMemory>
+        requires place { at ≤ length self.old.1 }
+        requires room { at < 2 ^ self.old.0 }
+        requires root { root ≡ T.root_of item }
+        ensures put { Becomes result self.old self.new (self.old.0, put_at self.old.1 at item) }
+        ensures steps { OnOk result (steps.new ≡ steps.old + self.old.0) }
+        ensures at_most { steps.new ≤ steps.old + self.old.0 }
+    {
         let low = depth_with(self.low, at);
-        let node = put_or_grow(&self.node, self.low, low, at, item, self.alloc, steps)?;
+        let leaf = NewLeaf::known(item, root, self.alloc)?;
+        let node = put_or_grow(&self.node, self.low, low, at, leaf, self.alloc, steps)?;
         self.top = lift_steps(node.root(), low, self.depth, steps);
         self.node = node;
         self.low = low;

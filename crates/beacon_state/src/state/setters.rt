@@ -5,6 +5,7 @@
 
 ghost use Rattle.std.specs.Prelude.{◌≡◌, ◌<◌, [], length, slice_set};
 ghost use Rattle.bc_words.specs.Outcome.{Pushes, Becomes};
+ghost use Rattle.beacon_types.specs.Containers.{pending_attestation_codec};
 ghost use Rattle.beacon_state.specs.inside.Changes.{one_more_historical_root, one_more_vote, one_more_validator, one_more_balance};
 ghost use Rattle.beacon_state.specs.inside.Changes.{one_more_previous_attestation, one_more_current_attestation};
 ghost use Rattle.beacon_state.specs.inside.Changes.{with_previous_attestation_at, with_current_attestation_at, with_rotated_attestations};
@@ -228,16 +229,19 @@ impl State {
         self.previous_epoch_attestations.set(i, attestation)
     }
 
-    /// Appends one more attestation. Full exactly where there are as many as the limit. On an error the
+    /// Appends one more attestation, which has this root. Full exactly where there are as many as the limit. On an error the
     /// state is as before.
     pub fn push_previous_epoch_attestations(
         &mut self,
         attestation: PendingAttestation,
+        root: Root,
     ) -> Result<(), PushStop>
+        requires { root ≡ pending_attestation_codec.hash_tree_root attestation }
         ensures { Pushes result self.old self.new (one_more_previous_attestation self.old attestation) }
     {
         self.kept_root = None;
-        self.previous_epoch_attestations.push(attestation)
+        self.previous_epoch_attestations
+            .push_known(attestation, root)
     }
 
     /// Writes another attestation at a place. Where memory is refused, the state is as before.
@@ -253,16 +257,19 @@ impl State {
         self.current_epoch_attestations.set(i, attestation)
     }
 
-    /// Appends one more attestation. Full exactly where there are as many as the limit. On an error the
+    /// Appends one more attestation, which has this root. Full exactly where there are as many as the limit. On an error the
     /// state is as before.
     pub fn push_current_epoch_attestations(
         &mut self,
         attestation: PendingAttestation,
+        root: Root,
     ) -> Result<(), PushStop>
+        requires { root ≡ pending_attestation_codec.hash_tree_root attestation }
         ensures { Pushes result self.old self.new (one_more_current_attestation self.old attestation) }
     {
         self.kept_root = None;
-        self.current_epoch_attestations.push(attestation)
+        self.current_epoch_attestations
+            .push_known(attestation, root)
     }
 
     /// Drops all votes for the deposit contract. Where memory is refused, the state is as before.

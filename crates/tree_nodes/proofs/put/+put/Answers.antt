@@ -9,7 +9,7 @@ use Rattle.tree_nodes.proofs.put.+put.Goals as goal
 pub returns-in_default-clause-put : goal.returns-in_default-clause-put
 returns-in_default-clause-put g t c =
     let bare = c.in_default.ensures in
-    subst (λ (v : ℕ × List _). IfOk c.sprout.result (λ new. new ≡ v)) (put_into_bare c.args.node.now c.args.depth c.args.at c.args.item c.requires.same bare.0 bare.1 c.requires.room) c.sprout.ensures.one
+    subst (λ (v : ℕ × List _). IfOk c.sprout.result (λ new. new ≡ v)) (put_into_bare c.args.node.now c.args.depth c.args.at c.args.leaf c.requires.same bare.0 bare.1 c.requires.room) c.sprout.ensures.one
 
 pub put-left-requires : goal.put-left-requires
 put-left-requires g t c κs within =
@@ -46,19 +46,19 @@ put-right-requires g t c κs within =
 
 pub pair_step-requires : goal.pair_step-requires
 pair_step-requires g t c =
-    both_made c.put-left.result c.share.result c.put-left.ensures.put c.share.ensures (λ new other is same. (put_into_left c.args.node.now c.in-Some.left.now c.in-Some.right.now new other c.args.depth c.half_width-half.result c.args.at c.args.item c.in-Some.ensures.halves c.in-Some.ensures.whole c.requires.same c.half_width-half.ensures.lower c.if-at-half.true c.requires.place is same).0)
+    both_made c.put-left.result c.share.result c.put-left.ensures.put c.share.ensures (λ new other is same. (put_into_left c.args.node.now c.in-Some.left.now c.in-Some.right.now new other c.args.depth c.half_width-half.result c.args.at c.args.leaf c.in-Some.ensures.halves c.in-Some.ensures.whole c.requires.same c.half_width-half.ensures.lower c.if-at-half.true c.requires.place is same).0)
 
 pub returns-then-at-half-clause-put : goal.returns-then-at-half-clause-put
 returns-then-at-half-clause-put g t c =
-    pair_made c.put-left.result c.share.result c.pair_step.result (c.args.depth, put_at c.args.node.now.1 c.args.at c.args.item) c.put-left.ensures.put c.share.ensures c.pair_step.ensures.pair (λ new other is same. (put_into_left c.args.node.now c.in-Some.left.now c.in-Some.right.now new other c.args.depth c.half_width-half.result c.args.at c.args.item c.in-Some.ensures.halves c.in-Some.ensures.whole c.requires.same c.half_width-half.ensures.lower c.if-at-half.true c.requires.place is same).1)
+    pair_made c.put-left.result c.share.result c.pair_step.result (c.args.depth, put_at c.args.node.now.1 c.args.at c.args.leaf) c.put-left.ensures.put c.share.ensures c.pair_step.ensures.pair (λ new other is same. (put_into_left c.args.node.now c.in-Some.left.now c.in-Some.right.now new other c.args.depth c.half_width-half.result c.args.at c.args.leaf c.in-Some.ensures.halves c.in-Some.ensures.whole c.requires.same c.half_width-half.ensures.lower c.if-at-half.true c.requires.place is same).1)
 
 pub pair_step-requires-2 : goal.pair_step-requires-2
 pair_step-requires-2 g t c =
-    both_made c.share-2.result c.put-right.result c.share-2.ensures c.put-right.ensures.put (λ other new same is. (put_into_right c.args.node.now c.in-Some.left.now c.in-Some.right.now new other c.args.depth c.half_width-half.result c.args.at c.args.item c.in-Some.ensures.halves c.in-Some.ensures.whole c.requires.same c.half_width-half.ensures.lower c.half_width-half.ensures.half c.if-at-half.false c.requires.room c.requires.place is same).0)
+    both_made c.share-2.result c.put-right.result c.share-2.ensures c.put-right.ensures.put (λ other new same is. (put_into_right c.args.node.now c.in-Some.left.now c.in-Some.right.now new other c.args.depth c.half_width-half.result c.args.at c.args.leaf c.in-Some.ensures.halves c.in-Some.ensures.whole c.requires.same c.half_width-half.ensures.lower c.half_width-half.ensures.half c.if-at-half.false c.requires.room c.requires.place is same).0)
 
 pub returns-clause-put : goal.returns-clause-put
 returns-clause-put g t c =
-    pair_made c.share-2.result c.put-right.result c.pair_step-2.result (c.args.depth, put_at c.args.node.now.1 c.args.at c.args.item) c.share-2.ensures c.put-right.ensures.put c.pair_step-2.ensures.pair (λ other new same is. (put_into_right c.args.node.now c.in-Some.left.now c.in-Some.right.now new other c.args.depth c.half_width-half.result c.args.at c.args.item c.in-Some.ensures.halves c.in-Some.ensures.whole c.requires.same c.half_width-half.ensures.lower c.half_width-half.ensures.half c.if-at-half.false c.requires.room c.requires.place is same).1)
+    pair_made c.share-2.result c.put-right.result c.pair_step-2.result (c.args.depth, put_at c.args.node.now.1 c.args.at c.args.leaf) c.share-2.ensures c.put-right.ensures.put c.pair_step-2.ensures.pair (λ other new same is. (put_into_right c.args.node.now c.in-Some.left.now c.in-Some.right.now new other c.args.depth c.half_width-half.result c.args.at c.args.leaf c.in-Some.ensures.halves c.in-Some.ensures.whole c.requires.same c.half_width-half.ensures.lower c.half_width-half.ensures.half c.if-at-half.false c.requires.room c.requires.place is same).1)
 
 pub returns-then-at-half-clause-steps : goal.returns-then-at-half-clause-steps
 returns-then-at-half-clause-steps g t c =

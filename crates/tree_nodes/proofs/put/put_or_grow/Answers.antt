@@ -10,13 +10,13 @@ put-requires-clause-room g c = stays_low c.args.depth c.args.at c.args.grown c.r
 pub pair_step-requires : goal.pair_step-requires
 pair_step-requires g c =
     let full = grows_high c.args.depth c.args.at c.args.grown c.requires.grows c.if-grown-depth.false in
-    both_made c.share.result c.sprout-right.result c.share.ensures c.sprout-right.ensures.one (λ left right shared one. (grown c.args.node.now left right c.args.depth c.args.at c.args.item c.requires.same c.requires.fits full.0 c.requires.place shared one).0)
+    both_made c.share.result c.sprout-right.result c.share.ensures c.sprout-right.ensures.one (λ left right shared one. (grown c.args.node.now left right c.args.depth c.args.at c.args.leaf c.requires.same c.requires.fits full.0 c.requires.place shared one).0)
 
 pub returns-clause-put : goal.returns-clause-put
 returns-clause-put g c =
     let full = grows_high c.args.depth c.args.at c.args.grown c.requires.grows c.if-grown-depth.false in
-    pair_made c.share.result c.sprout-right.result c.pair_step.result (c.args.grown, put_at c.args.node.now.1 c.args.at c.args.item) c.share.ensures c.sprout-right.ensures.one c.pair_step.ensures.pair
-    (λ left right shared one. (grown c.args.node.now left right c.args.depth c.args.at c.args.item c.requires.same c.requires.fits full.0 c.requires.place shared one).1 ∙ ap (λ (d : ℕ). (d, put_at c.args.node.now.1 c.args.at c.args.item)) (sym full.1))
+    pair_made c.share.result c.sprout-right.result c.pair_step.result (c.args.grown, put_at c.args.node.now.1 c.args.at c.args.leaf) c.share.ensures c.sprout-right.ensures.one c.pair_step.ensures.pair
+    (λ left right shared one. (grown c.args.node.now left right c.args.depth c.args.at c.args.leaf c.requires.same c.requires.fits full.0 c.requires.place shared one).1 ∙ ap (λ (d : ℕ). (d, put_at c.args.node.now.1 c.args.at c.args.leaf)) (sym full.1))
 
 pub returns-clause-steps : goal.returns-clause-steps
 returns-clause-steps g c =

@@ -1,4 +1,4 @@
-use Rattle.state_parts.proofs.values.Values.push.Given as goal
+use Rattle.state_parts.proofs.values.Values.push_known.Given as goal
 
 -- the ledger is the one of the blank
 abbrev pub ghosts-push_item : goal.ghosts-push_item

@@ -1,7 +1,7 @@
 -- The header is the block's where its proposer is the slot's and isn't slashed; otherwise the state stays.
 use Rattle.std.proofs.Common.{rules, refl}
 use Rattle.spec_blocks.specs.ProcessBlockHeader.{process_block_header}
-use Rattle.block_operations.proofs.process_block_header.process_header.Goals as goal
+use Rattle.block_operations.proofs.process_block_header.process_rooted_header.Goals as goal
 
 pub returns : goal.returns
 unfolding process_block_header
