@@ -20,7 +20,7 @@ parents_joined (suc k) [] ys even = absurd (omega arith)
 parents_joined (suc k) (x ∷ []) ys even = absurd (omega arith)
 parents_joined (suc k) (x ∷ (y ∷ xs)) ys even = ap (λ (rest : List (List ℕ)). sha256 (x ++ y) ∷ rest) (parents_joined k xs ys (omega arith))
 
-count_parents : (k : ℕ) (xs : List (List ℕ)) → length xs ≡ 2 * k → length (parents xs) ≡ k
+pub count_parents : (k : ℕ) (xs : List (List ℕ)) → length xs ≡ 2 * k → length (parents xs) ≡ k
 unfolding parents
 count_parents zero [] even = refl
 count_parents zero (x ∷ xs) even = absurd (omega arith)
@@ -28,12 +28,12 @@ count_parents (suc k) [] even = absurd (omega arith)
 count_parents (suc k) (x ∷ []) even = absurd (omega arith)
 count_parents (suc k) (x ∷ (y ∷ xs)) even = ap suc (count_parents k xs (omega arith))
 
-parents_of_blocks : {V : Type 0} (k : ℕ) (block : V → List (List ℕ)) → ((v : V) → length (block v) ≡ 2 * k) → (vs : List V) → parents (flat_map block vs) ≡ flat_map (λ v. parents (block v)) vs
+pub parents_of_blocks : {V : Type 0} (k : ℕ) (block : V → List (List ℕ)) → ((v : V) → length (block v) ≡ 2 * k) → (vs : List V) → parents (flat_map block vs) ≡ flat_map (λ v. parents (block v)) vs
 unfolding parents
 parents_of_blocks k block even [] = refl
 parents_of_blocks k block even (v ∷ vs) = parents_joined k (block v) (flat_map block vs) (even v) ∙ ap (λ (rest : List (List ℕ)). parents (block v) ++ rest) (parents_of_blocks k block even vs)
 
-single_blocks : {V : Type 0} (block : V → List (List ℕ)) (root : V → List ℕ) → ((v : V) → block v ≡ root v ∷ []) → (vs : List V) → flat_map block vs ≡ map root vs
+pub single_blocks : {V : Type 0} (block : V → List (List ℕ)) (root : V → List ℕ) → ((v : V) → block v ≡ root v ∷ []) → (vs : List V) → flat_map block vs ≡ map root vs
 single_blocks block root one [] = refl
 single_blocks block root one (v ∷ vs) = ap₂ (λ (xs ys : List (List ℕ)). xs ++ ys) (one v) (single_blocks block root one vs)
 

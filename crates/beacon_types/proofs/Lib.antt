@@ -1,2 +1,4 @@
+pub mod AttestationLanes
+pub mod Empty
 pub mod Equality
 pub mod Lanes

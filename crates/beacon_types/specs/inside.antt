@@ -1,2 +1,3 @@
+pub mod AttestationChunks
 pub mod RootedAttestations
 pub mod ValidatorChunks

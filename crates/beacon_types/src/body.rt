@@ -2,7 +2,8 @@
 
 ghost use Rattle.std.specs.Prelude.{◌≡◌, ◌≤◌, ◌^◌, [], refl, IfOk, OnOk, IsTrue, ◌↔◌};
 ghost use Rattle.hash_tree.specs.Merkle.{merkleize, mix_in_length as mixed_in};
-ghost use Rattle.beacon_types.specs.Blocks.{block_body_codec, default_block_body, empty_body_root as root_of_default};
+ghost use Rattle.ssz_codec.specs.Lists.{list_codec};
+ghost use Rattle.beacon_types.specs.Blocks.{attestation_codec, block_body_codec, max_attestations, default_block_body, empty_body_root as root_of_default};
 ghost use Rattle.beacon_types.specs.laws.Blocks.{block_body_lawful};
 
 use crate::attestation::Attestation;
@@ -19,7 +20,7 @@ use bc_words::NoMemory;
 use hash_tree::{Leaf, Root, depth_of, fields_root, mix_in_length, zero_hash};
 use ssz_codec::{
     Field, Items, LimitedList, ListLimit, Ssz, SszFault, VariableList, Writer, read_container,
-    root_of_container, write_variable_container,
+    write_variable_container,
 };
 use std::alloc::Global;
 
@@ -143,21 +144,52 @@ fn copy_lists(
     Ok(())
 }
 
+/// The root of a list that is empty: the zero tree of room for sixteen values that are not basic, and the length 0.
+const EMPTY_OF_SIXTEEN: Root = [
+    0x79, 0x29, 0x30, 0xbb, 0xd5, 0xba, 0xac, 0x43, 0xbc, 0xc7, 0x98, 0xee, 0x49, 0xaa, 0x81, 0x85,
+    0xef, 0x76, 0xbb, 0x3b, 0x44, 0xba, 0x62, 0xb9, 0x1d, 0x86, 0xae, 0x56, 0x9e, 0x4b, 0xb5, 0x35,
+];
+
+/// The root of a list that is empty and has room for two such values.
+const EMPTY_OF_TWO: Root = [
+    0x7a, 0x05, 0x01, 0xf5, 0x95, 0x7b, 0xdf, 0x9c, 0xb3, 0xa8, 0xff, 0x49, 0x66, 0xf0, 0x22, 0x65,
+    0xf9, 0x68, 0x65, 0x8b, 0x7a, 0x9c, 0x62, 0x64, 0x2c, 0xba, 0x11, 0x65, 0xe8, 0x66, 0x42, 0xf5,
+];
+
+/// The root of a list of so many values, of which this is the root where it is empty: most blocks have no such operation.
+fn root_unless_empty<T: Leaf>(list: &T, length: u64, empty: &Root) -> Root
+    requires { length ≡ 0 → empty.now ≡ T.root_of list.now }
+    ensures { result ≡ T.root_of list.now }
+{
+    if length == 0 { *empty } else { list.root() }
+}
+
+impl BeaconBlockBody {
+    /// The root of the body, whose list of attestations has this root. It takes no memory.
+    pub(crate) fn root_with(&self, attestations: &Root) -> Root
+        requires { attestations.now ≡ (list_codec attestation_codec max_attestations).hash_tree_root self.now.attestations }
+        ensures { result ≡ block_body_codec.hash_tree_root self.now }
+    {
+        let (proposers, attesters) = (&self.proposer_slashings, &self.attester_slashings);
+        let (deposits, exits) = (&self.deposits, &self.voluntary_exits);
+        fields_root(&[
+            self.randao_reveal.root(),
+            self.eth1_data.root(),
+            self.graffiti,
+            root_unless_empty(proposers, proposers.len(), &EMPTY_OF_SIXTEEN),
+            root_unless_empty(attesters, attesters.len(), &EMPTY_OF_TWO),
+            *attestations,
+            root_unless_empty(deposits, deposits.len(), &EMPTY_OF_SIXTEEN),
+            root_unless_empty(exits, exits.len(), &EMPTY_OF_SIXTEEN),
+        ])
+    }
+}
+
 impl Leaf for BeaconBlockBody {
     ghost root_of = { block_body_codec.hash_tree_root };
 
     fn root(&self) -> Root {
-        root_of_container!(
-            self,
-            randao_reveal,
-            eth1_data,
-            graffiti,
-            proposer_slashings,
-            attester_slashings,
-            attestations,
-            deposits,
-            voluntary_exits
-        )
+        self.root_with(&self.attestations.root())
     }
 }
 

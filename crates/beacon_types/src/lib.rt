@@ -6,6 +6,7 @@
 
 mod attestation;
 mod attestation_data;
+mod attestation_roots;
 mod attester_slashing;
 mod block;
 mod block_header;

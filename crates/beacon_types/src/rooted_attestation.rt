@@ -3,26 +3,28 @@
 //! The block's root takes in the roots of its attestations, and the state's list of pending attestations takes in the same bits
 //! and the same data. Both find the roots here.
 
-ghost use Rattle.std.specs.Prelude.{◌≡◌, ◌≤◌, length, IfOk};
+ghost use Rattle.std.specs.Prelude.{◌≡◌, ◌≤◌, ◌++◌, length, IfOk, OnOk};
 ghost use Rattle.ssz_codec.specs.Lists.{variable_size_list};
 ghost use Rattle.beacon_types.specs.Containers.{pending_attestation_codec};
 ghost use Rattle.beacon_types.specs.Blocks.{attestation_codec, block_body_codec, max_attestations};
+ghost use Rattle.beacon_types.specs.inside.AttestationChunks.{vote_root};
+ghost use Rattle.beacon_types.specs.inside.RootedAttestations.{pending_of};
 
 use crate::attestation::Attestation;
+use crate::attestation_roots::{write_attestation_halves, write_attestation_roots};
 use crate::body::BeaconBlockBody;
 use crate::body_limits::AttestationsLimit;
 use bc_words::NoMemory;
-use hash_tree::{Leaf, Root, depth_of, fields_root, merkle_leaves, mix_in_length};
+use hash_tree::{Leaf, Root, depth_of, hash_pair, merkle_leaves, mix_in_length};
 use ssz_codec::ListLimit;
 use std::alloc::Global;
 use std::marker::Model;
 
-/// An attestation with its root, and those of its bits and its data. Contracts see the attestation.
+/// An attestation with its root, and the one over its bits and its data. Contracts see the attestation.
 #[derive(Drop)]
 pub struct RootedAttestation<'a> {
     attestation: &'a Attestation,
-    bits: Root,
-    content: Root,
+    vote: Root,
     root: Root,
 }
 
@@ -35,23 +37,33 @@ impl<'a> Model for RootedAttestation<'a> {
 
     ghost view = { λ rooted. rooted.attestation.now };
 
-    ghost invariant = { λ rooted. HasRoots rooted.attestation.now rooted.bits rooted.content rooted.root };
+    ghost invariant = { λ rooted. HasRoots rooted.attestation.now rooted.vote rooted.root };
 }
 
 impl<'a> RootedAttestation<'a> {
+    /// The attestation with these roots.
+    fn with_roots(attestation: &'a Attestation, vote: Root, root: Root) -> RootedAttestation<'a>
+        requires vote { vote ≡ vote_root attestation.now }
+        requires root { root ≡ attestation_codec.hash_tree_root attestation.now }
+        ensures { result ≡ attestation.now }
+    {
+        RootedAttestation {
+            attestation,
+            vote,
+            root,
+        }
+    }
+
     /// The attestation with its roots. It takes no memory.
     pub fn of(attestation: &'a Attestation) -> RootedAttestation<'a>
         ensures { result ≡ attestation.now }
     {
-        let bits = attestation.aggregation_bits.root();
-        let content = attestation.content.root();
-        let root = fields_root(&[bits, content, attestation.signature.root()]);
-        RootedAttestation {
-            attestation,
-            bits,
-            content,
-            root,
-        }
+        let vote = hash_pair(
+            &attestation.aggregation_bits.root(),
+            &attestation.content.root(),
+        );
+        let root = hash_pair(&vote, &hash_pair(&attestation.signature.root(), &[0; 32]));
+        RootedAttestation::with_roots(attestation, vote, root)
     }
 
     /// The attestation alone.
@@ -64,14 +76,12 @@ impl<'a> RootedAttestation<'a> {
     /// The root of the attestation as it waits in the state for the end of its epoch (beacon-chain.md, "PendingAttestation"), so many
     /// slots behind its own, in a block of this proposer. It takes no memory.
     pub fn pending_root(&self, inclusion_delay: u64, proposer_index: u64) -> Root
-        ensures { result ≡ pending_attestation_codec.hash_tree_root (record { aggregation_bits = self.now.aggregation_bits; content = self.now.content; inclusion_delay = inclusion_delay; proposer_index = proposer_index }) }
+        ensures { result ≡ pending_attestation_codec.hash_tree_root (pending_of self.now inclusion_delay proposer_index) }
     {
-        fields_root(&[
-            self.bits,
-            self.content,
-            inclusion_delay.root(),
-            proposer_index.root(),
-        ])
+        hash_pair(
+            &self.vote,
+            &hash_pair(&inclusion_delay.root(), &proposer_index.root()),
+        )
     }
 }
 
@@ -83,6 +93,30 @@ impl<'a> Leaf for RootedAttestation<'a> {
     }
 }
 
+/// How many attestations are hashed side by side.
+const GROUP: usize = 8;
+
+/// Puts at most eight attestations, each with its roots, behind others. Where memory is refused, some of them may stand there.
+fn push_group<'a>(
+    attestations: &'a [Attestation],
+    rooted: &mut Vec<RootedAttestation<'a>>,
+) -> Result<(), NoMemory>
+    requires few { length attestations.now ≤ 8 }
+    ensures { OnOk result (rooted.new.items ≡ rooted.old.items ++ attestations.now) }
+{
+    let count = attestations.len();
+    let mut room = [[0; 32]; 16];
+    let halves = &mut room[..2 * count];
+    write_attestation_halves(attestations, halves);
+    let mut room = [[0; 32]; 8];
+    let roots = &mut room[..count];
+    write_attestation_roots(attestations, halves, roots);
+    'group: for i in 0..count {
+        rooted.push(RootedAttestation::with_roots(&attestations[i], halves[2 * i], roots[i]))?;
+    }
+    Ok(())
+}
+
 /// The attestations of a block, each with its roots.
 pub fn rooted_attestations(
     alloc: Global,
@@ -91,8 +125,8 @@ pub fn rooted_attestations(
     ensures { IfOk result (λ rooted. rooted.items ≡ attestations.now) }
 {
     let mut rooted = Vec::with_capacity(alloc, attestations.len())?;
-    for attestation in attestations {
-        rooted.push(RootedAttestation::of(attestation))?;
+    for group in attestations.chunks(GROUP) {
+        push_group(group, &mut rooted)?;
     }
     Ok(rooted)
 }
@@ -114,15 +148,6 @@ impl BeaconBlockBody {
         ensures { result ≡ block_body_codec.hash_tree_root self.now }
     {
         let _few = self.attestations.len();
-        fields_root(&[
-            self.randao_reveal.root(),
-            self.eth1_data.root(),
-            self.graffiti.root(),
-            self.proposer_slashings.root(),
-            self.attester_slashings.root(),
-            list_root(attestations),
-            self.deposits.root(),
-            self.voluntary_exits.root(),
-        ])
+        self.root_with(&list_root(attestations))
     }
 }

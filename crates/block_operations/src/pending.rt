@@ -5,7 +5,8 @@ ghost use Rattle.bc_words.specs.Outcome.{Changes};
 ghost use Rattle.beacon_types.specs.Containers.{pending_attestation_codec};
 ghost use Rattle.beacon_types.specs.Equality.{same_checkpoint};
 ghost use Rattle.spec_state.specs.States.{attestations_limit};
-ghost use Rattle.block_operations.specs.inside.Pending.{full_or_empty, with_current_attested, with_previous_attested, with_attested, pending_of};
+ghost use Rattle.block_operations.specs.inside.Pending.{full_or_empty, with_current_attested, with_previous_attested, with_attested};
+ghost use Rattle.beacon_types.specs.inside.RootedAttestations.{pending_of};
 
 use balance_totals::current_epoch;
 use bc_words::{NoMemory, Refusal, Stop};

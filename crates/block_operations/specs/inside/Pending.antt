@@ -4,15 +4,9 @@ use Rattle.bc_words.specs.Outcome.{Outcome, done, ◌>>=◌}
 use Rattle.bc_words.specs.declared.refusal.Refusal.{Refusal}
 use Rattle.bc_words.specs.declared.refusal.Refusal.TheVariants.{AtEmpty, ListFull}
 use Rattle.beacon_types.specs.declared.pending_attestation.PendingAttestation.{PendingAttestation}
-use Rattle.beacon_types.specs.declared.attestation.Attestation.{Attestation}
 use Rattle.spec_state.specs.declared.plain.PlainState.{PlainState}
 use Rattle.spec_blocks.specs.Checks.{check, ◌>>◌}
 use Rattle.spec_blocks.specs.ProcessAttestation.{with_pending, with_current_pending, with_previous_pending}
-
--- the attestation as it waits in the state
-abbrev pub pending_of : Attestation → ℕ → ℕ → PendingAttestation
-pending_of attestation inclusion_delay proposer_index =
-    record { aggregation_bits = attestation.aggregation_bits; content = attestation.content; inclusion_delay = inclusion_delay; proposer_index = proposer_index }
 
 -- why an attestation of nobody is refused
 abbrev pub full_or_empty : ℕ → ℕ → Refusal

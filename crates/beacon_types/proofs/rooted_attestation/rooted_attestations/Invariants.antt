@@ -1,6 +1,6 @@
-use Rattle.std.proofs.Common.{◌≡◌, take}
+-- The attestations so far, and those that are left.
+use Rattle.std.proofs.Common.{◌≡◌, ◌++◌}
 use Rattle.beacon_types.proofs.rooted_attestation.rooted_attestations.Given as goal
 
--- the attestations so far
-abbrev pub invariant-loop-attestation : goal.invariant-loop-attestation
-invariant-loop-attestation l = l.rooted.items ≡ take l.attestation-index l.attestations
+abbrev pub invariant-loop-group : goal.invariant-loop-group
+invariant-loop-group l = record { all : l.rooted.items ++ l.group-iterator.rest.now ≡ l.attestations; size : l.group-iterator.size ≡ 8 }
