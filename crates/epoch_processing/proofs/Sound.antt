@@ -4,7 +4,7 @@ use Rattle.spec_state.specs.declared.plain.PlainState.{PlainState}
 use Rattle.spec_state.specs.Accessors.{get_current_epoch}
 use Rattle.spec_state.specs.Soundness.{IsSound}
 use Rattle.spec_epochs.specs.WeighJustificationAndFinalization.{justification_of}
-use Rattle.participation.proofs.Sound.{previous_is_earlier}
+use Rattle.epoch_rewards.proofs.Sound.{previous_is_earlier}
 
 pub previous_early : (state : PlainState) → IsSound state → (justification_of state).previous.epoch ≤ get_current_epoch state
 unfolding justification_of

@@ -3,12 +3,12 @@ use Rattle.std.proofs.Common.{◌≡◌, ℕ, Bool, List, refl, ap, ◌∙◌}
 use Rattle.spec_state.specs.declared.plain.PlainState.{PlainState}
 use Rattle.spec_state.specs.Accessors.{get_total_balance}
 use Rattle.spec_epochs.specs.Helpers.{get_matching_target_attestations, get_attesting_balance}
-use Rattle.participation.specs.declared.matching.Vote.TheVariants.{Target}
-use Rattle.participation.specs.declared.table.Status.{Status}
-use Rattle.participation.specs.inside.Votes.{matching}
-use Rattle.participation.specs.inside.Marks.{flagged}
-use Rattle.participation.specs.inside.Statuses.{statuses_of, flags_of}
-use Rattle.participation.proofs.Columns.{voters_are}
+use Rattle.epoch_rewards.specs.declared.matching.Vote.TheVariants.{Target}
+use Rattle.epoch_rewards.specs.declared.table.Status.{Status}
+use Rattle.epoch_rewards.specs.inside.Votes.{matching}
+use Rattle.epoch_rewards.specs.inside.Marks.{flagged}
+use Rattle.epoch_rewards.specs.inside.Statuses.{statuses_of, flags_of}
+use Rattle.epoch_rewards.proofs.Columns.{voters_are}
 
 -- by a table of statuses
 pub targets_are : (state : PlainState) (statuses : List Status) (epoch : ℕ) → statuses ≡ statuses_of state epoch → get_total_balance state (flagged state (flags_of Target statuses)) ≡ get_attesting_balance state (get_matching_target_attestations state epoch)

@@ -5,8 +5,8 @@ ghost use Rattle.bc_words.specs.Outcome.{Changes, Gives};
 ghost use Rattle.spec_state.specs.Accessors.{get_current_epoch, get_previous_epoch, get_block_root};
 ghost use Rattle.spec_state.specs.Soundness.{IsSound};
 ghost use Rattle.balance_totals.specs.inside.Stakes.{stakes_of};
-ghost use Rattle.participation.specs.declared.matching.Vote.TheVariants as votes;
-ghost use Rattle.participation.specs.inside.Statuses.{statuses_of, flags_of};
+ghost use Rattle.epoch_rewards.specs.declared.matching.Vote.TheVariants as votes;
+ghost use Rattle.epoch_rewards.specs.inside.Statuses.{statuses_of, flags_of};
 ghost use Rattle.spec_epochs.specs.Weigh.{weigh};
 ghost use Rattle.spec_epochs.specs.WeighJustificationAndFinalization.{justification_of, with_justification, weigh_justification_and_finalization};
 ghost use Rattle.spec_epochs.specs.ProcessJustificationAndFinalization.{process_justification_and_finalization};
@@ -15,7 +15,7 @@ use crate::weigh_justification_and_finalization::weigh;
 use balance_totals::{Stake, block_root, current_epoch, previous_epoch, total_active};
 use bc_words::Stop;
 use beacon_state::State;
-use participation::{Status, Vote, flag_balance, vote_balance};
+use epoch_rewards::{Status, Vote, flag_balance, vote_balance};
 use spec_epochs::Justification;
 
 /// The bits and checkpoints of a state.
@@ -43,7 +43,7 @@ fn set_justification(state: &mut State, j: Justification)
 }
 
 /// What becomes of the bits and checkpoints, by the total and the balances of the attesters of the two epochs' blocks.
-#[tactic(auto, using(participation::proofs::Sound::previous_is_earlier, crate::proofs::Sound::previous_early, crate::proofs::Sound::current_early))]
+#[tactic(auto, using(epoch_rewards::proofs::Sound::previous_is_earlier, crate::proofs::Sound::previous_early, crate::proofs::Sound::current_early))]
 fn weigh_of(state: &State, total: u64, previous: u64, current: u64) -> Result<Justification, Stop>
     requires { IsSound state.now }
     ensures { let epoch = get_current_epoch state.now in let previous_root = get_block_root state.now (get_previous_epoch state.now) in

@@ -4,10 +4,10 @@ use Rattle.bc_words.specs.Outcome.{Outcome, done, bind}
 use Rattle.spec_state.specs.declared.plain.PlainState.{PlainState}
 use Rattle.spec_state.specs.Accessors.{get_total_active_balance}
 use Rattle.spec_epochs.specs.RewardHelpers.{is_in_inactivity_leak}
-use Rattle.participation.specs.declared.inclusions.Inclusion.{Inclusion}
+use Rattle.epoch_rewards.specs.declared.inclusions.Inclusion.{Inclusion}
 use Rattle.epoch_rewards.specs.declared.get_attestation_component_deltas.Weights.{Weights}
 use Rattle.epoch_rewards.specs.inside.Components.{needed_balance}
-use Rattle.epoch_rewards.specs.inside.Inclusions.{all_gains}
+use Rattle.epoch_rewards.specs.inside.InclusionRewards.{all_gains}
 use Rattle.epoch_rewards.specs.inside.Paid.{weights_by, paid_balances, all_paid}
 
 known : {A B : Type 0} (outcome : Outcome A) (next : A → Outcome B) (x : A) → outcome ≡ done x → bind outcome next ≡ next x

@@ -4,12 +4,12 @@ use Rattle.beacon_types.specs.declared.pending_attestation.PendingAttestation.{P
 use Rattle.spec_state.specs.declared.plain.PlainState.{PlainState}
 use Rattle.spec_epochs.specs.Helpers.{get_unslashed_attesting_indices}
 use Rattle.spec_epochs.specs.GetAttestationComponentDeltas.{get_attestation_component_deltas}
-use Rattle.participation.specs.declared.matching.Vote.{Vote}
-use Rattle.participation.specs.declared.table.Status.{Status}
-use Rattle.participation.specs.inside.Votes.{matching}
-use Rattle.participation.specs.inside.Marks.{flagged}
-use Rattle.participation.specs.inside.Statuses.{statuses_of, flags_of}
-use Rattle.participation.proofs.Columns.{voters_are}
+use Rattle.epoch_rewards.specs.declared.matching.Vote.{Vote}
+use Rattle.epoch_rewards.specs.declared.table.Status.{Status}
+use Rattle.epoch_rewards.specs.inside.Votes.{matching}
+use Rattle.epoch_rewards.specs.inside.Marks.{flagged}
+use Rattle.epoch_rewards.specs.inside.Statuses.{statuses_of, flags_of}
+use Rattle.epoch_rewards.proofs.Columns.{voters_are}
 use Rattle.epoch_rewards.specs.inside.Components.{component_reward, component_penalty, needed_balance, component_deltas}
 
 by_attesters : (state : PlainState) (attestations : List PendingAttestation) → component_deltas state (get_unslashed_attesting_indices state attestations) ≡ get_attestation_component_deltas state attestations

@@ -9,8 +9,8 @@ use Rattle.spec_state.specs.declared.plain.PlainState.{PlainState}
 use Rattle.spec_epochs.specs.Each.{checked_total_from}
 use Rattle.spec_epochs.specs.RewardHelpers.{get_proposer_reward}
 use Rattle.spec_epochs.proofs.Each.{bound_done}
-use Rattle.participation.specs.declared.inclusions.Inclusion.{Inclusion}
-use Rattle.epoch_rewards.specs.inside.Inclusions.{entry_at, included, all_included}
+use Rattle.epoch_rewards.specs.declared.inclusions.Inclusion.{Inclusion}
+use Rattle.epoch_rewards.specs.inside.InclusionRewards.{entry_at, included, all_included}
 use Rattle.epoch_rewards.proofs.Overflows.{OnlyOverflows, bound_only, included_only}
 
 -- whether a validator proposed the block of an inclusion

@@ -12,7 +12,7 @@ use Rattle.spec_epochs.specs.GetInactivityPenaltyDeltas.{absence_penalty}
 use Rattle.balance_totals.specs.declared.stake.Stake.{Stake}
 use Rattle.balance_totals.specs.inside.Stakes.{is_reached, stake_of, stakes_of}
 use Rattle.balance_totals.proofs.Gathered.{read_at}
-use Rattle.participation.specs.inside.Marks.{flagged, flagged_from}
+use Rattle.epoch_rewards.specs.inside.Marks.{flagged, flagged_from}
 use Rattle.epoch_rewards.specs.inside.Rates.{absence_by_balance}
 use Rattle.epoch_rewards.proofs.Among.{found_passes, among_indices, among_filter}
 

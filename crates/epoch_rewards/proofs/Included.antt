@@ -3,13 +3,13 @@ use Rattle.std.proofs.Common.{◌≡◌, ℕ, List, Option, Some, get_or, set, s
 use Rattle.bc_words.specs.Outcome.{Outcome, done, bind, checked_add, Stops}
 use Rattle.spec_state.specs.declared.plain.PlainState.{PlainState}
 use Rattle.spec_epochs.specs.RewardHelpers.{get_proposer_reward}
-use Rattle.participation.specs.declared.inclusions.Inclusion.{Inclusion}
-use Rattle.epoch_rewards.specs.inside.Inclusions.{included, entry_at, all_included}
+use Rattle.epoch_rewards.specs.declared.inclusions.Inclusion.{Inclusion}
+use Rattle.epoch_rewards.specs.inside.InclusionRewards.{included, entry_at, all_included}
 use Rattle.std.proofs.lemmas.List.{drop_all}
 use Rattle.bc_words.specs.declared.stop.Stop.{Stop}
 use Rattle.bc_words.proofs.Outcomes.{stops_bound}
 use Rattle.spec_state.specs.Accessors.{indices_from}
-use Rattle.participation.specs.inside.Marks.{flagged, flagged_from}
+use Rattle.epoch_rewards.specs.inside.Marks.{flagged, flagged_from}
 
 -- an attester that is included, by the reward of the proposer
 pub includes : (state : PlainState) (attester : ℕ) (e : Inclusion) (entry : Option Inclusion) (gains : List ℕ) (reward : ℕ) → Some e ≡ entry → get_proposer_reward state attester ≡ done reward

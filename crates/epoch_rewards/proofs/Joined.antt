@@ -17,16 +17,16 @@ use Rattle.spec_epochs.specs.Each.{validator_indices, checked_map, checked_total
 use Rattle.spec_epochs.specs.Helpers.{get_matching_source_attestations, get_unslashed_attesting_indices, attests}
 use Rattle.spec_epochs.specs.RewardHelpers.{get_proposer_reward}
 use Rattle.spec_epochs.specs.GetInclusionDelayDeltas.{sooner, first_of_least_delay, inclusion, is_proposer_of, delayed_reward, inclusion_delay_reward, get_inclusion_delay_deltas}
-use Rattle.participation.specs.declared.inclusions.Inclusion.{Inclusion}
-use Rattle.participation.specs.declared.matching.Vote.TheVariants.{Source}
-use Rattle.participation.specs.declared.table.Status.{Status}
-use Rattle.participation.specs.inside.Votes.{matching}
-use Rattle.participation.specs.inside.Marks.{flagged}
-use Rattle.participation.specs.inside.Inclusions.{entry_of, inclusion_entries}
-use Rattle.participation.specs.inside.Statuses.{statuses_of, flags_of, entries_of}
-use Rattle.participation.proofs.Columns.{voters_are, entries_are}
-use Rattle.participation.proofs.Sound.{sound_previous}
-use Rattle.epoch_rewards.specs.inside.Inclusions.{entry_at, delayed_by, own_reward, joined_reward, all_included, all_joined, joined_deltas}
+use Rattle.epoch_rewards.specs.declared.inclusions.Inclusion.{Inclusion}
+use Rattle.epoch_rewards.specs.declared.matching.Vote.TheVariants.{Source}
+use Rattle.epoch_rewards.specs.declared.table.Status.{Status}
+use Rattle.epoch_rewards.specs.inside.Votes.{matching}
+use Rattle.epoch_rewards.specs.inside.Marks.{flagged}
+use Rattle.epoch_rewards.specs.inside.Inclusions.{entry_of, inclusion_entries}
+use Rattle.epoch_rewards.specs.inside.Statuses.{statuses_of, flags_of, entries_of}
+use Rattle.epoch_rewards.proofs.Columns.{voters_are, entries_are}
+use Rattle.epoch_rewards.proofs.Sound.{sound_previous}
+use Rattle.epoch_rewards.specs.inside.InclusionRewards.{entry_at, delayed_by, own_reward, joined_reward, all_included, all_joined, joined_deltas}
 use Rattle.epoch_rewards.proofs.Overflows.{OnlyOverflows, bound_only, add_only, proposer_only, own_only}
 use Rattle.epoch_rewards.proofs.Gained.{proposes, gained, all_done, all_refused, all_only}
 use Rattle.epoch_rewards.proofs.Nothing.{nothing_is}

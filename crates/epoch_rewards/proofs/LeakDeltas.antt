@@ -8,12 +8,12 @@ use Rattle.spec_epochs.specs.Each.{validator_indices, checked_map}
 use Rattle.spec_epochs.specs.Helpers.{get_matching_target_attestations, get_unslashed_attesting_indices}
 use Rattle.spec_epochs.specs.RewardHelpers.{is_in_inactivity_leak}
 use Rattle.spec_epochs.specs.GetInactivityPenaltyDeltas.{get_inactivity_penalty_deltas}
-use Rattle.participation.specs.declared.matching.Vote.TheVariants.{Target}
-use Rattle.participation.specs.declared.table.Status.{Status}
-use Rattle.participation.specs.inside.Votes.{matching}
-use Rattle.participation.specs.inside.Marks.{flagged}
-use Rattle.participation.specs.inside.Statuses.{statuses_of, flags_of}
-use Rattle.participation.proofs.Columns.{voters_are}
+use Rattle.epoch_rewards.specs.declared.matching.Vote.TheVariants.{Target}
+use Rattle.epoch_rewards.specs.declared.table.Status.{Status}
+use Rattle.epoch_rewards.specs.inside.Votes.{matching}
+use Rattle.epoch_rewards.specs.inside.Marks.{flagged}
+use Rattle.epoch_rewards.specs.inside.Statuses.{statuses_of, flags_of}
+use Rattle.epoch_rewards.proofs.Columns.{voters_are}
 use Rattle.epoch_rewards.specs.inside.Leak.{leak_penalty, penalties_of, leak_deltas}
 use Rattle.epoch_rewards.proofs.Nothing.{nothing_is}
 

@@ -1,3 +1,16 @@
+pub mod Members
+pub mod Places
+pub mod Rights
+pub mod Flags
+pub mod Weighed
+pub mod ByStake
+pub mod Sound
+pub mod Entries
+pub mod Noted
+pub mod Statuses
+pub mod Targets
+pub mod Columns
+pub mod Listed
 pub mod Among
 pub mod Gathered
 pub mod Divisor

@@ -11,8 +11,8 @@ use Rattle.spec_blocks.specs.Checks.{item_at, found}
 use Rattle.spec_epochs.specs.Each.{is_among}
 use Rattle.spec_epochs.specs.GetBaseReward.{get_base_reward}
 use Rattle.spec_epochs.specs.RewardHelpers.{get_proposer_reward}
-use Rattle.participation.specs.declared.inclusions.Inclusion.{Inclusion}
-use Rattle.epoch_rewards.specs.inside.Inclusions.{entry_at, included, delayed_by, own_reward}
+use Rattle.epoch_rewards.specs.declared.inclusions.Inclusion.{Inclusion}
+use Rattle.epoch_rewards.specs.inside.InclusionRewards.{entry_at, included, delayed_by, own_reward}
 
 abbrev pub OnlyOverflows : {A : Type 0} → Outcome A → Type 0
 OnlyOverflows (done x) = Unit {0}

@@ -18,16 +18,16 @@ use Rattle.spec_epochs.specs.GetInclusionDelayDeltas.{get_inclusion_delay_deltas
 use Rattle.spec_epochs.specs.GetInactivityPenaltyDeltas.{absence_penalty, inactivity_penalty, get_inactivity_penalty_deltas}
 use Rattle.spec_epochs.specs.GetAttestationDeltas.{sum_at, get_attestation_deltas}
 use Rattle.spec_epochs.specs.ProcessRewardsAndPenalties.{rewarded_balance, process_rewards_and_penalties}
-use Rattle.participation.specs.declared.inclusions.Inclusion.{Inclusion}
-use Rattle.participation.specs.declared.matching.Vote.{Vote}
-use Rattle.participation.specs.declared.matching.Vote.TheVariants.{Source, Target, Head}
-use Rattle.participation.specs.declared.table.Status.{Status}
-use Rattle.participation.specs.inside.Votes.{matching}
-use Rattle.participation.specs.inside.Marks.{flagged, flagged_from}
-use Rattle.participation.specs.inside.Statuses.{statuses_of, flags_of, entries_of}
+use Rattle.epoch_rewards.specs.declared.inclusions.Inclusion.{Inclusion}
+use Rattle.epoch_rewards.specs.declared.matching.Vote.{Vote}
+use Rattle.epoch_rewards.specs.declared.matching.Vote.TheVariants.{Source, Target, Head}
+use Rattle.epoch_rewards.specs.declared.table.Status.{Status}
+use Rattle.epoch_rewards.specs.inside.Votes.{matching}
+use Rattle.epoch_rewards.specs.inside.Marks.{flagged, flagged_from}
+use Rattle.epoch_rewards.specs.inside.Statuses.{statuses_of, flags_of, entries_of}
 use Rattle.epoch_rewards.specs.declared.paid.Delta.{Delta}
 use Rattle.epoch_rewards.specs.inside.Components.{component_reward, component_penalty, needed_balance, component_deltas}
-use Rattle.epoch_rewards.specs.inside.Inclusions.{own_reward, joined_reward, all_included, all_joined, joined_deltas}
+use Rattle.epoch_rewards.specs.inside.InclusionRewards.{own_reward, joined_reward, all_included, all_joined, joined_deltas}
 use Rattle.epoch_rewards.specs.inside.Leak.{leak_penalty, penalties_of, leak_deltas}
 use Rattle.epoch_rewards.specs.inside.Paid.{sum_of_four, component_delta, leak_part, settled, summed, paid_balance, weights_by, all_rewarded, all_paid}
 use Rattle.epoch_rewards.proofs.Overflows.{OnlyOverflows, bound_only, add_only, sub_only, mul_only, total_only, item_only, validator_only, base_only, proposer_only, own_only}

@@ -5,7 +5,7 @@ ghost use Rattle.std.specs.Prelude.{◌≡◌, ℕ, ◌≤◌, List, length, IfO
 ghost use Rattle.bc_words.specs.Outcome.{Outcome, GivesExactly, GivesBy};
 ghost use Rattle.spec_state.specs.declared.plain.PlainState.{PlainState};
 ghost use Rattle.balance_totals.specs.inside.Stakes.{stakes_of};
-ghost use Rattle.participation.specs.declared.table.Status.{Status};
+ghost use Rattle.epoch_rewards.specs.declared.table.Status.{Status};
 ghost use Rattle.epoch_rewards.specs.inside.Standings.{IsStanding};
 ghost use Rattle.spec_epochs.specs.Each.{validator_indices, checked_map};
 ghost use Rattle.epoch_rewards.specs.inside.Divisor.{divisor_of};
@@ -13,10 +13,10 @@ ghost use Rattle.epoch_rewards.specs.inside.Divisor.{divisor_of};
 use crate::numbers::push_made;
 use crate::rates::{follow, rates_of};
 use crate::standing::{Standing, standing_of};
+use crate::table::Status;
 use balance_totals::{Stake, stake_at};
 use bc_words::Stop;
 use beacon_state::State;
-use participation::Status;
 use std::alloc::Global;
 
 /// What each validator of a state gains, loses or has, in Gwei, by what is kept here.

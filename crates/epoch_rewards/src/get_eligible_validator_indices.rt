@@ -5,14 +5,15 @@ ghost use Rattle.std.specs.Prelude.{◌≡◌, Some, slice_get};
 ghost use Rattle.spec_epochs.specs.Each.{is_among};
 ghost use Rattle.spec_epochs.specs.RewardHelpers.{get_eligible_validator_indices};
 ghost use Rattle.balance_totals.specs.inside.Stakes.{stakes_of};
-ghost use Rattle.participation.specs.inside.Marks.{flagged};
-ghost use Rattle.participation.specs.inside.Statuses.{flags_of};
+ghost use Rattle.epoch_rewards.specs.inside.Marks.{flagged};
+ghost use Rattle.epoch_rewards.specs.inside.Statuses.{flags_of};
 ghost use Rattle.epoch_rewards.specs.inside.Standings.{IsStanding};
 
+use crate::matching::Vote;
 use crate::standing::Standing;
+use crate::table::{Status, flag_at};
 use balance_totals::Stake;
 use beacon_state::State;
-use participation::{Status, Vote, flag_at};
 
 /// Whether a validator is one of those whom rewards and penalties reach.
 #[tactic(auto, using(crate::proofs::Gathered::eligible_here))]

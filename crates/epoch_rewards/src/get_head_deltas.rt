@@ -5,20 +5,21 @@ ghost use Rattle.bc_words.specs.Outcome.{Gives};
 ghost use Rattle.spec_state.specs.Accessors.{get_previous_epoch};
 ghost use Rattle.spec_epochs.specs.GetHeadDeltas.{get_head_deltas};
 ghost use Rattle.balance_totals.specs.inside.Stakes.{stakes_of};
-ghost use Rattle.participation.specs.inside.Statuses.{statuses_of};
+ghost use Rattle.epoch_rewards.specs.inside.Statuses.{statuses_of};
 
+use crate::matching::Vote;
+use crate::table::Status;
 use crate::vote_deltas::vote_deltas;
 use balance_totals::Stake;
 use bc_words::Stop;
 use beacon_state::State;
-use participation::{Status, Vote};
 use spec_epochs::Deltas;
 use std::alloc::Global;
 
 /// What each validator gains and loses by the head of the previous epoch's attestations (beacon-chain.md,
 /// `get_head_deltas`). The stakes are the state's, and the statuses those of the previous epoch. Refused as an overflow exactly
 /// where a sum or product does not fit.
-#[tactic(auto, unfolding(spec_epochs::specs::GetHeadDeltas::get_head_deltas, participation::specs::inside::Votes::matching))]
+#[tactic(auto, unfolding(spec_epochs::specs::GetHeadDeltas::get_head_deltas, crate::specs::inside::Votes::matching))]
 pub fn head_deltas(
     alloc: Global,
     state: &State,

@@ -4,27 +4,29 @@
 ghost use Rattle.std.specs.Prelude.{◌≡◌, ◌/◌, slice_index, slice_set};
 ghost use Rattle.bc_words.specs.Outcome.{GivesExactly, Moves, bind, done, checked_add, Gives, GivesBy};
 ghost use Rattle.balance_totals.specs.inside.Stakes.{stakes_of};
-ghost use Rattle.participation.specs.declared.matching.Vote.TheVariants as votes;
-ghost use Rattle.participation.specs.inside.Marks.{flagged};
-ghost use Rattle.participation.specs.inside.Statuses.{flags_of, entries_of, statuses_of};
+ghost use Rattle.epoch_rewards.specs.declared.matching.Vote.TheVariants as votes;
+ghost use Rattle.epoch_rewards.specs.inside.Marks.{flagged};
+ghost use Rattle.epoch_rewards.specs.inside.Statuses.{flags_of, entries_of, statuses_of};
 ghost use Rattle.spec_epochs.specs.RewardHelpers.{get_proposer_reward};
 ghost use Rattle.epoch_rewards.specs.inside.Standings.{IsStanding};
-ghost use Rattle.epoch_rewards.specs.inside.Inclusions.{entry_at, included, delayed_by, own_reward, joined_reward, all_gains, all_joined, joined_deltas};
+ghost use Rattle.epoch_rewards.specs.inside.InclusionRewards.{entry_at, included, delayed_by, own_reward, joined_reward, all_gains, all_joined, joined_deltas};
 ghost use Rattle.spec_state.specs.Accessors.{get_previous_epoch};
 ghost use Rattle.spec_state.specs.Soundness.{IsSoundWithinEpoch};
 ghost use Rattle.spec_epochs.specs.GetInclusionDelayDeltas.{get_inclusion_delay_deltas};
 ghost use Rattle.epoch_rewards.specs.inside.Divisor.{divisor_of};
 
 use crate::amounts::{Amounts, all_amounts};
+use crate::balance::counted;
 use crate::get_base_reward::divisor;
 use crate::get_eligible_validator_indices::is_attester;
+use crate::matching::Vote;
 use crate::numbers::{number_at, zeros};
 use crate::rates::{follow, rates_of};
 use crate::standing::Standing;
+use crate::table::{Status, inclusion_at};
 use balance_totals::{Stake, stake_at};
 use bc_words::{Stop, checked_add, checked_sub};
 use beacon_state::State;
-use participation::{Status, Vote, counted, inclusion_at};
 use spec_epochs::Deltas;
 use ssz_codec::Items;
 use std::alloc::Global;
@@ -41,7 +43,7 @@ fn add_gain(gains: &mut Vec<u64>, index: u64, reward: u64) -> Result<(), Stop>
 }
 
 /// Adds the gain of the proposer who included an attester, where what goes to that proposer is known, or why there is nothing to go.
-#[tactic(auto, unfolding(crate::specs::inside::Inclusions::included))]
+#[tactic(auto, unfolding(crate::specs::inside::InclusionRewards::included))]
 pub(crate) fn include(
     gains: &mut Vec<u64>,
     state: &State,
@@ -69,7 +71,7 @@ fn after_delay(most: u64, delay: u64) -> u64
 }
 
 /// What an attester gets for its inclusion, in Gwei, after the delay.
-#[tactic(auto, unfolding(crate::specs::inside::Inclusions::delayed_by))]
+#[tactic(auto, unfolding(crate::specs::inside::InclusionRewards::delayed_by))]
 fn delayed_reward(state: &State, statuses: &[Status], standing: &Standing) -> Result<u64, Stop>
     requires { IsStanding state.now statuses.now standing.now }
     ensures { GivesExactly result (delayed_by state.now standing.now.index standing.now.inclusion) }
@@ -86,7 +88,7 @@ fn delayed_reward(state: &State, statuses: &[Status], standing: &Standing) -> Re
 }
 
 /// What a validator gets as an attester, in Gwei, where it is one.
-#[tactic(auto, unfolding(crate::specs::inside::Inclusions::own_reward))]
+#[tactic(auto, unfolding(crate::specs::inside::InclusionRewards::own_reward))]
 fn own_reward(state: &State, statuses: &[Status], standing: &Standing) -> Result<u64, Stop>
     requires { IsStanding state.now statuses.now standing.now }
     ensures { GivesExactly result (own_reward state.now (entries_of statuses.now) (flagged state.now (flags_of votes.Source statuses.now)) standing.now.index) }
@@ -114,7 +116,7 @@ impl<'a> Amounts for Included<'a> {
 
     ghost amount_of = { λ i state. joined_reward state (entries_of i.statuses.now) (flagged state (flags_of votes.Source i.statuses.now)) i.gains.now };
 
-    #[tactic(auto, unfolding(crate::specs::inside::Inclusions::joined_reward))]
+    #[tactic(auto, unfolding(crate::specs::inside::InclusionRewards::joined_reward))]
     fn amount(&self, state: &State, standing: &Standing) -> Result<u64, Stop> {
         let own = own_reward(state, self.statuses, standing)?;
         checked_add(number_at(self.gains, standing.index), own)
@@ -153,7 +155,7 @@ pub(crate) fn proposer_gains(
 }
 
 /// What each validator gets for inclusions, in Gwei, in order of index.
-#[tactic(auto, unfolding(crate::specs::inside::Inclusions::all_joined))]
+#[tactic(auto, unfolding(crate::specs::inside::InclusionRewards::all_joined))]
 fn inclusion_rewards(
     alloc: Global,
     state: &State,
@@ -173,7 +175,7 @@ fn inclusion_rewards(
 }
 
 /// Rewards and penalties by those who attested, the slashed aside, and by their inclusions.
-#[tactic(auto, unfolding(crate::specs::inside::Inclusions::joined_deltas))]
+#[tactic(auto, unfolding(crate::specs::inside::InclusionRewards::joined_deltas))]
 fn joined_deltas(
     alloc: Global,
     state: &State,

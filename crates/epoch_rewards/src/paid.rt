@@ -2,9 +2,9 @@
 //! before, what was gathered of the registry, how the validator attested, and the gains of the proposers.
 
 ghost use Rattle.bc_words.specs.Outcome.{GivesExactly};
-ghost use Rattle.participation.specs.declared.matching.Vote.TheVariants as votes;
-ghost use Rattle.participation.specs.inside.Marks.{flagged};
-ghost use Rattle.participation.specs.inside.Statuses.{flags_of, entries_of};
+ghost use Rattle.epoch_rewards.specs.declared.matching.Vote.TheVariants as votes;
+ghost use Rattle.epoch_rewards.specs.inside.Marks.{flagged};
+ghost use Rattle.epoch_rewards.specs.inside.Statuses.{flags_of, entries_of};
 ghost use Rattle.epoch_rewards.specs.inside.Standings.{IsStanding};
 ghost use Rattle.epoch_rewards.specs.inside.Components.{AreWeights};
 ghost use Rattle.epoch_rewards.specs.inside.Paid.{sum_of_four, component_delta, leak_part, settled, summed, paid_balance};
@@ -13,10 +13,11 @@ use crate::amounts::Amounts;
 use crate::get_attestation_component_deltas::{Absence, Voters, Weights};
 use crate::get_inactivity_penalty_deltas::Leak;
 use crate::get_inclusion_delay_deltas::Included;
+use crate::matching::Vote;
 use crate::standing::Standing;
+use crate::table::Status;
 use bc_words::{Refusal, Stop, checked_add};
 use beacon_state::State;
-use participation::{Status, Vote};
 
 /// What a validator gains and loses by a vote.
 #[derive(Clone, Copy)]

@@ -6,24 +6,25 @@ ghost use Rattle.spec_state.specs.Accessors.{get_previous_epoch};
 ghost use Rattle.spec_state.specs.Soundness.{IsSoundWithinEpoch};
 ghost use Rattle.spec_epochs.specs.ProcessRewardsAndPenalties.{process_rewards_and_penalties};
 ghost use Rattle.balance_totals.specs.inside.Stakes.{stakes_of};
-ghost use Rattle.participation.specs.declared.matching.Vote.{Vote};
-ghost use Rattle.participation.specs.declared.matching.Vote.TheVariants as votes;
-ghost use Rattle.participation.specs.inside.Marks.{flagged};
-ghost use Rattle.participation.specs.inside.Statuses.{flags_of, entries_of, statuses_of};
+ghost use Rattle.epoch_rewards.specs.declared.matching.Vote.{Vote};
+ghost use Rattle.epoch_rewards.specs.declared.matching.Vote.TheVariants as votes;
+ghost use Rattle.epoch_rewards.specs.inside.Marks.{flagged};
+ghost use Rattle.epoch_rewards.specs.inside.Statuses.{flags_of, entries_of, statuses_of};
 ghost use Rattle.epoch_rewards.specs.inside.Components.{AreWeights};
 ghost use Rattle.epoch_rewards.specs.inside.Divisor.{divisor_of};
-ghost use Rattle.epoch_rewards.specs.inside.Inclusions.{all_gains};
+ghost use Rattle.epoch_rewards.specs.inside.InclusionRewards.{all_gains};
 ghost use Rattle.epoch_rewards.specs.inside.Paid.{all_paid, all_rewarded, paid_balances};
 
 use crate::amounts::all_amounts;
 use crate::get_attestation_component_deltas::{Weights, needed_balance, weights_of};
 use crate::get_inclusion_delay_deltas::proposer_gains;
 use crate::is_in_inactivity_leak::is_in_inactivity_leak;
+use crate::matching::Vote;
 use crate::paid::Paid;
+use crate::table::Status;
 use balance_totals::{Stake, current_epoch, total_active};
 use bc_words::{Stop, isqrt};
 use beacon_state::State;
-use participation::{Status, Vote};
 use std::alloc::Global;
 
 /// The balances of all validators after their rewards and penalties, in Gwei, by how each attested and by what each vote is

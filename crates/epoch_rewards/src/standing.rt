@@ -7,10 +7,12 @@ ghost use Rattle.epoch_rewards.specs.inside.Rates.{AreRates};
 ghost use Rattle.epoch_rewards.specs.inside.Standings.{IsStanding};
 
 use crate::get_eligible_validator_indices::has_right;
+use crate::inclusions::Inclusion;
+use crate::matching::Vote;
 use crate::rates::Rates;
+use crate::table::{Status, inclusion_at};
 use balance_totals::Stake;
 use beacon_state::State;
-use participation::{Inclusion, Status, Vote, inclusion_at};
 
 /// How a validator stands.
 #[derive(Clone, Copy)]

@@ -5,14 +5,15 @@ ghost use Rattle.std.specs.Prelude.{◌≡◌};
 ghost use Rattle.bc_words.specs.Outcome.{Gives};
 ghost use Rattle.spec_state.specs.Accessors.{get_previous_epoch};
 ghost use Rattle.balance_totals.specs.inside.Stakes.{stakes_of};
-ghost use Rattle.participation.specs.inside.Statuses.{statuses_of};
+ghost use Rattle.epoch_rewards.specs.inside.Statuses.{statuses_of};
 ghost use Rattle.epoch_rewards.specs.inside.Components.{vote_deltas};
 
 use crate::get_attestation_component_deltas::get_attestation_component_deltas;
+use crate::matching::Vote;
+use crate::table::Status;
 use balance_totals::Stake;
 use bc_words::Stop;
 use beacon_state::State;
-use participation::{Status, Vote};
 use spec_epochs::Deltas;
 use std::alloc::Global;
 

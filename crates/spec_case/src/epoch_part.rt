@@ -14,7 +14,7 @@ use epoch_processing::process_randao_mixes_reset::process_randao_reset;
 use epoch_processing::process_slashings::process_slashings;
 use epoch_processing::process_slashings_reset::process_slashings_reset;
 use epoch_processing::{process_effective_balance_updates, process_registry_updates};
-use participation::{current_targets, previous_table};
+use epoch_rewards::{current_targets, previous_table};
 use std::alloc::Global;
 use std::rt::Files;
 use transition::{is_sound, is_sound_within_epoch, sound_within_epoch};

@@ -4,7 +4,7 @@ ghost use Rattle.std.specs.Prelude.{◌≡◌};
 ghost use Rattle.spec_state.specs.Accessors.{get_previous_epoch};
 ghost use Rattle.spec_state.specs.Soundness.{IsSoundWithinEpoch};
 ghost use Rattle.balance_totals.specs.inside.Stakes.{stakes_of};
-ghost use Rattle.participation.specs.inside.Statuses.{statuses_of};
+ghost use Rattle.epoch_rewards.specs.inside.Statuses.{statuses_of};
 
 use crate::case::Case;
 use crate::difference::Difference;
@@ -14,9 +14,9 @@ use balance_totals::{Stake, Stakes, committees_of_epoch, gather, previous_epoch}
 use bc_words::Stop;
 use beacon_state::State;
 use epoch_rewards::{
-    Deltas, head_deltas, inactivity_deltas, inclusion_deltas, source_deltas, target_deltas,
+    Deltas, Status, head_deltas, inactivity_deltas, inclusion_deltas, previous_statuses,
+    source_deltas, target_deltas,
 };
-use participation::{Status, previous_statuses};
 use ssz_codec::{Field, Items, cut, read_list};
 use std::alloc::Global;
 use std::rt::Files;

@@ -11,7 +11,7 @@ use Rattle.spec_epochs.specs.GetInclusionDelayDeltas.{inclusion}
 use Rattle.spec_epochs.specs.WeighJustificationAndFinalization.{with_justification}
 use Rattle.spec_epochs.specs.ProcessJustificationAndFinalization.{process_justification_and_finalization}
 use Rattle.spec_epochs.proofs.SoundJustification.{either_of}
-use Rattle.participation.specs.inside.Statuses.{status_of, statuses_of}
+use Rattle.epoch_rewards.specs.inside.Statuses.{status_of, statuses_of}
 
 -- how each attested doesn't depend on the bits and checkpoints
 by_the_rest : (s : PlainState) (j : Justification) (epoch : ℕ) → statuses_of (with_justification s j) epoch ≡ statuses_of s epoch

@@ -7,8 +7,8 @@ ghost use Rattle.bc_words.specs.Outcome.{Moves};
 ghost use Rattle.spec_state.specs.Accessors.{get_current_epoch, get_previous_epoch};
 ghost use Rattle.spec_state.specs.Soundness.{IsSound};
 ghost use Rattle.spec_epochs.specs.ProcessEpoch.{process_epoch};
-ghost use Rattle.participation.specs.declared.matching.Vote.TheVariants as votes;
-ghost use Rattle.participation.specs.inside.Statuses.{statuses_of, flags_of};
+ghost use Rattle.epoch_rewards.specs.declared.matching.Vote.TheVariants as votes;
+ghost use Rattle.epoch_rewards.specs.inside.Statuses.{statuses_of, flags_of};
 ghost use Rattle.balance_totals.specs.inside.Stakes.{balances_read, effective_balances, stakes_of};
 ghost use Rattle.balance_totals.specs.inside.Stirring.{registry_stirs};
 ghost use Rattle.transition.specs.inside.Epochs.{resets, closing_parts};
@@ -26,8 +26,7 @@ use epoch_processing::process_randao_mixes_reset::process_randao_reset;
 use epoch_processing::process_registry_updates::process_registry;
 use epoch_processing::process_slashings::process_slashings;
 use epoch_processing::process_slashings_reset::process_slashings_reset;
-use epoch_rewards::process_rewards;
-use participation::{Status, current_targets, previous_table};
+use epoch_rewards::{Status, current_targets, previous_table, process_rewards};
 use std::alloc::Global;
 
 /// The state keeps who is active at its epoch, and what they weigh together, which several parts ask for.

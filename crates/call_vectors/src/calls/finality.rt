@@ -5,7 +5,7 @@ use anyhow::{Result, bail};
 use balance_totals::{Stakes, gather};
 use bc_words::Stop;
 use beacon_state::State;
-use participation::{current_targets, previous_table};
+use epoch_rewards::{current_targets, previous_table};
 use std::alloc::Global;
 use transition::{is_sound, sound_within_epoch};
 

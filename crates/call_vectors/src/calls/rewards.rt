@@ -4,7 +4,7 @@ ghost use Rattle.std.specs.Prelude.{◌≡◌};
 ghost use Rattle.spec_state.specs.Accessors.{get_previous_epoch};
 ghost use Rattle.spec_state.specs.Soundness.{IsSoundWithinEpoch};
 ghost use Rattle.balance_totals.specs.inside.Stakes.{stakes_of};
-ghost use Rattle.participation.specs.inside.Statuses.{statuses_of};
+ghost use Rattle.epoch_rewards.specs.inside.Statuses.{statuses_of};
 
 use crate::calls::answers::stop_line;
 use crate::calls::given::Given;
@@ -13,9 +13,9 @@ use balance_totals::{Stake, Stakes, gather};
 use bc_words::Stop;
 use beacon_state::State;
 use epoch_rewards::{
-    Deltas, head_deltas, inactivity_deltas, inclusion_deltas, source_deltas, target_deltas,
+    Deltas, Status, head_deltas, inactivity_deltas, inclusion_deltas, previous_table,
+    source_deltas, target_deltas,
 };
-use participation::{Status, previous_table};
 use ssz_codec::Items;
 use std::alloc::Global;
 use transition::is_sound_within_epoch;

@@ -8,7 +8,7 @@ use beacon_state::State;
 use beacon_types::{Attestation, PendingAttestation};
 use block_operations::attesting_indices;
 use committees::EpochCommittees;
-use participation::{matching_head, matching_target};
+use epoch_rewards::{matching_head, matching_target};
 use ssz_codec::Ssz;
 use std::alloc::Global;
 

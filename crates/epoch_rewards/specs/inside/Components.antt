@@ -9,8 +9,8 @@ use Rattle.spec_epochs.specs.GetAttestationComponentDeltas.{attester_reward, get
 use Rattle.epoch_rewards.specs.declared.get_attestation_component_deltas.Weights.{Weights}
 use Rattle.spec_state.specs.Accessors.{get_previous_epoch, get_total_active_balance, get_total_balance}
 use Rattle.spec_epochs.specs.declared.deltas.Deltas.{Deltas}
-use Rattle.participation.specs.declared.matching.Vote.{Vote}
-use Rattle.participation.specs.inside.Votes.{matching}
+use Rattle.epoch_rewards.specs.declared.matching.Vote.{Vote}
+use Rattle.epoch_rewards.specs.inside.Votes.{matching}
 
 -- both balances of a component's weights stand there in whole increments too, and the total has one at least
 pub record AreWeights (state : PlainState) (weights : Weights) : Type 0 where

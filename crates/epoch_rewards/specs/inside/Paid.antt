@@ -3,11 +3,11 @@ use Rattle.std.specs.Prelude.{ℕ, ◌-◌, ◌/◌, Bool, List, Option, slice_g
 use Rattle.bc_words.specs.Outcome.{Outcome, done, ◌>>=◌, checked_add}
 use Rattle.spec_state.specs.declared.plain.PlainState.{PlainState}
 use Rattle.spec_blocks.specs.Checks.{found}
-use Rattle.participation.specs.declared.inclusions.Inclusion.{Inclusion}
+use Rattle.epoch_rewards.specs.declared.inclusions.Inclusion.{Inclusion}
 use Rattle.epoch_rewards.specs.declared.get_attestation_component_deltas.Weights.{Weights}
 use Rattle.epoch_rewards.specs.declared.paid.Delta.{Delta}
 use Rattle.epoch_rewards.specs.inside.Components.{component_reward, component_penalty, needed_balance}
-use Rattle.epoch_rewards.specs.inside.Inclusions.{joined_reward, all_gains}
+use Rattle.epoch_rewards.specs.inside.InclusionRewards.{joined_reward, all_gains}
 use Rattle.epoch_rewards.specs.inside.Leak.{leak_penalty}
 use Rattle.spec_state.specs.Accessors.{get_total_active_balance}
 use Rattle.spec_epochs.specs.Each.{validator_indices, checked_map}

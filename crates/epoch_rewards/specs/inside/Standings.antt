@@ -7,12 +7,12 @@ use Rattle.spec_epochs.specs.GetBaseReward.{get_base_reward}
 use Rattle.spec_epochs.specs.RewardHelpers.{get_proposer_reward}
 use Rattle.spec_epochs.specs.GetInactivityPenaltyDeltas.{absence_penalty}
 use Rattle.balance_totals.specs.inside.Stakes.{stakes_of}
-use Rattle.participation.specs.declared.matching.Vote.TheVariants.{Source, Target, Head}
-use Rattle.participation.specs.declared.table.Status.{Status}
-use Rattle.participation.specs.inside.Marks.{flagged}
-use Rattle.participation.specs.inside.Statuses.{flags_of, entries_of}
+use Rattle.epoch_rewards.specs.declared.matching.Vote.TheVariants.{Source, Target, Head}
+use Rattle.epoch_rewards.specs.declared.table.Status.{Status}
+use Rattle.epoch_rewards.specs.inside.Marks.{flagged}
+use Rattle.epoch_rewards.specs.inside.Statuses.{flags_of, entries_of}
 use Rattle.epoch_rewards.specs.declared.standing.Standing.{Standing}
-use Rattle.epoch_rewards.specs.inside.Inclusions.{entry_at}
+use Rattle.epoch_rewards.specs.inside.InclusionRewards.{entry_at}
 
 -- it is that of the validator with its index, by a state and a table of statuses
 pub record IsStanding (state : PlainState) (statuses : List Status) (s : Standing) : Type 0 where

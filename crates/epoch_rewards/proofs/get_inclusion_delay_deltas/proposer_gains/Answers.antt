@@ -1,8 +1,8 @@
 -- One attester more is included, or all of them are.
 use Rattle.std.proofs.Common.{sym, subst, ◌∙◌, arith}
 use Rattle.bc_words.specs.Outcome.{Stops}
-use Rattle.participation.specs.declared.matching.Vote.TheVariants.{Source}
-use Rattle.participation.specs.inside.Statuses.{flags_of, entries_of}
+use Rattle.epoch_rewards.specs.declared.matching.Vote.TheVariants.{Source}
+use Rattle.epoch_rewards.specs.inside.Statuses.{flags_of, entries_of}
 use Rattle.epoch_rewards.proofs.Rated.{proposer_rated}
 use Rattle.epoch_rewards.proofs.Included.{included_more, included_stops, included_left, included_ends}
 use Rattle.epoch_rewards.proofs.get_inclusion_delay_deltas.proposer_gains.Goals as goal

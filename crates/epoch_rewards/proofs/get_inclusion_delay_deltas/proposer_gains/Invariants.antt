@@ -1,9 +1,9 @@
 use Rattle.std.proofs.Common.{◌≡◌, length, replicate}
-use Rattle.participation.specs.declared.matching.Vote.TheVariants.{Source}
-use Rattle.participation.specs.inside.Marks.{flagged, flagged_from}
-use Rattle.participation.specs.inside.Statuses.{flags_of, entries_of}
+use Rattle.epoch_rewards.specs.declared.matching.Vote.TheVariants.{Source}
+use Rattle.epoch_rewards.specs.inside.Marks.{flagged, flagged_from}
+use Rattle.epoch_rewards.specs.inside.Statuses.{flags_of, entries_of}
 use Rattle.epoch_rewards.specs.inside.Rates.{AreRates}
-use Rattle.epoch_rewards.specs.inside.Inclusions.{all_included}
+use Rattle.epoch_rewards.specs.inside.InclusionRewards.{all_included}
 use Rattle.epoch_rewards.proofs.get_inclusion_delay_deltas.proposer_gains.Given as goal
 
 abbrev pub invariant-loop-index : goal.invariant-loop-index

@@ -2,10 +2,10 @@
 use Rattle.std.proofs.Common.{◌≡◌, ℕ, List, subst}
 use Rattle.bc_words.specs.Outcome.{GivesBy, done}
 use Rattle.spec_state.specs.Accessors.{get_active_validator_indices, get_total_balance}
-use Rattle.participation.specs.declared.matching.Vote.{Vote}
-use Rattle.participation.specs.declared.matching.Vote.TheVariants.{Source, Target, Head}
-use Rattle.participation.specs.inside.Marks.{flagged}
-use Rattle.participation.specs.inside.Statuses.{flags_of, entries_of}
+use Rattle.epoch_rewards.specs.declared.matching.Vote.{Vote}
+use Rattle.epoch_rewards.specs.declared.matching.Vote.TheVariants.{Source, Target, Head}
+use Rattle.epoch_rewards.specs.inside.Marks.{flagged}
+use Rattle.epoch_rewards.specs.inside.Statuses.{flags_of, entries_of}
 use Rattle.epoch_rewards.proofs.AllPaid.{paid_by}
 use Rattle.epoch_rewards.proofs.process_rewards_and_penalties.all_paid.Goals as goal
 
