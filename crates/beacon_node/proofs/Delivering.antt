@@ -34,13 +34,13 @@ use Rattle.beacon_node.specs.declared.node.Node as code
 use Rattle.beacon_node.specs.declared.node.NodeBlock.{NodeBlock}
 use Rattle.one_chain.specs.declared.status.Status.{Status}
 use Rattle.one_chain.specs.declared.status.Status.TheVariants as statuses
-use Rattle.two_chains.specs.inside.Following.{EventFollowed, IsInside}
-use Rattle.two_chains.specs.inside.Histories.{IsGenesis, IsOpened, OpeningEnds}
+use Rattle.beacon_node.specs.inside.Following.{EventFollowed, IsInside}
+use Rattle.beacon_node.specs.inside.Histories.{IsGenesis, IsOpened, OpeningEnds}
 use Rattle.one_chain.specs.inside.Progress.{HasLine, IsCounted, outcome_of}
 use Rattle.beacon_node.specs.inside.Nodes.{AreKept, CanKeep, HasRun, IsNode, NodeEnds, OneTaken, StopsAt, added_of, followed_in, history_in, lines_left, node_left, plain_node, tally_left}
-use Rattle.two_chains.proofs.Beginnings.{begins}
-use Rattle.two_chains.proofs.Following.{none_among}
-use Rattle.two_chains.proofs.Openings.{one_kept}
+use Rattle.beacon_node.proofs.Beginnings.{begins}
+use Rattle.beacon_node.proofs.Following.{none_among}
+use Rattle.beacon_node.proofs.Openings.{one_kept}
 
 -- ---- a node that was delivered nothing
 

@@ -41,18 +41,18 @@ use Rattle.beacon_node.specs.declared.nodes.Split.{Split}
 use Rattle.one_chain.specs.declared.status.Status.{Status}
 use Rattle.one_chain.specs.declared.status.Status.TheVariants as statuses
 use Rattle.one_chain.specs.Answers.{OutsideKeeps, breaks_off, end_of}
-use Rattle.two_chains.specs.inside.ByFiles.{EndsOver}
-use Rattle.two_chains.specs.inside.Drilled.{DrillEnds, DrillTold, Finished}
-use Rattle.two_chains.specs.inside.Following.{FollowsOutside, IsInside}
-use Rattle.two_chains.specs.inside.Histories.{OpeningEnds}
+use Rattle.beacon_node.specs.inside.ByFiles.{EndsOver}
+use Rattle.beacon_node.specs.inside.Drilled.{DrillEnds, DrillTold, Finished}
+use Rattle.beacon_node.specs.inside.Following.{FollowsOutside, IsInside}
+use Rattle.beacon_node.specs.inside.Histories.{OpeningEnds}
 use Rattle.one_chain.specs.inside.Reading.{ReadOf, Unread}
 use Rattle.one_chain.specs.inside.Statuses.{no_event_of, unread}
 use Rattle.beacon_node.specs.inside.Nodes.{EndsMaking, IsSplit, LinesTold, NodeEnds, behind_ones, followed_in, node_given, plain_node}
-use Rattle.two_chains.proofs.Drilled.{finished, given_by, nothing_written}
+use Rattle.beacon_node.proofs.Drilled.{finished, given_by, nothing_written}
 use Rattle.one_chain.proofs.Outside.{ends_here, no_fault, untouched}
 use Rattle.beacon_node.proofs.Pairing.{first_ends, first_made, none_of_all, pairs_next}
 use Rattle.one_chain.proofs.Prefixes.{config_of-prefix}
-use Rattle.two_chains.proofs.ByFiles.{breaks_at_file, goes_on_behind, handed_of, unread_breaks}
+use Rattle.beacon_node.proofs.ByFiles.{breaks_at_file, goes_on_behind, handed_of, unread_breaks}
 
 -- ---- the events of a chain
 

@@ -18,16 +18,16 @@ use Rattle.safety_law.proofs.Lists.{image_of, in_reverse}
 use Rattle.forensics.specs.Books.{PlainBook, begun, clash_in, history_of, with_block}
 use Rattle.spec_replay.specs.Run.{End, clash}
 use Rattle.spec_replay.specs.Nodes.{Node, all_or_end, and_others, first_clash, pair_line, pair_of, pair_text, pairs_of, unless_pair_clashes}
-use Rattle.two_chains.specs.declared.histories.Findings.{Findings}
+use Rattle.beacon_node.specs.declared.histories.Findings.{Findings}
 use Rattle.beacon_node.specs.declared.node.Node as code
 use Rattle.beacon_node.specs.declared.node.NodeBlock.{NodeBlock}
 use Rattle.beacon_node.specs.declared.node.Delivered.{Delivered}
 use Rattle.one_chain.specs.declared.status.Status.{Status}
 use Rattle.one_chain.specs.declared.status.Status.TheVariants as statuses
-use Rattle.two_chains.specs.inside.Histories.{HasFound}
+use Rattle.beacon_node.specs.inside.Histories.{HasFound}
 use Rattle.beacon_node.specs.inside.Nodes.{AreClear, IsNode, LinesSoFar, NodeEnds, added_of, behind_ones, history_in, plain_node}
 use Rattle.beacon_node.proofs.Delivering.{history_more}
-use Rattle.two_chains.proofs.Following.{clear_of_both, genesis_clear}
+use Rattle.beacon_node.proofs.Following.{clear_of_both, genesis_clear}
 
 -- ---- a history and its beginnings
 

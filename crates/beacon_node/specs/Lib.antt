@@ -1,3 +1,5 @@
+pub mod Findings
 pub mod Pace
+pub mod Slashings
 pub mod inside
 pub mod laws

@@ -1,2 +1,3 @@
+pub mod Convictions
 pub mod Memory
 pub mod Versions

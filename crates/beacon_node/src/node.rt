@@ -11,11 +11,13 @@ ghost use Rattle.spec_replay.specs.Lines.{accepted_text, event_line, refusal_tex
 ghost use Rattle.spec_replay.specs.Nodes.{all_of, node_line};
 ghost use Rattle.fork_store.specs.Events.{accepted_of};
 ghost use Rattle.safety_law.specs.Follows.{IsAdded};
-ghost use Rattle.two_chains.specs.inside.Histories.{IsGenesis, IsOpened, OpeningEnds};
-ghost use Rattle.two_chains.specs.inside.Following.{IsInside};
+ghost use Rattle.beacon_node.specs.inside.Histories.{IsGenesis, IsOpened, OpeningEnds};
+ghost use Rattle.beacon_node.specs.inside.Following.{IsInside};
 ghost use Rattle.one_chain.specs.inside.Progress.{outcome_of};
 ghost use Rattle.beacon_node.specs.inside.Nodes.{AreKept, CanKeep, HasRun, IsNode, NodeEnds, OneTaken, StopsAt, history_in, plain_node};
 
+use crate::follow::are_bytes;
+use crate::histories::store_at;
 use crate::node_lines::{digest_of, node_line};
 use bc_preset::Config;
 use bc_words::{NoMemory, Refusal, StoreStop};
@@ -30,7 +32,6 @@ use one_chain::{Status, accepted_line, refused_line};
 use record_file::Event;
 use std::alloc::Global;
 use std::snapshot::Snapshot;
-use two_chains::{are_bytes, store_at};
 
 /// A block that a node's store accepted, and what a book wants of it beside the block itself, which the store keeps.
 #[derive(Drop)]

@@ -8,6 +8,8 @@ ghost use Rattle.spec_replay.specs.Forensic.{verdict_line};
 ghost use Rattle.spec_replay.specs.Lines.{checkpoint_text, root_text};
 ghost use Rattle.spec_replay.specs.Nodes.{counts_text, ends_text, node_text, pair_text};
 
+use crate::histories::Findings;
+use crate::offence_lines::{push_two, verdict_line};
 use bc_words::NoMemory;
 use beacon_types::Checkpoint;
 use fork_store::Store;
@@ -15,7 +17,6 @@ use hash_tree::Root;
 use one_chain::{push_checkpoint, push_head, push_number};
 use sha2::{Digest, Sha256};
 use std::alloc::{AllocError, Global};
-use two_chains::{Findings, push_two, verdict_line};
 
 /// SHA-256 of some lines.
 #[tactic(auto, unfolding(hash_tree::specs::Merkle::hash))]

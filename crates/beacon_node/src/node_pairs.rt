@@ -6,10 +6,11 @@ ghost use Rattle.spec_fork_choice.specs.OnEvent.{genesis_clash};
 ghost use Rattle.spec_forensics.specs.Clash.{first_accepted};
 ghost use Rattle.spec_replay.specs.Nodes.{all_or_end, first_clash, pair_of, pairs_of};
 ghost use Rattle.forensics.specs.Books.{begun, history_of};
-ghost use Rattle.two_chains.specs.inside.Following.{IsInside};
-ghost use Rattle.two_chains.specs.inside.Histories.{HasFound, IsGenesis};
+ghost use Rattle.beacon_node.specs.inside.Following.{IsInside};
+ghost use Rattle.beacon_node.specs.inside.Histories.{HasFound, IsGenesis};
 ghost use Rattle.beacon_node.specs.inside.Nodes.{HasRun, IsNode, LinesTold, NodeEnds, history_in, plain_node};
 
+use crate::histories::{Findings, book_at, find};
 use crate::node::{Delivered, Node};
 use crate::node_lines::pair_text;
 use bc_preset::Config;
@@ -18,7 +19,6 @@ use beacon_state::State;
 use forensics::VoteBook;
 use one_chain::Status;
 use std::alloc::Global;
-use two_chains::{Findings, book_at, find};
 
 /// The first event of the second node whose block has the root of another block of the first one, with that block's place.
 fn first_clash(

@@ -11,11 +11,12 @@ ghost use Rattle.spec_drill.specs.AsEvents.{events_to_come};
 ghost use Rattle.spec_drill.specs.Maker.{new_maker, to_come};
 ghost use Rattle.spec_replay.specs.Nodes.{all_of, all_or_end, chain_of_node, node_line, node_of, nodes_config, nodes_run, nodes_store, pair_of, pairs_of};
 ghost use Rattle.one_chain.specs.Answers.{OutsideKeeps, Replayed, whole_of};
-ghost use Rattle.two_chains.specs.inside.Drilled.{DrillTold, Finished};
-ghost use Rattle.two_chains.specs.inside.Following.{IsInside};
-ghost use Rattle.two_chains.specs.inside.Histories.{IsGenesis, OpeningEnds};
+ghost use Rattle.beacon_node.specs.inside.Drilled.{DrillTold, Finished};
+ghost use Rattle.beacon_node.specs.inside.Following.{IsInside};
+ghost use Rattle.beacon_node.specs.inside.Histories.{IsGenesis, OpeningEnds};
 ghost use Rattle.beacon_node.specs.inside.Nodes.{HasRun, IsSplit, LinesTold, NodeEnds, behind_ones, node_given, plain_node};
 
+use crate::histories::store_at;
 use crate::made_events::made_events;
 use crate::node::{Delivered, delivered_node};
 use crate::node_pairs::pair_lines;
@@ -28,7 +29,6 @@ use command_words::NodesWords;
 use one_chain::{Status, read_named, unread, unwritten};
 use record_file::Event;
 use std::alloc::Global;
-use two_chains::store_at;
 
 /// The balance of the made validators, in Gwei, below which the configuration's ejection balance must be.
 const FULL_BALANCE: u64 = 32_000_000_000;

@@ -5,9 +5,11 @@ ghost use Rattle.spec_replay.specs.Commands.{run_of};
 ghost use Rattle.command_words.specs.Commands.{ForensicFiles, IsDeclined, command_of, forensic, names_of, slasher};
 ghost use Rattle.one_chain.specs.Answers.{OutsideKeeps, Replayed};
 ghost use Rattle.beacon_node.specs.Pace.{taken_run_of};
-ghost use Rattle.two_chains.specs.Findings.{WritesFindings};
-ghost use Rattle.two_chains.specs.Slashings.{WritesSlashings};
+ghost use Rattle.beacon_node.specs.Findings.{WritesFindings};
+ghost use Rattle.beacon_node.specs.Slashings.{WritesSlashings};
 
+use crate::drill::drill;
+use crate::forensic::forensic;
 use crate::nodes::nodes;
 use bc_outside::{Shelf, Sink};
 use command_words::{Command, WordsStop, read_command};
@@ -18,8 +20,6 @@ use one_chain::replay::replay;
 use one_chain::tell_duties::tell_duties;
 use spec_replay::Report;
 use std::alloc::Global;
-use two_chains::drill::drill;
-use two_chains::forensic::forensic;
 
 /// Runs the command that the words are, over these files, and writes its lines. Each command is a call that isn't inlined: the stack of
 /// one would hold the places of all.

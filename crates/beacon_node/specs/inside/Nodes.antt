@@ -28,7 +28,7 @@ use Rattle.beacon_node.specs.declared.nodes.Split.{Split}
 use Rattle.one_chain.specs.declared.status.Status.{Status}
 use Rattle.one_chain.specs.declared.status.Status.TheVariants as statuses
 use Rattle.one_chain.specs.Answers.{breaks_off, end_of}
-use Rattle.two_chains.specs.inside.Following.{IsInside}
+use Rattle.beacon_node.specs.inside.Following.{IsInside}
 
 -- ---- a node's blocks
 

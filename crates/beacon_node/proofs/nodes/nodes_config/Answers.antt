@@ -2,7 +2,7 @@
 use Rattle.std.proofs.Common.{◌∙◌, sym, arith}
 use Rattle.std.proofs.lemmas.Bool.{le-ltb, lt-ltb}
 use Rattle.one_chain.specs.declared.status.Status.TheVariants as statuses
-use Rattle.two_chains.proofs.Drilled.{drill_over, made_begins, no_memory, still_new, unwritten_is_no_fault_of_reading, writes_then, wrote_all, wrote_not_all, wrote_out, wrote_well}
+use Rattle.beacon_node.proofs.Drilled.{drill_over, made_begins, no_memory, still_new, unwritten_is_no_fault_of_reading, writes_then, wrote_all, wrote_not_all, wrote_out, wrote_well}
 use Rattle.beacon_node.proofs.ManyNodes.{ejects, ends_as, inside_outside, no_config_files, nothing_read, run_is}
 use Rattle.beacon_node.proofs.nodes.nodes_config.Goals as goal
 

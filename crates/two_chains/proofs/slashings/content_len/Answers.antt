@@ -1,6 +1,0 @@
--- Its numbers have 8 bytes each, and its roots 32.
-use Rattle.two_chains.proofs.SlashingRecords.{content_size}
-use Rattle.two_chains.proofs.slashings.content_len.Goals as goal
-
-pub returns : goal.returns
-returns c = content_size c.args.content.now c.bytes_len.ensures c.bytes_len-2.ensures c.bytes_len-3.ensures

@@ -1,4 +1,0 @@
-pub mod Findings
-pub mod Slashings
-pub mod inside
-pub mod laws
