@@ -1,4 +1,4 @@
-"""Cases of the published tests: their files, which of them rest on a signature, and their way through the program `spec_case`."""
+"""Cases of the published tests: their files, which of them rest on a signature, and their way through the program `call_vectors`."""
 
 import re
 import subprocess
@@ -120,7 +120,7 @@ def given_of(case, config):
 
 
 def unpack(case, config, folder):
-    """Writes a case as `spec_case` takes it: containers as `NAME.ssz`, all else as lines of the file `given`."""
+    """Writes a case as `call_vectors` takes it: containers as `NAME.ssz`, all else as lines of the file `given`."""
     for path in case.path.glob("*.ssz_snappy"):
         (folder / f"{path.name.removesuffix('.ssz_snappy')}.ssz").write_bytes(unpacked(path))
     try:
@@ -137,7 +137,7 @@ def last_line(text):
 
 
 def run(case, program, config, folder):
-    """Gives a case to the program `spec_case`: what becomes of it, and what is said of it."""
+    """Gives a case to the program `call_vectors`: what becomes of it, and what is said of it."""
     unpack(case, config, folder)
     words = [program, config, case.runner, case.handler, folder]
     try:

@@ -1,11 +1,10 @@
 //! The closing parts of epoch processing.
 
 use crate::calls::given::Given;
+use crate::gathered;
 use anyhow::Result;
-use balance_totals::{Stakes, gather};
 use bc_words::Stop;
 use beacon_state::State;
-use epoch_processing::process_effective_balance_updates;
 use epoch_processing::process_eth1_data_reset::process_eth1_reset;
 use epoch_processing::process_historical_roots_update::process_historical_roots;
 use epoch_processing::process_participation_record_updates::process_rotation;
@@ -15,15 +14,13 @@ use epoch_processing::process_slashings_reset::process_slashings_reset;
 use std::alloc::Global;
 
 /// Lets each validator's effective balance follow its balance.
-#[tactic(auto, using(epoch_processing::proofs::Gathered::gathered_balances))]
 pub fn process_effective_balances(
     alloc: Global,
     state: &mut State,
     given: &Given,
 ) -> Result<Result<(), Stop>> {
     let config = given.config()?;
-    let Stakes { list, stirs: _ } = gather(alloc, state, &config)?;
-    Ok(process_effective_balance_updates::process_effective_balances(alloc, state, &list))
+    Ok(gathered::process_effective_balances(alloc, state, &config))
 }
 
 /// Makes one of the other calls on the state. None where it is no such call.

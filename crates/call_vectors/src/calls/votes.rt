@@ -1,8 +1,9 @@
 //! Attestations, with the committees of the state's epochs.
 
 use crate::calls::given::Given;
+use crate::gathered;
 use anyhow::{Result, bail};
-use balance_totals::{committees_of_epoch, current_epoch, previous_epoch};
+use balance_totals::{committees_of_epoch, previous_epoch};
 use bc_words::Stop;
 use beacon_state::State;
 use beacon_types::{Attestation, PendingAttestation};
@@ -20,15 +21,7 @@ pub fn process_attestation(
 ) -> Result<Result<(), Stop>> {
     let proposer = given.number()?;
     let attestation = Attestation::read(alloc, given.input()?)?;
-    let previous = committees_of_epoch(alloc, state, previous_epoch(state))?;
-    let current = committees_of_epoch(alloc, state, current_epoch(state))?;
-    Ok(block_operations::process_attestation::process_attestation(
-        state,
-        &attestation,
-        proposer,
-        &previous,
-        &current,
-    ))
+    Ok(gathered::process_attestation(alloc, state, &attestation, proposer))
 }
 
 /// How many members cast an attestation.

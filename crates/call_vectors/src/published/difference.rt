@@ -4,7 +4,7 @@ mod lists;
 mod parts;
 mod states;
 
-use crate::verdict::Verdict;
+use crate::published::verdict::Verdict;
 use anyhow::Result;
 pub use states::compare_states;
 use std::alloc::Global;

@@ -1,7 +1,8 @@
 //! The parts of epoch processing, each by its published name without `process_` (beacon-chain.md, "Epoch processing").
 
-use crate::case::Case;
-use crate::verdict::{Outside, Verdict, judged};
+use crate::gathered::{process_effective_balances, process_registry};
+use crate::published::case::Case;
+use crate::published::verdict::{Outside, Verdict, judged};
 use anyhow::Result;
 use balance_totals::{Stakes, gather};
 use bc_preset::Config;
@@ -13,7 +14,6 @@ use epoch_processing::process_participation_record_updates::process_rotation;
 use epoch_processing::process_randao_mixes_reset::process_randao_reset;
 use epoch_processing::process_slashings::process_slashings;
 use epoch_processing::process_slashings_reset::process_slashings_reset;
-use epoch_processing::{process_effective_balance_updates, process_registry_updates};
 use epoch_rewards::{current_targets, previous_table};
 use std::alloc::Global;
 use std::rt::Files;
@@ -39,24 +39,6 @@ fn pay(alloc: Global, state: &mut State, config: &Config) -> Result<Option<Resul
     let Stakes { list, stirs: _ } = gather(alloc, state, config)?;
     let statuses = previous_table(alloc, state)?;
     Ok(Some(epoch_rewards::process_rewards(alloc, state, &list, statuses)))
-}
-
-/// Lets in those that are due, and ejects those of too little balance.
-fn process_registry(alloc: Global, state: &mut State, config: &Config) -> Result<(), Stop> {
-    let Stakes { list, stirs } = gather(alloc, state, config)?;
-    drop(list);
-    process_registry_updates::process_registry(alloc, state, config, stirs)
-}
-
-/// Lets each validator's effective balance follow its balance.
-#[tactic(auto, using(epoch_processing::proofs::Gathered::gathered_balances))]
-fn process_effective_balances(
-    alloc: Global,
-    state: &mut State,
-    config: &Config,
-) -> Result<(), Stop> {
-    let Stakes { list, stirs: _ } = gather(alloc, state, config)?;
-    process_effective_balance_updates::process_effective_balances(alloc, state, &list)
 }
 
 /// A part that may be given any state. None where there is none of this name.

@@ -1,7 +1,7 @@
 //! Blocks, one behind the other (beacon-chain.md, `state_transition`).
 
-use crate::case::Case;
-use crate::verdict::{Outside, Verdict, judged};
+use crate::published::case::Case;
+use crate::published::verdict::{Outside, Verdict, judged};
 use anyhow::Result;
 use beacon_state::State;
 use beacon_types::SignedBeaconBlock;

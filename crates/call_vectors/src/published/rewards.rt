@@ -6,9 +6,9 @@ ghost use Rattle.spec_state.specs.Soundness.{IsSoundWithinEpoch};
 ghost use Rattle.balance_totals.specs.inside.Stakes.{stakes_of};
 ghost use Rattle.epoch_rewards.specs.inside.Statuses.{statuses_of};
 
-use crate::case::Case;
-use crate::difference::Difference;
-use crate::verdict::{Outside, Verdict, not_accepted};
+use crate::published::case::Case;
+use crate::published::difference::Difference;
+use crate::published::verdict::{Outside, Verdict, not_accepted};
 use anyhow::Result;
 use balance_totals::{Stake, Stakes, committees_of_epoch, gather, previous_epoch};
 use bc_words::Stop;

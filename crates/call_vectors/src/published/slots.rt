@@ -1,7 +1,7 @@
 //! Slots without a block (beacon-chain.md, `process_slots`).
 
-use crate::case::Case;
-use crate::verdict::{Outside, Verdict, judged};
+use crate::published::case::Case;
+use crate::published::verdict::{Outside, Verdict, judged};
 use anyhow::{Context, Result};
 use beacon_state::State;
 use std::rt::Files;

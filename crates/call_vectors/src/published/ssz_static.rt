@@ -4,9 +4,9 @@ ghost use Rattle.std.specs.Prelude.{◌≤◌, ◌^◌};
 ghost use Rattle.bc_preset.specs.Presets.{IsPreset};
 ghost use Rattle.spec_state.specs.Writing.{HasWriting};
 
-use crate::case::Case;
-use crate::difference::Difference;
-use crate::verdict::{Outside, Verdict};
+use crate::published::case::Case;
+use crate::published::difference::Difference;
+use crate::published::verdict::{Outside, Verdict};
 use anyhow::{Result, bail};
 use bc_preset::Preset;
 use bc_words::NoMemory;

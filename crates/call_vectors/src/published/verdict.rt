@@ -1,7 +1,7 @@
 //! What becomes of a case.
 
-use crate::case::Case;
-use crate::difference::{Difference, compare_states};
+use crate::published::case::Case;
+use crate::published::difference::{Difference, compare_states};
 use anyhow::{Result, bail};
 use bc_words::{Refusal, Stop};
 use beacon_state::State;

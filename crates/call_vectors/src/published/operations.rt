@@ -1,9 +1,9 @@
 //! Single operations of a block, and its header, on a state of their slot (beacon-chain.md, "Block processing").
 
-use crate::case::Case;
-use crate::verdict::{Outside, Verdict, judged};
+use crate::gathered;
+use crate::published::case::Case;
+use crate::published::verdict::{Outside, Verdict, judged};
 use anyhow::Result;
-use balance_totals::{committees_of_epoch, current_epoch, previous_epoch};
 use bc_words::Stop;
 use beacon_state::State;
 use beacon_types::{Attestation, BeaconBlock};
@@ -20,15 +20,7 @@ fn process_attestation(
     attestation: &Attestation,
 ) -> Result<(), Stop> {
     let proposer = get_beacon_proposer_index(alloc, state)?;
-    let previous = committees_of_epoch(alloc, state, previous_epoch(state))?;
-    let current = committees_of_epoch(alloc, state, current_epoch(state))?;
-    block_operations::process_attestation::process_attestation(
-        state,
-        attestation,
-        proposer,
-        &previous,
-        &current,
-    )
+    gathered::process_attestation(alloc, state, attestation, proposer)
 }
 
 /// Reads an attester slashing, and processes it.

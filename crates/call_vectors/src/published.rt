@@ -1,11 +1,10 @@
-//! Gives one case of the published consensus tests to the calls that the blocks of `beacon` take, and prints what became of it.
+//! One case of the published consensus tests, given to the calls that the blocks of `beacon` take.
 //!
-//! The words are the configuration's file, the runner, the handler and the case's folder. The folder has each container's bytes as
-//! `NAME.ssz`, and in the file `given` what the case's YAML files say, one `KEY VALUE` a line. `tools/spec_tests/run` unpacks cases so.
+//! The folder has each container's bytes as `NAME.ssz`, and in the file `given` what the case's YAML files say, one `KEY VALUE` a line.
+//! `tools/spec_tests/run` unpacks cases so.
 //!
 //! The line is `passed`, `passed: refused NUMBER NAME`, `failed: DIFFERENCE` or `outside: REASON`, where a condition of the calls isn't met. Status 0
 //! says that there is a line.
-#![tactic(auto)]
 
 mod blocks;
 mod case;
@@ -19,11 +18,10 @@ mod slots;
 mod ssz_static;
 mod verdict;
 
-use crate::case::Case;
-use crate::verdict::{Outside, Verdict};
-use anyhow::{Context, Result};
+use crate::published::case::Case;
+use crate::published::verdict::{Outside, Verdict};
+use anyhow::Result;
 use beacon_state::State;
-use std::env;
 use std::rt::Files;
 
 /// Runs the case that has this state `pre`, by its runner and handler.
@@ -64,17 +62,16 @@ fn run(
     }
 }
 
-fn main(rt: HostRuntime) -> Result<()> {
-    let mut words = env::args(&rt)?;
-    let _program = words.next();
-    let config = words
-        .next()
-        .context("CONFIG RUNNER HANDLER FOLDER are wanted")?;
-    let runner = words.next().context("RUNNER HANDLER FOLDER are wanted")?;
-    let handler = words.next().context("HANDLER FOLDER are wanted")?;
-    let folder = words.next().context("FOLDER is wanted")?;
-    let case = Case::load(&rt, config.as_str(), folder.as_str())?;
-    let verdict = run(&rt, &case, runner.as_str(), handler.as_str())?;
+/// Runs the case in a folder by its runner and handler, and prints what became of it.
+pub fn run_case(
+    rt: &(impl Files + Print + AllocGlobal),
+    config: &str,
+    runner: &str,
+    handler: &str,
+    folder: &str,
+) -> Result<()> {
+    let case = Case::load(rt, config, folder)?;
+    let verdict = run(rt, &case, runner, handler)?;
     println!(rt; "{verdict}")?;
     Ok(())
 }

@@ -1,8 +1,8 @@
 //! The state that a chain begins with, of deposits, and whether a state may begin one (beacon-chain.md, "Genesis").
 
-use crate::case::{Case, bytes_of};
-use crate::difference::{Difference, compare_states};
-use crate::verdict::{Outside, Verdict};
+use crate::published::case::{Case, bytes_of};
+use crate::published::difference::{Difference, compare_states};
+use crate::published::verdict::{Outside, Verdict};
 use anyhow::{Context, Result, bail};
 use balance_totals::count_active;
 use beacon_state::State;

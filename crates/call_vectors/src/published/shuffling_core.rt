@@ -4,9 +4,9 @@
 ghost use Rattle.std.specs.Prelude.{◌≤◌, ◌^◌};
 ghost use Rattle.bc_preset.specs.Presets.{IsPreset};
 
-use crate::case::Case;
-use crate::difference::Difference;
-use crate::verdict::Verdict;
+use crate::published::case::Case;
+use crate::published::difference::Difference;
+use crate::published::verdict::Verdict;
 use anyhow::{Result, bail};
 use bc_preset::Preset;
 use committees::{shuffle_all, shuffled_index};
