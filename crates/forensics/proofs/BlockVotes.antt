@@ -2,9 +2,9 @@
 use Rattle.std.proofs.Common.{◌≡◌, ◌∙◌, ℕ, zero, suc, ◌+◌, ◌<◌, List, [], ◌∷◌, ◌++◌, length, get_or, take, drop, refl, sym, ap, subst, arith, append_assoc}
 use Rattle.std.proofs.lemmas.List.{take_more, drop_more}
 use Rattle.beacon_types.specs.declared.attestation.Attestation.{Attestation}
-use Rattle.vote_spans.specs.Room.{all_in}
-use Rattle.vote_spans.specs.Carried.{Carried, Held, Holds, HasRoomFor, place_of}
-use Rattle.vote_spans.specs.declared.place.Place.{Place}
+use Rattle.forensics.specs.Room.{all_in}
+use Rattle.forensics.specs.Carried.{Carried, Held, Holds, HasRoomFor, place_of}
+use Rattle.forensics.specs.declared.spans.place.Place.{Place}
 use Rattle.forensics.specs.inside.BlockVotes.{carried_at, carried_from}
 
 -- ---- room

@@ -17,7 +17,7 @@ use Rattle.spec_forensics.proofs.Within.{transition_processed}
 use Rattle.safety_law.specs.Finals.{IsFinalOf}
 use Rattle.safety_law.specs.Histories.{Begins}
 use Rattle.safety_law.proofs.Growing.{none_yet, first_grows, second_grows}
-use Rattle.vote_spans.specs.Carried.{Carried, Held, Holds}
+use Rattle.forensics.specs.Carried.{Carried, Held, Holds}
 use Rattle.forensics.specs.Books.{PlainBook, IsBeginning, genesis_checkpoint, begun, history_of, with_block, with_finalized}
 use Rattle.forensics.specs.inside.BlockVotes.{attesters_in, carried_from, carried_by_block, carried_by}
 use Rattle.forensics.specs.inside.Whole.{PlainHistory, with_latest, with_first, with_second, closed_first, closed_second, carried_in, IsBook, seen_of}

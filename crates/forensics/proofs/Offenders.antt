@@ -30,8 +30,8 @@ use Rattle.spec_forensics.specs.Offences.{slashable_pair, surrounds, kind_of, of
 use Rattle.spec_forensics.specs.Steady.{genesis_weights, genesis_total}
 use Rattle.spec_forensics.specs.Verdict.{is_agreed, moved_on, finalizing_chain, balance_of, offences_of, unless_moved, verdict_of}
 use Rattle.spec_forensics.specs.declared.verdict.Verdict.TheVariants.{Agree, Small, Conflict}
-use Rattle.vote_spans.specs.Carried.{Held, Holds, all_votes_by, has_offence}
-use Rattle.vote_spans.proofs.CarriedOffences.{offends_is}
+use Rattle.forensics.specs.Carried.{Held, Holds, all_votes_by, has_offence}
+use Rattle.forensics.proofs.CarriedOffences.{offends_is}
 use Rattle.forensics.specs.Books.{IsBeginning}
 use Rattle.forensics.specs.inside.Offenders.{counts}
 use Rattle.forensics.specs.inside.Whole.{carried_in}

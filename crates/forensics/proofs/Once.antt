@@ -18,7 +18,7 @@ use Rattle.spec_state.specs.Misc.{compute_epoch_at_slot}
 use Rattle.spec_state.specs.Accessors.{get_active_validator_indices, get_seed, get_committee_count_per_slot, get_beacon_committee, get_attesting_indices, members_with_bits}
 use Rattle.spec_state.proofs.ActiveIndices.{active_without_repeats}
 use Rattle.spec_forensics.specs.CarriedVotes.{WasProcessed}
-use Rattle.vote_spans.specs.Room.{all_of, StandOnce}
+use Rattle.forensics.specs.Room.{all_of, StandOnce}
 use Rattle.forensics.specs.inside.BlockVotes.{attesters_in}
 
 -- ---- those with bits are some of the members

@@ -7,7 +7,7 @@ use Rattle.spec_state.specs.declared.plain.PlainState.{PlainState}
 use Rattle.spec_forensics.specs.declared.vote.Vote.{Vote}
 use Rattle.spec_forensics.specs.Histories.{AcceptedBlock}
 use Rattle.spec_forensics.specs.CarriedVotes.{votes_of_attestation, votes_of_block, carried_votes, all_votes}
-use Rattle.vote_spans.specs.Carried.{vote_by, votes_by, all_votes_by}
+use Rattle.forensics.specs.Carried.{vote_by, votes_by, all_votes_by}
 use Rattle.forensics.specs.inside.BlockVotes.{attesters_in, carried_at, carried_from, carried_by_block, carried_by}
 use Rattle.forensics.specs.inside.Whole.{carried_in}
 use Rattle.spec_forensics.specs.declared.offence.Offence.{Offence}

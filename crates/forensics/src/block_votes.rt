@@ -1,12 +1,12 @@
 //! The votes of a block, attestation by attestation.
 
 ghost use Rattle.std.specs.Prelude.{◌≡◌, ◌≤◌, ◌^◌, ◌++◌, List, length, map};
-ghost use Rattle.vote_spans.specs.Carried.{Carried, Holds, HasRoomFor};
+ghost use Rattle.forensics.specs.Carried.{Carried, Holds, HasRoomFor};
 ghost use Rattle.forensics.specs.inside.BlockVotes.{carried_from};
 
+use crate::spans::{CarriedVotes, Place};
 use beacon_types::Attestation;
 use hash_tree::Root;
-use vote_spans::{CarriedVotes, Place};
 
 /// Adds the attestations of a block behind the others, where there is room for them. `lists` has the attesters of each.
 pub(crate) fn add_votes(

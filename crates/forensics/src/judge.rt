@@ -9,18 +9,18 @@ ghost use Rattle.spec_state.specs.Genesis.{header_root_of};
 ghost use Rattle.spec_forensics.specs.declared.verdict.Verdict.TheVariants.{Moved};
 ghost use Rattle.spec_forensics.specs.Steady.{genesis_weights, genesis_total};
 ghost use Rattle.spec_forensics.specs.Verdict.{is_agreed, verdict_of};
-ghost use Rattle.vote_spans.specs.Carried.{has_offence, Holds};
+ghost use Rattle.forensics.specs.Carried.{has_offence, Holds};
 ghost use Rattle.forensics.specs.Books.{IsBeginning};
 ghost use Rattle.forensics.specs.inside.Offenders.{counts};
 ghost use Rattle.forensics.specs.inside.Whole.{carried_in};
 
 use crate::history::History;
+use crate::spans::CarriedVotes;
 use balance_totals::{is_active_validator, total_active};
 use beacon_state::State;
 use beacon_types::Validator;
 use hash_tree::Root;
 use spec_forensics::Verdict;
-use vote_spans::CarriedVotes;
 
 /// Whether one finalised epoch is 0, or one finalised block is the other or its ancestor.
 #[tactic(auto, unfolding(spec_forensics::specs::Verdict::is_agreed))]

@@ -20,6 +20,7 @@ use crate::block_votes::add_votes;
 use crate::history::History;
 use crate::judge::judge;
 use crate::kept_attestation::KeptAttestation;
+use crate::spans::CarriedVotes;
 use crate::watch::Watch;
 use bc_preset::Config;
 use bc_words::NoMemory;
@@ -30,7 +31,6 @@ use hash_tree::Root;
 use spec_forensics::{Offence, Verdict, Vote};
 use std::alloc::Global;
 use std::marker::Model;
-use vote_spans::CarriedVotes;
 
 /// The votes that the blocks of two histories on one genesis carry, the attestations that they are of, and what a verdict reads of
 /// each block.

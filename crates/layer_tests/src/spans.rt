@@ -4,12 +4,12 @@ ghost use Rattle.std.specs.Prelude.{◌≡◌, ◌<◌, ◌^◌, length};
 
 use bc_words::{NoMemory, Steps};
 use beacon_types::{AttestationData, Checkpoint};
+use forensics::AllSpans;
 use std::alloc::Global;
 use std::marker::Brand;
 use std::process::Abort;
 use std::sync::ledger::{Blank, Ledger};
 use std::test::Fail;
-use vote_spans::AllSpans;
 
 /// A vote by its two epochs and what it votes for.
 fn vote(source: u64, target: u64, head: u8) -> AttestationData {

@@ -3,7 +3,7 @@ use Rattle.std.proofs.Common.{◌≡◌, ◌≤◌, ◌==◌, ℕ, Bool, true, f
 use Rattle.std.specs.Prelude.{count_by}
 use Rattle.std.specs.List.{All}
 use Rattle.std.proofs.lemmas.List.Elements.{All-nil, All-cons}
-use Rattle.vote_spans.specs.Room.{StandOnce, all_of}
+use Rattle.forensics.specs.Room.{StandOnce, all_of}
 
 at_most_one : (validator other : ℕ) (same : Bool) → (validator == other) ≡ same → count_by (λ a. a == other) (validator ∷ []) ≤ 1
 at_most_one validator other true is = rw is (omega arith)

@@ -10,11 +10,11 @@ use crate::offences::adding::add_vote;
 use crate::offences::reading::read_line;
 use anyhow::Result;
 use beacon_node::offence_line;
+use forensics::CarriedVotes;
 use spec_forensics::Offence;
 use std::alloc::Global;
 use std::fs;
 use std::rt::Files;
-use vote_spans::CarriedVotes;
 
 /// How many validators the lists are of: all indices in them are below.
 const VALIDATORS: usize = 16;

@@ -4,7 +4,7 @@ use Rattle.beacon_types.specs.declared.attestation.Attestation.{Attestation}
 use Rattle.spec_state.specs.declared.plain.PlainState.{PlainState}
 use Rattle.spec_state.specs.Accessors.{get_attesting_indices}
 use Rattle.spec_forensics.specs.Histories.{AcceptedBlock}
-use Rattle.vote_spans.specs.Carried.{Carried}
+use Rattle.forensics.specs.Carried.{Carried}
 
 -- the attesters of an attestation in a state
 unfoldable pub attesters_in : PlainState → Attestation → List ℕ

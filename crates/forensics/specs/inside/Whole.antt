@@ -6,7 +6,7 @@ use Rattle.spec_state.specs.declared.plain.PlainState.{PlainState}
 use Rattle.spec_forensics.specs.Histories.{AcceptedBlock}
 use Rattle.safety_law.specs.Histories.{AreHistories}
 use Rattle.safety_law.specs.Finals.{IsFinalOf}
-use Rattle.vote_spans.specs.Carried.{Carried, Held, Holds}
+use Rattle.forensics.specs.Carried.{Carried, Held, Holds}
 use Rattle.forensics.specs.Books.{PlainBook, IsBeginning}
 use Rattle.forensics.specs.inside.BlockVotes.{carried_by}
 

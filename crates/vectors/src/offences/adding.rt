@@ -1,13 +1,13 @@
 //! Votes of one attester each.
 
 ghost use Rattle.std.specs.Prelude.{◌≡◌, ◌∷◌, [], map, IfOk};
-ghost use Rattle.vote_spans.specs.Room.{StandOnce};
+ghost use Rattle.forensics.specs.Room.{StandOnce};
 
 use anyhow::Result;
 use bc_words::NoMemory;
+use forensics::{CarriedVotes, Place};
 use spec_forensics::Vote;
 use std::alloc::Global;
-use vote_spans::{CarriedVotes, Place};
 
 /// A list of one list of one attester.
 fn alone(alloc: Global, validator: u64) -> Result<Vec<Vec<u64>>, NoMemory>

@@ -1,6 +1,6 @@
 use Rattle.std.proofs.Common.{◌≡◌, ◌∙◌, ◌++◌, ◌∷◌, [], ℕ, List, length, map, get_or, refl, sym, ap, subst, arith}
 use Rattle.std.proofs.lemmas.List.{get_or-map, length-map, take_all}
-use Rattle.vote_spans.specs.Carried.{Carried, Holds, HasRoomFor}
+use Rattle.forensics.specs.Carried.{Carried, Holds, HasRoomFor}
 use Rattle.forensics.proofs.BlockVotes.{first_room, other_room, held_more, how_many}
 use Rattle.forensics.proofs.block_votes.add_votes.Goals as goal
 

@@ -1,5 +1,5 @@
 use Rattle.std.proofs.Common.{◌≡◌, ◌++◌, List, length, map, take, drop}
-use Rattle.vote_spans.specs.Carried.{Carried, Holds, HasRoomFor}
+use Rattle.forensics.specs.Carried.{Carried, Holds, HasRoomFor}
 use Rattle.forensics.specs.inside.BlockVotes.{carried_from}
 use Rattle.forensics.proofs.block_votes.add_votes.Given as goal
 

@@ -1,7 +1,7 @@
 use Rattle.std.proofs.Common.{◌≡◌, ◌+◌, drop}
 use Rattle.ffg_law.specs.Weights.{weight_from, weight_of}
 use Rattle.spec_forensics.specs.Steady.{genesis_weights}
-use Rattle.vote_spans.specs.Carried.{has_offence}
+use Rattle.forensics.specs.Carried.{has_offence}
 use Rattle.forensics.proofs.Offenders.{weights_left}
 use Rattle.forensics.proofs.judge.offenders_balance.Given as goal
 

@@ -1,6 +1,6 @@
 -- There is one attester.
 use Rattle.std.proofs.Common.{rules, ◌≡◌, ◌∷◌, [], ℕ, List, map, sym, subst}
-use Rattle.vote_spans.specs.Room.{StandOnce}
+use Rattle.forensics.specs.Room.{StandOnce}
 use Rattle.vectors.proofs.Alone.{stands_once}
 use Rattle.vectors.proofs.offences.adding.alone.Goals as goal
 

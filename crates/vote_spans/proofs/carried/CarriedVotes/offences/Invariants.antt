@@ -1,7 +1,0 @@
-use Rattle.std.proofs.Common.{◌≡◌, List, length}
-use Rattle.spec_forensics.specs.Offences.{offences_below}
-use Rattle.vote_spans.specs.Carried.{Carried, Holds, all_votes_by}
-use Rattle.vote_spans.proofs.carried.CarriedVotes.offences.Given as goal
-
-abbrev pub invariant-loop-validator : goal.invariant-loop-validator
-invariant-loop-validator l = (carried : List Carried) → Holds l.self carried → l.list.items ≡ offences_below (all_votes_by (length l.self.spans.spans) carried) l.validator

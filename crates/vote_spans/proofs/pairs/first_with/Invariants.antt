@@ -1,7 +1,0 @@
-use Rattle.std.proofs.Common.{◌≡◌, drop}
-use Rattle.std.specs.List.{find}
-use Rattle.vote_spans.specs.Pairs.{are_slashable_at}
-use Rattle.vote_spans.proofs.pairs.first_with.Given as goal
-
-abbrev pub invariant-loop-e : goal.invariant-loop-e
-invariant-loop-e l = find (λ e. are_slashable_at l.contents e l.vote) (drop l.e-index l.earlier) ≡ find (λ e. are_slashable_at l.contents e l.vote) l.earlier
