@@ -39,7 +39,7 @@ use one_chain::{Counts, Status, read_named, replay_events, unread, unwritten};
 use std::alloc::Global;
 
 /// The balance of the made validators, in Gwei, below which the configuration's ejection balance must be.
-const FULL_BALANCE: u64 = 32_000_000_000;
+pub(crate) const FULL_BALANCE: u64 = 32_000_000_000;
 
 /// The makers of a number: of its own chain, and of the two chains of its split.
 #[derive(Drop)]

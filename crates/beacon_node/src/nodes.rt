@@ -16,6 +16,7 @@ ghost use Rattle.beacon_node.specs.inside.Following.{IsInside};
 ghost use Rattle.beacon_node.specs.inside.Histories.{IsGenesis, OpeningEnds};
 ghost use Rattle.beacon_node.specs.inside.Nodes.{HasRun, IsSplit, LinesTold, NodeEnds, behind_ones, node_given, plain_node};
 
+use crate::drill::FULL_BALANCE;
 use crate::histories::store_at;
 use crate::made_events::made_events;
 use crate::node::{Delivered, delivered_node};
@@ -29,9 +30,6 @@ use command_words::NodesWords;
 use one_chain::{Status, read_named, unread, unwritten};
 use record_file::Event;
 use std::alloc::Global;
-
-/// The balance of the made validators, in Gwei, below which the configuration's ejection balance must be.
-const FULL_BALANCE: u64 = 32_000_000_000;
 
 /// The makers of the two chains of a number's split, and the genesis of both.
 #[derive(Drop)]

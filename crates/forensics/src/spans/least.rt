@@ -1,4 +1,4 @@
-//! The least vote that is_slashable_with_any with another one.
+//! The least vote that is slashable with another one.
 
 ghost use Rattle.std.specs.Prelude.{◌≡◌, ◌+◌, ◌<◌, length, true, None, All};
 ghost use Rattle.forensics.specs.Pairs.{are_slashable_at};
@@ -20,7 +20,7 @@ fn lesser(least: Option<u32>, vote: u32) -> Option<u32>
     }
 }
 
-/// The least of votes that is_slashable_with_any with another one. A step looks at one.
+/// The least of votes that is slashable with another one. A step looks at one.
 #[tactic(auto, using(crate::proofs::Leasts::least_step))]
 pub(crate) fn least_slashable<L: Ledger>(
     contents: &[AttestationData],

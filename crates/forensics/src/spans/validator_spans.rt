@@ -33,7 +33,7 @@ impl Model for Spans {
     ghost view = { λ s. record { spans = record { votes = s.votes.items; offence = s.offence }; room = vec_capacity s.votes } };
 }
 
-/// Whether a vote is_slashable_with_any with the one at a place.
+/// Whether a vote is slashable with the one at a place.
 #[tactic(auto, unfolding(crate::specs::Spans::slashable_at), using(crate::proofs::Items::inside_at))]
 fn slashable_at(contents: &[AttestationData], votes: &[u32], place: usize, vote: u32) -> bool
     requires sorted { IsSorted contents.now votes.now }
@@ -43,7 +43,7 @@ fn slashable_at(contents: &[AttestationData], votes: &[u32], place: usize, vote:
     place < votes.len() && are_slashable_at(contents, votes[place], vote)
 }
 
-/// Whether a vote is_slashable_with_any with one of those beside a place.
+/// Whether a vote is slashable with one of those beside a place.
 #[tactic(auto, unfolding(crate::specs::Spans::slashable_beside))]
 fn slashable_beside(contents: &[AttestationData], votes: &[u32], place: usize, vote: u32) -> bool
     requires sorted { IsSorted contents.now votes.now }
@@ -54,7 +54,7 @@ fn slashable_beside(contents: &[AttestationData], votes: &[u32], place: usize, v
         || (0 < place && slashable_at(contents, votes, place - 1, vote))
 }
 
-/// Whether a vote is_slashable_with_any with any, which it does where it is_slashable_with_any with one of those beside its place.
+/// Whether a vote is slashable with any, which it is where it is slashable with one of those beside its place.
 #[tactic(auto, using(crate::proofs::Beside::beside_is_any))]
 fn is_slashable_with_any(
     contents: &[AttestationData],
@@ -93,7 +93,7 @@ impl Spans {
         }
     }
 
-    /// The first are_slashable_at, by the earlier and the later vote.
+    /// The first slashable pair, by the earlier and the later vote.
     pub fn offence(&self) -> Option<(u32, u32)>
         ensures { result ≡ self.now.spans.offence }
     {
@@ -109,8 +109,8 @@ impl Spans {
         Ok(self.votes.reserve(count)?)
     }
 
-    /// Takes a vote. Where there was a are_slashable_at, it takes no step; else a step halves the votes that are left to look at,
-    /// and where the vote is the first to are_slashable_at, one step more looks at each vote.
+    /// Takes a vote. Where there was a slashable pair, it takes no step; else a step halves the votes that are left to look at,
+    /// and where the vote is the first to be slashable with one, one step more looks at each vote.
     #[tactic(auto, using(crate::proofs::Adding::adding))]
     fn take<L: Ledger>(
         &mut self,
@@ -142,8 +142,8 @@ impl Spans {
         Ok(())
     }
 
-    /// Takes a later vote. Where there was a are_slashable_at, it takes no step; else a step halves the votes that are left to look at,
-    /// and where the vote is the first to are_slashable_at, one step more looks at each vote.
+    /// Takes a later vote. Where there was a slashable pair, it takes no step; else a step halves the votes that are left to look at,
+    /// and where the vote is the first to be slashable with one, one step more looks at each vote.
     #[tactic(auto, using(crate::proofs::Standing::standing))]
     pub fn add<L: Ledger>(
         &mut self,
