@@ -3,7 +3,8 @@
 use crate::progress::{Progress, Watch, WatchedOut, WatchedShelf, WatchedSink};
 use bc_outside::{DiskShelf, StdSink};
 use beacon_node::{Status, beacon_main};
-use command_words::{Command, read_command, what_is_wrong};
+use command_arguments::Command;
+use command_words::{read_command, what_is_wrong};
 use status_words::{Cause, Explanation};
 use std::alloc::Global;
 use std::io::{Eprint, Print};

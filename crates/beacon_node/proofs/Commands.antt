@@ -1,11 +1,12 @@
 -- The command words as the first step of a run.
 use Rattle.std.proofs.Common.{◌≡◌, ℕ, List, [], Option, Some, None, Err, true, false, refl, sym, ◌∙◌, append-nil, arith}
 use Rattle.bc_outside.specs.Told.{FileHanded, ShelfTold}
-use Rattle.command_words.specs.Commands.{AnchorFiles, Command, DrillWords, DutiesWords, ForensicFiles, GenesisFiles, NodesWords, ReplayFiles, anchor, command_of, drill, duties, forensic, genesis, names_of, nodes, replay, slasher}
+use Rattle.command_arguments.specs.Arguments.{AnchorFiles, Command, DrillWords, DutiesWords, ForensicFiles, GenesisFiles, NodesWords, ReplayFiles, anchor, drill, duties, forensic, genesis, names_of, nodes, replay, slasher}
+use Rattle.command_words.specs.Commands.{command_of}
 use Rattle.command_words.specs.inside.Reading.{ReadsCommand}
 use Rattle.command_words.specs.declared.command.WordsStop.{WordsStop}
 use Rattle.command_words.specs.declared.command.WordsStop.TheVariants.{NoCommand, NoMemory}
-use Rattle.spec_replay.specs.Commands.{run_of, with_command}
+use Rattle.beacon_node.specs.Commands.{run_of, with_command}
 use Rattle.spec_replay.specs.Anchor.{anchor_run}
 use Rattle.spec_replay.specs.Drill.{drill_run}
 use Rattle.spec_replay.specs.Duties.{duties_run}

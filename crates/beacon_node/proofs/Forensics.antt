@@ -20,7 +20,7 @@ use Rattle.spec_forensics.specs.Clash.{first_accepted}
 use Rattle.spec_replay.specs.Run.{Run, bad_config, bad_genesis, clash}
 use Rattle.spec_replay.specs.Forensic.{Followed, behind_first, follow, records_run, judge, with_config, with_first, with_genesis, with_second, with_state, with_store}
 use Rattle.spec_replay.specs.declared.report.Report.{Report}
-use Rattle.command_words.specs.Commands.{ForensicFiles}
+use Rattle.command_arguments.specs.Arguments.{ForensicFiles}
 use Rattle.beacon_node.specs.declared.follow.Side.{Side}
 use Rattle.beacon_node.specs.declared.follow.Side.TheVariants.{First}
 use Rattle.one_chain.specs.declared.genesis.GenesisStop.{GenesisStop}

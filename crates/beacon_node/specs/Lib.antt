@@ -1,3 +1,4 @@
+pub mod Commands
 pub mod Findings
 pub mod Pace
 pub mod Slashings

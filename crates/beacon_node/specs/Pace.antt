@@ -8,7 +8,8 @@ use Rattle.spec_replay.specs.Genesis.{genesis_run}
 use Rattle.spec_replay.specs.Duties.{duties_run}
 use Rattle.spec_replay.specs.Forensic.{forensic_run, slasher_run}
 use Rattle.spec_replay.specs.Nodes.{nodes_run}
-use Rattle.command_words.specs.Commands.{Command, anchor, command_of, drill, duties, forensic, genesis, nodes, replay, slasher}
+use Rattle.command_arguments.specs.Arguments.{Command, anchor, drill, duties, forensic, genesis, nodes, replay, slasher}
+use Rattle.command_words.specs.Commands.{command_of}
 use Rattle.one_chain.specs.declared.status.Status.{Status}
 use Rattle.one_chain.specs.Answers.{taken_of, whole_of}
 

@@ -31,7 +31,7 @@ use bc_preset::{Config, ConfigFault, Key, MAX_CONFIG_LEN};
 use bc_words::NoMemory;
 use beacon_state::State;
 use chain_maker::{MadeEvents, Maker};
-use command_words::DrillWords;
+use command_arguments::DrillWords;
 use forensics::VoteBook;
 use fork_store::Store;
 use hash_tree::Root;

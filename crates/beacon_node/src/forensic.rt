@@ -22,7 +22,7 @@ use crate::slashings::tell_slashings;
 use bc_outside::{Shelf, Sink, Trouble, write_all};
 use bc_preset::{Config, MAX_CONFIG_LEN};
 use beacon_state::State;
-use command_words::ForensicFiles;
+use command_arguments::ForensicFiles;
 use forensics::VoteBook;
 use fork_store::Store;
 use one_chain::{MAX_GENESIS_LEN, Status, no_genesis, read_genesis, read_named, unread, written};

@@ -26,7 +26,7 @@ use bc_preset::{Config, ConfigFault, Key, MAX_CONFIG_LEN};
 use bc_words::NoMemory;
 use beacon_state::State;
 use chain_maker::Maker;
-use command_words::NodesWords;
+use command_arguments::NodesWords;
 use one_chain::{Status, read_named, unread, unwritten};
 use record_file::Event;
 use std::alloc::Global;

@@ -1,8 +1,9 @@
 //! All that the program does.
 
 ghost use Rattle.std.specs.Prelude.{◌≡◌, ◌<◌, ◌+◌, ◌^◌, ◌↔◌, length, map, string_bytes, Some, None};
-ghost use Rattle.spec_replay.specs.Commands.{run_of};
-ghost use Rattle.command_words.specs.Commands.{ForensicFiles, IsDeclined, command_of, forensic, names_of, slasher};
+ghost use Rattle.beacon_node.specs.Commands.{run_of};
+ghost use Rattle.command_arguments.specs.Arguments.{ForensicFiles, forensic, names_of, slasher};
+ghost use Rattle.command_words.specs.Commands.{IsDeclined, command_of};
 ghost use Rattle.one_chain.specs.Answers.{OutsideKeeps, Replayed};
 ghost use Rattle.beacon_node.specs.Pace.{taken_run_of};
 ghost use Rattle.beacon_node.specs.Findings.{WritesFindings};
@@ -12,7 +13,8 @@ use crate::drill::drill;
 use crate::forensic::forensic;
 use crate::nodes::nodes;
 use bc_outside::{Shelf, Sink};
-use command_words::{Command, WordsStop, read_command};
+use command_arguments::Command;
+use command_words::{WordsStop, read_command};
 use one_chain::Status;
 use one_chain::anchor::anchor;
 use one_chain::make_genesis::make_genesis;

@@ -10,7 +10,7 @@ use Rattle.clap.specs.declared.error.ErrorKind.{ErrorKind}
 use Rattle.clap.specs.declared.error.ErrorKind.TheVariants.{OutOfMemory}
 use Rattle.clap.proofs.OnLiterals.{clap_on_literals}
 use Rattle.command_words.specs.Commands.{command_line, command_of, given_command, named_command}
-use Rattle.command_words.specs.declared.command.Command as code
+use Rattle.command_arguments.specs.declared.command.Command as code
 use Rattle.command_words.specs.declared.command.WordsStop.{WordsStop}
 use Rattle.command_words.specs.declared.command.WordsStop.TheVariants.{NoCommand, NoMemory}
 use Rattle.command_words.specs.inside.Reading.{ReadsCommand, command_value}

@@ -2,6 +2,7 @@
 use Rattle.std.specs.Prelude.{◌≡◌, ◌-◌, ◌^◌, ◌≤◌, ◌||◌, ℕ, nat_lt, true, false, List, [], ◌∷◌, map, Option, Some, None, codes, option_map, option_and_then, if◌then◌else◌}
 use Rattle.std.specs.Str.{bytes_eq}
 use Rattle.std.specs.Str.Parse.{digits_value, without_leading_plus}
+use Rattle.command_arguments.specs.Arguments.{Command, ForensicFiles, anchor, drill, duties, forensic, genesis, least_nodes, most_nodes, nodes, replay, slasher}
 use Rattle.clap.specs.Words.{App, Kinds, Row, Rule, Shape, fault_of, first_of, new_rule, subcommand_of, takes}
 use Rattle.clap.specs.Simple.{new_shape}
 use Rattle.clap.specs.ValueTests.{is_unsigned_in}
@@ -18,13 +19,6 @@ pub data Argument : Type 0 where
 pub record Form : Type 0 where
   pub name : List ℕ
   pub arguments : List Argument
-
--- how many nodes there can be
-abbrev pub least_nodes : ℕ
-least_nodes = 2
-
-abbrev pub most_nodes : ℕ
-most_nodes = 16
 
 -- the commands
 abbrev pub forms : List Form
@@ -59,59 +53,6 @@ command_line = record {
   top = record (new_shape (codes "beacon")) { no_binary_name = true; disable_help_flag = true; disable_help_subcommand = true; is_leaf = false };
   subs = map shape_of_form forms;
 }
-
--- the files that the command `replay CONFIG GENESIS RECORD` names
-pub record ReplayFiles : Type 0 where
-  pub config : List ℕ
-  pub genesis : List ℕ
-  pub events : List ℕ
-
--- what the command `drill NUMBER CONFIG` names: the number that the chain is made from, and a file
-pub record DrillWords : Type 0 where
-  pub number : ℕ
-  pub config : List ℕ
-
--- the files that the command `genesis CONFIG DEPOSITS` names
-pub record GenesisFiles : Type 0 where
-  pub config : List ℕ
-  pub deposits : List ℕ
-
--- what the command `duties CONFIG STATE EPOCH` names: two files and an epoch
-pub record DutiesWords : Type 0 where
-  pub config : List ℕ
-  pub state : List ℕ
-  pub epoch : ℕ
-
--- the files that the command `anchor CONFIG STATE BLOCK RECORD` names
-pub record AnchorFiles : Type 0 where
-  pub config : List ℕ
-  pub state : List ℕ
-  pub block : List ℕ
-  pub events : List ℕ
-
--- the files that the commands `forensic CONFIG GENESIS A B` and `slasher CONFIG GENESIS A B` name
-pub record ForensicFiles : Type 0 where
-  pub config : List ℕ
-  pub genesis : List ℕ
-  pub first : List ℕ
-  pub second : List ℕ
-
--- what the command `nodes NUMBER COUNT CONFIG` names: the number that the chains are made from, how many nodes there are, and a file
-pub record NodesWords : Type 0 where
-  pub number : ℕ
-  pub count : ℕ
-  pub config : List ℕ
-
--- a command with its arguments
-pub data Command : Type 0 where
-  replay : ReplayFiles → Command
-  drill : DrillWords → Command
-  genesis : GenesisFiles → Command
-  duties : DutiesWords → Command
-  anchor : AnchorFiles → Command
-  forensic : ForensicFiles → Command
-  nodes : NodesWords → Command
-  slasher : ForensicFiles → Command
 
 -- the number that u64's parser reads from a text
 abbrev pub number_in : List ℕ → Option ℕ
@@ -163,11 +104,6 @@ forensic_in rows = option_map forensic (records_in rows)
 abbrev pub slasher_in : List Row → Option Command
 slasher_in rows = option_map slasher (records_in rows)
 
--- so many nodes there can be
-pub record IsNodeCount (count : ℕ) : Type 0 where
-  pub least : least_nodes ≤ count
-  pub most : count ≤ most_nodes
-
 -- the value of the argument with this label, where it is a number of nodes
 abbrev pub node_count_in : ℕ → Option ℕ
 node_count_in count = if nat_lt count least_nodes || nat_lt most_nodes count then None else Some count
@@ -209,15 +145,3 @@ command_of words = unless_faulty (fault_of command_line words) (given_command wo
 -- Clap doesn't take the words, by its own test for such a command line, or they give no command.
 abbrev pub IsDeclined : List (List ℕ) → Type 0
 IsDeclined words = takes command_line words ≡ true → given_command words ≡ None
-
--- the files that the command names, in the order in which they are asked for
-abbrev pub names_of : Option Command → List (List ℕ)
-names_of None = []
-names_of (Some (replay files)) = files.config ∷ files.genesis ∷ files.events ∷ []
-names_of (Some (drill words)) = words.config ∷ []
-names_of (Some (genesis files)) = files.config ∷ files.deposits ∷ []
-names_of (Some (duties words)) = words.config ∷ words.state ∷ []
-names_of (Some (anchor files)) = files.config ∷ files.state ∷ files.block ∷ files.events ∷ []
-names_of (Some (forensic files)) = files.config ∷ files.genesis ∷ files.first ∷ files.second ∷ []
-names_of (Some (nodes words)) = words.config ∷ []
-names_of (Some (slasher files)) = files.config ∷ files.genesis ∷ files.first ∷ files.second ∷ []

@@ -2,7 +2,8 @@
 
 use bc_preset::{ConfigFault, Key};
 use bc_words::{ClashKind, Limit, Refusal};
-use command_words::{Command, read_command};
+use command_arguments::Command;
+use command_words::read_command;
 use duties::DutiesFault;
 use one_chain::Status;
 use record_file::RecordFault;

@@ -12,7 +12,7 @@ use Rattle.bc_preset.specs.declared.presets.Preset.{Preset}
 use Rattle.bc_words.specs.Events.{accepted, StoreStops}
 use Rattle.bc_words.specs.declared.store_stop.StoreStop.{StoreStop}
 use Rattle.beacon_types.specs.declared.block.BeaconBlock.{BeaconBlock}
-use Rattle.command_words.specs.Commands.{AnchorFiles}
+use Rattle.command_arguments.specs.Arguments.{AnchorFiles}
 use Rattle.fork_store.specs.declared.anchor.AnchorStop.{AnchorStop}
 use Rattle.fork_store.specs.declared.anchor.AnchorStop.TheVariants as stops
 use Rattle.spec_fork_choice.specs.Anchor.{anchor_block_of, anchor_state_of}

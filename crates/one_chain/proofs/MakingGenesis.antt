@@ -21,7 +21,7 @@ use Rattle.genesis_maker.specs.declared.stops.DepositsStop.TheVariants as stops
 use Rattle.genesis_maker.specs.inside.Making.{GivesFile}
 use Rattle.spec_replay.specs.Run.{Run, after_file, done}
 use Rattle.spec_replay.specs.Genesis.{genesis_run, make_genesis, make_under, write_genesis}
-use Rattle.command_words.specs.Commands.{GenesisFiles}
+use Rattle.command_arguments.specs.Arguments.{GenesisFiles}
 use Rattle.one_chain.specs.declared.status.Status.{Status}
 use Rattle.one_chain.specs.declared.status.Status.TheVariants as statuses
 use Rattle.one_chain.specs.Answers.{Answers, OutsideKeeps, Replayed, WritesLines, breaks_off, may_lack_lines, whole_of}

@@ -22,7 +22,7 @@ use Rattle.spec_fork_choice.specs.OnEvent.{genesis_clash, open_unless, open_stor
 use Rattle.bc_words.specs.Events.{StoreStops}
 use Rattle.spec_replay.specs.Run.{with_files, with_config, with_genesis, with_state, with_store, with_record, with_events}
 use Rattle.spec_replay.specs.Drill.{Tally}
-use Rattle.command_words.specs.Commands.{ReplayFiles}
+use Rattle.command_arguments.specs.Arguments.{ReplayFiles}
 use Rattle.one_chain.specs.declared.status.Status.{Status}
 use Rattle.one_chain.specs.declared.status.Status.TheVariants as statuses
 use Rattle.one_chain.specs.declared.genesis.GenesisStop.{GenesisStop}

@@ -16,7 +16,7 @@ use bc_outside::{Shelf, Sink};
 use bc_preset::{Config, MAX_CONFIG_LEN, Preset};
 use beacon_state::State;
 use beacon_types::BeaconBlock;
-use command_words::AnchorFiles;
+use command_arguments::AnchorFiles;
 use fork_store::{AnchorStop, Store, anchor_check};
 use spec_fork_choice::AnchorFault;
 use ssz_codec::{Ssz, SszFault};

@@ -16,7 +16,7 @@ use crate::writing::unwritten;
 use bc_outside::{Shelf, Sink, write_all};
 use bc_preset::{Config, MAX_CONFIG_LEN, Preset};
 use beacon_state::State;
-use command_words::GenesisFiles;
+use command_arguments::GenesisFiles;
 use genesis_maker::{DepositsStop, MAX_DEPOSITS_LEN, genesis_of_file};
 use std::alloc::Global;
 

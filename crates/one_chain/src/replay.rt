@@ -14,7 +14,7 @@ use crate::status::Status;
 use bc_outside::{Shelf, Sink};
 use bc_preset::{Config, MAX_CONFIG_LEN};
 use beacon_state::State;
-use command_words::ReplayFiles;
+use command_arguments::ReplayFiles;
 use fork_store::Store;
 use std::alloc::Global;
 

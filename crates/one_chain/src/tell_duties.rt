@@ -17,7 +17,7 @@ use crate::writing::written;
 use bc_outside::{Shelf, Sink};
 use bc_preset::{Config, MAX_CONFIG_LEN, Preset};
 use beacon_state::State;
-use command_words::DutiesWords;
+use command_arguments::DutiesWords;
 use duties::{DutiesFault, DutyStop, duties_of};
 use fork_store::is_sound;
 use ssz_codec::SszFault;

@@ -6,7 +6,7 @@
 #![tactic(auto)]
 
 use bc_outside::{DiskShelf, StdSink};
-use command_words::ReplayFiles;
+use command_arguments::ReplayFiles;
 use one_chain::Status;
 use one_chain::replay::replay;
 use std::env;

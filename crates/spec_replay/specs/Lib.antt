@@ -1,5 +1,4 @@
 pub mod Anchor
-pub mod Commands
 pub mod Drill
 pub mod Duties
 pub mod Forensic

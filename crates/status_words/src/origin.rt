@@ -1,6 +1,6 @@
 //! Where a command has its configuration, its genesis and its events from.
 
-use command_words::Command;
+use command_arguments::Command;
 use std::fmt;
 
 /// Where a genesis or events are from. It prints a file's name in quotes.

@@ -2,8 +2,9 @@
 use Rattle.std.specs.Prelude.{ℕ, List, [], Some}
 use Rattle.bc_outside.specs.Told.{ShelfTold, SinkTold}
 use Rattle.bc_outside.specs.Memory.{NamedFile, held_in, told_by, unopened}
-use Rattle.spec_replay.specs.Commands.{run_of}
-use Rattle.command_words.specs.Commands.{command_of, names_of}
+use Rattle.beacon_node.specs.Commands.{run_of}
+use Rattle.command_arguments.specs.Arguments.{names_of}
+use Rattle.command_words.specs.Commands.{command_of}
 use Rattle.one_chain.specs.declared.status.Status.{Status}
 use Rattle.one_chain.specs.Answers.{Answers, OutsideKeeps, Replayed}
 use Rattle.beacon_node.specs.Pace.{taken_run_of}

@@ -1,9 +1,10 @@
 -- How an answer of reading the words meets their definition.
 use Rattle.std.specs.Prelude.{◌≡◌, ℕ, List, Some, None, Result, Ok, Err}
-use Rattle.command_words.specs.Commands.{Command, ForensicFiles, IsDeclined, anchor, command_of, drill, duties, forensic, genesis, nodes, replay, slasher}
-use Rattle.command_words.specs.declared.command.Command as code
-use Rattle.command_words.specs.declared.command.ForensicFiles as followed
-use Rattle.command_words.specs.declared.command.Command.TheVariants as commands
+use Rattle.command_arguments.specs.Arguments.{Command, ForensicFiles, anchor, drill, duties, forensic, genesis, nodes, replay, slasher}
+use Rattle.command_words.specs.Commands.{IsDeclined, command_of}
+use Rattle.command_arguments.specs.declared.command.Command as code
+use Rattle.command_arguments.specs.declared.command.ForensicFiles as followed
+use Rattle.command_arguments.specs.declared.command.Command.TheVariants as commands
 use Rattle.command_words.specs.declared.command.WordsStop.{WordsStop}
 use Rattle.command_words.specs.declared.command.WordsStop.TheVariants.{NoCommand, NoMemory}
 

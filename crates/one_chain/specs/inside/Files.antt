@@ -1,8 +1,8 @@
 -- The words of a command, as the bytes of their names.
-use Rattle.command_words.specs.declared.command.ReplayFiles as replays
-use Rattle.command_words.specs.declared.command.GenesisFiles as makers
-use Rattle.command_words.specs.declared.command.AnchorFiles as anchors
-use Rattle.command_words.specs.Commands.{AnchorFiles, GenesisFiles, ReplayFiles}
+use Rattle.command_arguments.specs.declared.command.ReplayFiles as replays
+use Rattle.command_arguments.specs.declared.command.GenesisFiles as makers
+use Rattle.command_arguments.specs.declared.command.AnchorFiles as anchors
+use Rattle.command_arguments.specs.Arguments.{AnchorFiles, GenesisFiles, ReplayFiles}
 
 abbrev pub files_named : replays.ReplayFiles → ReplayFiles
 files_named f = record { config = f.config.now; genesis = f.genesis.now; events = f.events.now }

@@ -1,5 +1,5 @@
 -- The words are a command, and the rest is its run, or they are none, or memory ran out before they were read.
-use Rattle.command_words.specs.Commands.{forensic, slasher}
+use Rattle.command_arguments.specs.Arguments.{forensic, slasher}
 use Rattle.beacon_node.proofs.Commands.{replay_answers, drill_answers, genesis_answers, duties_answers, anchor_answers, forensic_answers, nodes_answers, slasher_answers, another_command, are_none, no_answers, unread_words}
 use Rattle.beacon_node.proofs.top.beacon_main.Goals as goal
 

@@ -1,6 +1,7 @@
 -- The run of the command words.
 use Rattle.std.specs.Prelude.{ℕ, List, Option, Some, None}
-use Rattle.command_words.specs.Commands.{Command, anchor, command_of, drill, duties, forensic, genesis, nodes, replay, slasher}
+use Rattle.command_arguments.specs.Arguments.{Command, anchor, drill, duties, forensic, genesis, nodes, replay, slasher}
+use Rattle.command_words.specs.Commands.{command_of}
 use Rattle.spec_replay.specs.Run.{Run, no_command, over, with_files}
 use Rattle.spec_replay.specs.Anchor.{anchor_run}
 use Rattle.spec_replay.specs.Drill.{drill_run}
