@@ -1,6 +1,7 @@
 -- Layers over blocks of equal length: a layer of blocks is that of each block.
-use Rattle.std.proofs.Common.{◌≡◌, ◌∙◌, ℕ, zero, suc, ◌+◌, ◌*◌, ◌<◌, List, [], ◌∷◌, ◌++◌, length, get_or, take, map, refl, sym, ap, ap₂, arith}
-use Rattle.std.proofs.lemmas.List.{flat_map_more, take_more, map-append}
+use Rattle.std.proofs.Common.{◌≡◌, ◌∙◌, ℕ, zero, suc, ◌+◌, ◌*◌, ◌<◌, List, [], ◌∷◌, ◌++◌, length, get_or, take, drop, map, refl, sym, ap, ap₂, arith}
+use Rattle.std.proofs.Math.Nat.{mul-zero, mul-suc}
+use Rattle.std.proofs.lemmas.List.{flat_map_more, take_more, map-append, length-append, take_at, drop_at, drop-drop}
 use Rattle.std.proofs.lemmas.List.Elements.{All-head, All-tail}
 use Rattle.std.proofs.lemmas.Simd.{map-map}
 use Rattle.std.specs.List.{flat_map, All}
@@ -40,6 +41,26 @@ single_blocks block root one (v ∷ vs) = ap₂ (λ (xs ys : List (List ℕ)). x
 -- one more block
 pub block_more : {V : Type 0} (block : V → List (List ℕ)) (vs : List V) (i : ℕ) (d : V) → i < length vs → flat_map block (take i vs) ++ block (get_or vs i d) ≡ flat_map block (take (i + 1) vs)
 block_more block vs i d lt = flat_map_more block [] (take i vs) (get_or vs i d) ∙ ap (flat_map block) (sym (take_more vs i d lt))
+
+-- blocks of one length: how many nodes they have
+pub count_blocks : {V : Type 0} (k : ℕ) (block : V → List (List ℕ)) → ((v : V) → length (block v) ≡ k) → (vs : List V) → length (flat_map block vs) ≡ k * length vs
+count_blocks k block long [] = sym (mul-zero k)
+count_blocks k block long (v ∷ vs) =
+    let more : k * suc (length vs) ≡ k * length vs + k = mul-suc k (length vs) in
+    omega (arith, length-append (block v) (flat_map block vs), long v, count_blocks k block long vs, more)
+
+-- and those of one of them
+pub block_at : {V : Type 0} (k : ℕ) (block : V → List (List ℕ)) → ((v : V) → length (block v) ≡ k) → (vs : List V) (i : ℕ) (d : V) → i < length vs
+    → take k (drop (k * i) (flat_map block vs)) ≡ block (get_or vs i d)
+block_at k block long [] i d less = absurd (omega arith)
+block_at k block long (v ∷ vs) zero d less =
+    ap (λ (n : ℕ). take k (drop n (block v ++ flat_map block vs))) (mul-zero k) ∙ take_at (block v) (flat_map block vs) k (long v)
+block_at k block long (v ∷ vs) (suc i) d less =
+    let more : k * suc i ≡ k + k * i = mul-suc k i ∙ omega arith in
+    ap (λ (n : ℕ). take k (drop n (block v ++ flat_map block vs))) more
+    ∙ (ap (take k) (sym (drop-drop (k * i) k (block v ++ flat_map block vs)))
+    ∙ (ap (λ (nodes : List (List ℕ)). take k (drop (k * i) nodes)) (drop_at (block v) (flat_map block vs) k (long v))
+    ∙ block_at k block long vs i d (omega arith)))
 
 -- where two roots are equal of the values so far and of one more
 pub root_more : {V : Type 0} (root same : V → List ℕ) (vs : List V) (i : ℕ) (d : V) → i < length vs → map root (take i vs) ≡ map same (take i vs) → root (get_or vs i d) ≡ same (get_or vs i d)

@@ -1,76 +1,29 @@
-//! The roots of a block's attestations, column by column: the same nodes of up to eight attestations are hashed side by side.
+//! The roots of a block's attestations, layer by layer: what the trees of up to eight attestations have at the same height is hashed
+//! side by side.
 //!
-//! Attestations come from a block, and their roots go to `rooted_attestation`. Bits are hashed one by one.
+//! Attestations come from a block, and their roots go to `rooted_attestation`. Bits that fill more than two chunks are hashed alone.
 
 ghost use Rattle.std.specs.Prelude.{◌≡◌, ◌*◌, ◌≤◌, length, map};
 ghost use Rattle.std.specs.List.{flat_map};
-ghost use Rattle.hash_tree.specs.Pairs.{parents};
-ghost use Rattle.beacon_types.specs.Containers.{checkpoint_codec};
 ghost use Rattle.beacon_types.specs.Blocks.{attestation_codec};
-ghost use Rattle.beacon_types.specs.inside.AttestationChunks.{signature_chunks, root_of_chunks, signature_root, content_root, checkpoint_chunks, checkpoint_roots, content_chunks, field_chunks, halves_of};
+ghost use Rattle.beacon_types.specs.inside.AttestationChunks.{signature_chunks, signature_chunk_root, signature_root, checkpoint_chunks, single_chunks, two_chunks_root, bits_root};
+ghost use Rattle.beacon_types.specs.inside.AttestationChunks.{first_nodes, first_roots, second_nodes, second_roots, third_nodes, third_roots, fourth_nodes, fourth_roots, field_chunks, halves_of};
 
 use crate::attestation::Attestation;
-use hash_tree::{Leaf, Root, chunk_root, hash_layer};
-
-/// Writes the nodes two layers above these.
-fn hash_two_layers(nodes: &[Root], out: &mut [Root])
-    requires nodes { length nodes.now ≡ 4 * length out.old }
-    requires few { length out.old ≤ 16 }
-    ensures { out.new ≡ parents (parents nodes.now) }
-{
-    let half = 2 * out.len();
-    let mut room = [[0; 32]; 32];
-    let halves = &mut room[..half];
-    hash_layer(nodes, halves);
-    hash_layer(halves, out);
-}
-
-/// Writes the nodes three layers above these.
-fn hash_three_layers(nodes: &[Root], out: &mut [Root])
-    requires nodes { length nodes.now ≡ 8 * length out.old }
-    requires few { length out.old ≤ 8 }
-    ensures { out.new ≡ parents (parents (parents nodes.now)) }
-{
-    let half = 4 * out.len();
-    let mut room = [[0; 32]; 32];
-    let halves = &mut room[..half];
-    hash_layer(nodes, halves);
-    hash_two_layers(halves, out);
-}
-
-/// A signature has 96 bytes.
-fn is_long(signature: &[u8; 96])
-    ensures { length signature.now ≡ 96 }
-{}
+use hash_tree::{Leaf, Root, chunk_root, hash_layer, zero_hash};
 
 /// Writes the chunks of an attestation's signature, and a zero chunk behind them.
 fn write_signature(attestation: &Attestation, out: &mut [Root])
     requires { length out.old ≡ 4 }
-    ensures chunks { out.new ≡ signature_chunks attestation.now }
-    ensures root { root_of_chunks attestation.now ≡ signature_root attestation.now }
+    ensures { out.new ≡ signature_chunks attestation.now }
 {
     let signature = &attestation.signature;
-    is_long(signature);
     out.copy_from_slice(&[
         chunk_root(&signature[..32]),
         chunk_root(&signature[32..64]),
         chunk_root(&signature[64..]),
         [0; 32],
     ]);
-}
-
-/// Writes the roots of the signatures of at most eight attestations.
-fn write_signatures(attestations: &[Attestation], out: &mut [Root])
-    requires few { length attestations.now ≤ 8 }
-    requires out { length out.old ≡ length attestations.now }
-    ensures { out.new ≡ map signature_root attestations.now }
-{
-    let count = attestations.len();
-    let mut chunks = [[0; 32]; 32];
-    'signatures: for i in 0..count {
-        write_signature(&attestations[i], &mut chunks[4 * i..4 * i + 4]);
-    }
-    hash_two_layers(&chunks[..4 * count], out);
 }
 
 /// Writes the chunks below the roots of an attestation's checkpoints.
@@ -88,101 +41,215 @@ fn write_checkpoint_chunks(attestation: &Attestation, out: &mut [Root])
     ]);
 }
 
-/// Writes the roots of both checkpoints of each of at most eight attestations.
-fn write_checkpoints(attestations: &[Attestation], out: &mut [Root])
-    requires few { length attestations.now ≤ 8 }
-    requires out { length out.old ≡ 2 * length attestations.now }
-    ensures { out.new ≡ flat_map checkpoint_roots attestations.now }
-{
-    let count = attestations.len();
-    let mut chunks = [[0; 32]; 32];
-    'checkpoints: for i in 0..count {
-        write_checkpoint_chunks(&attestations[i], &mut chunks[4 * i..4 * i + 4]);
-    }
-    hash_layer(&chunks[..4 * count], out);
-}
-
-/// Writes the chunks below the root of an attestation's data, whose checkpoints have these roots.
-#[tactic(auto, unfolding(crate::specs::inside::AttestationChunks::content_chunks))]
-fn write_content(attestation: &Attestation, source: &Root, target: &Root, out: &mut [Root])
-    requires source { source.now ≡ checkpoint_codec.hash_tree_root attestation.now.content.source }
-    requires target { target.now ≡ checkpoint_codec.hash_tree_root attestation.now.content.target }
-    requires out { length out.old ≡ 8 }
-    ensures { out.new ≡ content_chunks attestation.now }
+/// Writes the chunks of an attestation's slot and its index, and the two of its first 512 bits.
+#[tactic(auto, unfolding(crate::specs::inside::AttestationChunks::single_chunks, crate::specs::inside::AttestationChunks::bits_chunks))]
+fn write_single_chunks(attestation: &Attestation, out: &mut [Root])
+    requires { length out.old ≡ 4 }
+    ensures { out.new ≡ single_chunks attestation.now }
 {
     let content = &attestation.content;
-    out.copy_from_slice(&[
-        content.slot.root(),
-        content.index.root(),
-        content.beacon_block_root,
-        *source,
-        *target,
-        [0; 32],
-        [0; 32],
-        [0; 32],
-    ]);
+    let [first, second] = attestation.aggregation_bits.as_bits().first_chunks();
+    out.copy_from_slice(&[content.slot.root(), content.index.root(), first, second]);
 }
 
-/// Writes the roots of the data of at most eight attestations, whose checkpoints have these roots.
-fn write_contents(attestations: &[Attestation], checkpoints: &[Root], out: &mut [Root])
+/// Writes an attestation's nodes of the first layer.
+#[tactic(auto, unfolding(crate::specs::inside::AttestationChunks::first_nodes))]
+fn write_first_nodes(attestation: &Attestation, out: &mut [Root])
+    requires { length out.old ≡ 12 }
+    ensures { out.new ≡ first_nodes attestation.now }
+{
+    let (signature, rest) = out.split_at_mut(4);
+    let (checkpoints, singles) = rest.split_at_mut(4);
+    write_signature(attestation, signature);
+    write_checkpoint_chunks(attestation, checkpoints);
+    write_single_chunks(attestation, singles);
+}
+
+/// Writes the roots of the first layer of at most eight attestations.
+fn write_first_roots(attestations: &[Attestation], out: &mut [Root])
     requires few { length attestations.now ≤ 8 }
-    requires checkpoints { checkpoints.now ≡ flat_map checkpoint_roots attestations.now }
-    requires out { length out.old ≡ length attestations.now }
-    ensures { out.new ≡ map content_root attestations.now }
+    requires out { length out.old ≡ 6 * length attestations.now }
+    ensures { out.new ≡ flat_map first_roots attestations.now }
 {
     let count = attestations.len();
-    let mut chunks = [[0; 32]; 64];
-    'contents: for i in 0..count {
-        write_content(
-            &attestations[i],
-            &checkpoints[2 * i],
-            &checkpoints[2 * i + 1],
-            &mut chunks[8 * i..8 * i + 8],
-        );
+    let mut nodes = [[0; 32]; 96];
+    'layer: for i in 0..count {
+        write_first_nodes(&attestations[i], &mut nodes[12 * i..12 * i + 12]);
     }
-    hash_three_layers(&chunks[..8 * count], out);
+    hash_layer(&nodes[..12 * count], out);
 }
 
-/// Writes the chunks below an attestation's root, whose data and signature have these roots.
-#[tactic(auto, unfolding(crate::specs::inside::AttestationChunks::field_chunks, crate::specs::inside::AttestationChunks::bits_root))]
-fn write_fields(attestation: &Attestation, content: &Root, signature: &Root, out: &mut [Root])
-    requires content { content.now ≡ content_root attestation.now }
-    requires signature { signature.now ≡ signature_root attestation.now }
-    requires out { length out.old ≡ 4 }
-    ensures { out.new ≡ field_chunks attestation.now }
+/// Writes an attestation's nodes of the second layer, over its roots of the first.
+#[tactic(auto, unfolding(crate::specs::inside::AttestationChunks::first_roots, crate::specs::inside::AttestationChunks::second_nodes, crate::specs::inside::AttestationChunks::signature_halves))]
+fn write_second_nodes(attestation: &Attestation, firsts: &[Root], out: &mut [Root])
+    requires firsts { firsts.now ≡ first_roots attestation.now }
+    requires out { length out.old ≡ 8 }
+    ensures { out.new ≡ second_nodes attestation.now }
 {
     out.copy_from_slice(&[
-        attestation.aggregation_bits.root(),
-        *content,
-        *signature,
+        firsts[0],
+        firsts[1],
+        attestation.content.beacon_block_root,
+        firsts[2],
+        firsts[3],
         [0; 32],
+        firsts[5],
+        zero_hash(1),
     ]);
 }
 
-/// Writes the two nodes below the root of each of at most eight attestations, whose data and signatures have these roots.
-fn write_halves(
+/// Writes the roots of the second layer of at most eight attestations, over those of the first.
+fn write_second_roots(attestations: &[Attestation], firsts: &[Root], out: &mut [Root])
+    requires few { length attestations.now ≤ 8 }
+    requires firsts { firsts.now ≡ flat_map first_roots attestations.now }
+    requires out { length out.old ≡ 4 * length attestations.now }
+    ensures { out.new ≡ flat_map second_roots attestations.now }
+{
+    let count = attestations.len();
+    let mut nodes = [[0; 32]; 64];
+    'layer: for i in 0..count {
+        write_second_nodes(
+            &attestations[i],
+            &firsts[6 * i..6 * i + 6],
+            &mut nodes[8 * i..8 * i + 8],
+        );
+    }
+    hash_layer(&nodes[..8 * count], out);
+}
+
+/// Writes an attestation's nodes of the third layer, over its roots of the first and the second.
+#[tactic(auto, unfolding(crate::specs::inside::AttestationChunks::first_roots, crate::specs::inside::AttestationChunks::second_roots, crate::specs::inside::AttestationChunks::third_nodes, crate::specs::inside::AttestationChunks::signature_halves))]
+fn write_third_nodes(attestation: &Attestation, firsts: &[Root], seconds: &[Root], out: &mut [Root])
+    requires firsts { firsts.now ≡ first_roots attestation.now }
+    requires seconds { seconds.now ≡ second_roots attestation.now }
+    requires out { length out.old ≡ 6 }
+    ensures { out.new ≡ third_nodes attestation.now }
+{
+    out.copy_from_slice(&[
+        firsts[4],
+        seconds[1],
+        seconds[2],
+        zero_hash(1),
+        seconds[3],
+        zero_hash(2),
+    ]);
+}
+
+/// Writes the roots of the third layer of at most eight attestations, over those of the first and the second.
+fn write_third_roots(
     attestations: &[Attestation],
-    contents: &[Root],
-    signatures: &[Root],
+    firsts: &[Root],
+    seconds: &[Root],
     out: &mut [Root],
 )
     requires few { length attestations.now ≤ 8 }
-    requires contents { contents.now ≡ map content_root attestations.now }
-    requires signatures { signatures.now ≡ map signature_root attestations.now }
+    requires firsts { firsts.now ≡ flat_map first_roots attestations.now }
+    requires seconds { seconds.now ≡ flat_map second_roots attestations.now }
+    requires out { length out.old ≡ 3 * length attestations.now }
+    ensures { out.new ≡ flat_map third_roots attestations.now }
+{
+    let count = attestations.len();
+    let mut nodes = [[0; 32]; 48];
+    'layer: for i in 0..count {
+        write_third_nodes(
+            &attestations[i],
+            &firsts[6 * i..6 * i + 6],
+            &seconds[4 * i..4 * i + 4],
+            &mut nodes[6 * i..6 * i + 6],
+        );
+    }
+    hash_layer(&nodes[..6 * count], out);
+}
+
+/// Writes an attestation's nodes of the fourth layer, over its roots of the third.
+#[tactic(auto, unfolding(crate::specs::inside::AttestationChunks::third_roots, crate::specs::inside::AttestationChunks::fourth_nodes, crate::specs::inside::AttestationChunks::content_halves))]
+fn write_fourth_nodes(attestation: &Attestation, thirds: &[Root], out: &mut [Root])
+    requires thirds { thirds.now ≡ third_roots attestation.now }
+    requires out { length out.old ≡ 4 }
+    ensures { out.new ≡ fourth_nodes attestation.now }
+{
+    out.copy_from_slice(&[
+        thirds[0],
+        thirds[1],
+        thirds[2],
+        attestation.aggregation_bits.len().root(),
+    ]);
+}
+
+/// Writes the roots of the fourth layer of at most eight attestations, over those of the third.
+fn write_fourth_roots(attestations: &[Attestation], thirds: &[Root], out: &mut [Root])
+    requires few { length attestations.now ≤ 8 }
+    requires thirds { thirds.now ≡ flat_map third_roots attestations.now }
+    requires out { length out.old ≡ 2 * length attestations.now }
+    ensures { out.new ≡ flat_map fourth_roots attestations.now }
+{
+    let count = attestations.len();
+    let mut nodes = [[0; 32]; 32];
+    'layer: for i in 0..count {
+        write_fourth_nodes(
+            &attestations[i],
+            &thirds[3 * i..3 * i + 3],
+            &mut nodes[4 * i..4 * i + 4],
+        );
+    }
+    hash_layer(&nodes[..4 * count], out);
+}
+
+/// The root of an attestation's bits: this one, where its first two chunks hold them all.
+fn root_of_bits(attestation: &Attestation, two_chunks: &Root) -> Root
+    requires { two_chunks.now ≡ two_chunks_root attestation.now }
+    ensures { result ≡ bits_root attestation.now }
+{
+    if attestation.aggregation_bits.len() <= 512 {
+        *two_chunks
+    } else {
+        attestation.aggregation_bits.root()
+    }
+}
+
+/// The root of an attestation's signature is that over its chunks, since it has 96 bytes.
+fn is_root_of_signature(attestation: &Attestation)
+    ensures { signature_chunk_root attestation.now ≡ signature_root attestation.now }
+{
+    let _long = &attestation.signature;
+}
+
+/// Writes the chunks below an attestation's root, over its roots of the second and the fourth layer.
+#[tactic(auto, unfolding(crate::specs::inside::AttestationChunks::second_roots, crate::specs::inside::AttestationChunks::fourth_roots, crate::specs::inside::AttestationChunks::field_chunks))]
+fn write_fields(attestation: &Attestation, seconds: &[Root], fourths: &[Root], out: &mut [Root])
+    requires seconds { seconds.now ≡ second_roots attestation.now }
+    requires fourths { fourths.now ≡ fourth_roots attestation.now }
+    requires out { length out.old ≡ 4 }
+    ensures { out.new ≡ field_chunks attestation.now }
+{
+    is_root_of_signature(attestation);
+    out.copy_from_slice(&[
+        root_of_bits(attestation, &fourths[1]),
+        fourths[0],
+        seconds[0],
+        [0; 32],
+    ]);
+}
+
+/// Writes the two nodes below the root of each of at most eight attestations, over their roots of the second and the fourth layer.
+fn write_halves(attestations: &[Attestation], seconds: &[Root], fourths: &[Root], out: &mut [Root])
+    requires few { length attestations.now ≤ 8 }
+    requires seconds { seconds.now ≡ flat_map second_roots attestations.now }
+    requires fourths { fourths.now ≡ flat_map fourth_roots attestations.now }
     requires out { length out.old ≡ 2 * length attestations.now }
     ensures { out.new ≡ flat_map halves_of attestations.now }
 {
     let count = attestations.len();
-    let mut chunks = [[0; 32]; 32];
-    'fields: for i in 0..count {
+    let mut nodes = [[0; 32]; 32];
+    'layer: for i in 0..count {
         write_fields(
             &attestations[i],
-            &contents[i],
-            &signatures[i],
-            &mut chunks[4 * i..4 * i + 4],
+            &seconds[4 * i..4 * i + 4],
+            &fourths[2 * i..2 * i + 2],
+            &mut nodes[4 * i..4 * i + 4],
         );
     }
-    hash_layer(&chunks[..4 * count], out);
+    hash_layer(&nodes[..4 * count], out);
 }
 
 /// Writes the two nodes below the root of each of at most eight attestations: that over its bits and its data, and that over its
@@ -193,16 +260,19 @@ pub(crate) fn write_attestation_halves(attestations: &[Attestation], out: &mut [
     ensures { out.new ≡ flat_map halves_of attestations.now }
 {
     let count = attestations.len();
+    let mut room = [[0; 32]; 48];
+    let firsts = &mut room[..6 * count];
+    write_first_roots(attestations, firsts);
+    let mut room = [[0; 32]; 32];
+    let seconds = &mut room[..4 * count];
+    write_second_roots(attestations, firsts, seconds);
+    let mut room = [[0; 32]; 24];
+    let thirds = &mut room[..3 * count];
+    write_third_roots(attestations, firsts, seconds, thirds);
     let mut room = [[0; 32]; 16];
-    let checkpoints = &mut room[..2 * count];
-    write_checkpoints(attestations, checkpoints);
-    let mut room = [[0; 32]; 8];
-    let contents = &mut room[..count];
-    write_contents(attestations, checkpoints, contents);
-    let mut room = [[0; 32]; 8];
-    let signatures = &mut room[..count];
-    write_signatures(attestations, signatures);
-    write_halves(attestations, contents, signatures, out);
+    let fourths = &mut room[..2 * count];
+    write_fourth_roots(attestations, thirds, fourths);
+    write_halves(attestations, seconds, fourths, out);
 }
 
 /// Writes the root of each attestation, of which these are the two nodes below it.

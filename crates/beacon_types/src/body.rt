@@ -3,6 +3,7 @@
 ghost use Rattle.std.specs.Prelude.{◌≡◌, ◌≤◌, ◌^◌, [], refl, IfOk, OnOk, IsTrue, ◌↔◌};
 ghost use Rattle.hash_tree.specs.Merkle.{merkleize, mix_in_length as mixed_in};
 ghost use Rattle.ssz_codec.specs.Lists.{list_codec};
+ghost use Rattle.beacon_types.specs.Containers.{eth1_data_codec};
 ghost use Rattle.beacon_types.specs.Blocks.{attestation_codec, block_body_codec, max_attestations, default_block_body, empty_body_root as root_of_default};
 ghost use Rattle.beacon_types.specs.laws.Blocks.{block_body_lawful};
 
@@ -165,16 +166,17 @@ fn root_unless_empty<T: Leaf>(list: &T, length: u64, empty: &Root) -> Root
 }
 
 impl BeaconBlockBody {
-    /// The root of the body, whose list of attestations has this root. It takes no memory.
-    pub(crate) fn root_with(&self, attestations: &Root) -> Root
-        requires { attestations.now ≡ (list_codec attestation_codec max_attestations).hash_tree_root self.now.attestations }
+    /// The root of the body, whose vote for the deposit contract and whose list of attestations have these roots. It takes no memory.
+    pub(crate) fn root_with(&self, eth1_data: &Root, attestations: &Root) -> Root
+        requires vote { eth1_data.now ≡ eth1_data_codec.hash_tree_root self.now.eth1_data }
+        requires attestations { attestations.now ≡ (list_codec attestation_codec max_attestations).hash_tree_root self.now.attestations }
         ensures { result ≡ block_body_codec.hash_tree_root self.now }
     {
         let (proposers, attesters) = (&self.proposer_slashings, &self.attester_slashings);
         let (deposits, exits) = (&self.deposits, &self.voluntary_exits);
         fields_root(&[
             self.randao_reveal.root(),
-            self.eth1_data.root(),
+            *eth1_data,
             self.graffiti,
             root_unless_empty(proposers, proposers.len(), &EMPTY_OF_SIXTEEN),
             root_unless_empty(attesters, attesters.len(), &EMPTY_OF_TWO),
@@ -189,7 +191,7 @@ impl Leaf for BeaconBlockBody {
     ghost root_of = { block_body_codec.hash_tree_root };
 
     fn root(&self) -> Root {
-        self.root_with(&self.attestations.root())
+        self.root_with(&self.eth1_data.root(), &self.attestations.root())
     }
 }
 

@@ -5,7 +5,7 @@
 
 ghost use Rattle.std.specs.Prelude.{◌≡◌, ◌≤◌, ◌++◌, length, IfOk, OnOk};
 ghost use Rattle.ssz_codec.specs.Lists.{variable_size_list};
-ghost use Rattle.beacon_types.specs.Containers.{pending_attestation_codec};
+ghost use Rattle.beacon_types.specs.Containers.{eth1_data_codec, pending_attestation_codec};
 ghost use Rattle.beacon_types.specs.Blocks.{attestation_codec, block_body_codec, max_attestations};
 ghost use Rattle.beacon_types.specs.inside.AttestationChunks.{vote_root};
 ghost use Rattle.beacon_types.specs.inside.RootedAttestations.{pending_of};
@@ -142,12 +142,13 @@ fn list_root(attestations: &[RootedAttestation<'_>]) -> Root
 }
 
 impl BeaconBlockBody {
-    /// The root of the body, whose attestations are these. It takes no memory.
-    pub fn root_over(&self, attestations: &[RootedAttestation<'_>]) -> Root
-        requires { attestations.now ≡ self.now.attestations }
+    /// The root of the body, whose vote for the deposit contract has this root, and whose attestations are these. It takes no memory.
+    pub fn root_over(&self, eth1_data: &Root, attestations: &[RootedAttestation<'_>]) -> Root
+        requires vote { eth1_data.now ≡ eth1_data_codec.hash_tree_root self.now.eth1_data }
+        requires attestations { attestations.now ≡ self.now.attestations }
         ensures { result ≡ block_body_codec.hash_tree_root self.now }
     {
         let _few = self.attestations.len();
-        self.root_with(&list_root(attestations))
+        self.root_with(eth1_data, &list_root(attestations))
     }
 }

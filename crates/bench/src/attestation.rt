@@ -10,6 +10,7 @@ use balance_totals::{count_active, current_epoch, previous_epoch};
 use bc_words::Stop;
 use beacon_state::State;
 use beacon_types::{Attestation, RootedAttestation};
+use block_operations::PendingVotes;
 use block_operations::process_attestation::process_counted_attestation;
 use ssz_codec::Ssz;
 use std::time::CpuClock;
@@ -19,7 +20,7 @@ const TIMES: u32 = 32;
 
 /// The time of one attestation.
 fn time_one(
-    rt: &impl CpuClock,
+    rt: &(impl AllocGlobal + CpuClock),
     state: &mut State,
     attestation: &Attestation,
     previous: u64,
@@ -30,13 +31,15 @@ fn time_one(
 {
     let begin = now(rt);
     let rooted = RootedAttestation::of(attestation);
-    process_counted_attestation(state, &rooted, 0, previous, current)?;
+    let mut votes = PendingVotes::none(rt.alloc(), state);
+    process_counted_attestation(state, &rooted, 0, previous, current, &mut votes)?;
+    votes.put(state)?;
     Ok(time_since(rt, begin))
 }
 
 /// The time of one attestation into an equal state.
 fn time_shared(
-    rt: &impl CpuClock,
+    rt: &(impl AllocGlobal + CpuClock),
     state: &State,
     attestation: &Attestation,
     previous: u64,
@@ -51,7 +54,7 @@ fn time_shared(
 
 /// The time of so many attestations, each into an equal state, with how many validators are active in its two epochs.
 fn time_times(
-    rt: &impl CpuClock,
+    rt: &(impl AllocGlobal + CpuClock),
     state: &State,
     attestation: &Attestation,
     previous: u64,
@@ -68,7 +71,11 @@ fn time_times(
 }
 
 /// The time of so many attestations, each into an equal state.
-fn time_all(rt: &impl CpuClock, state: &State, attestation: &Attestation) -> Result<Time, Stop> {
+fn time_all(
+    rt: &(impl AllocGlobal + CpuClock),
+    state: &State,
+    attestation: &Attestation,
+) -> Result<Time, Stop> {
     let previous = count_active(state, previous_epoch(state));
     let current = count_active(state, current_epoch(state));
     time_times(rt, state, attestation, previous, current)

@@ -7,6 +7,7 @@ use crate::states::{Reading, Shape, read_mainnet};
 use anyhow::Result;
 use bc_words::Stop;
 use beacon_state::State;
+use hash_tree::Leaf;
 use std::time::CpuClock;
 
 /// How many validators there are.
@@ -34,7 +35,7 @@ fn change_places(state: &mut State, number: u64) -> Result<(), Stop> {
 fn change(state: &mut State, number: u64) -> Result<(), Stop> {
     change_places(state, number)?;
     let vote = state.eth1_data();
-    Ok(state.push_eth1_data_votes(vote)?)
+    Ok(state.push_eth1_data_votes(vote, vote.root())?)
 }
 
 /// What the roots of a state took, and what their first bytes are joined to.

@@ -5,6 +5,7 @@ pub mod Ascending
 pub mod Each
 pub mod Members
 pub mod AmongActive
+pub mod WithVotes
 pub mod Registry
 pub mod Branch
 pub mod Joining

@@ -1,13 +1,15 @@
-//! The two lists of pending attestations, and how one more comes into them.
+//! How one more vote comes among those for the two lists of pending attestations.
 
-ghost use Rattle.std.specs.Prelude.{◌≡◌, ◌^◌, ◌≤◌, IfOk};
-ghost use Rattle.bc_words.specs.Outcome.{Changes};
+ghost use Rattle.std.specs.Prelude.{◌≡◌, IfOk, OnOk};
+ghost use Rattle.bc_words.specs.Outcome.{Moves};
 ghost use Rattle.beacon_types.specs.Containers.{pending_attestation_codec};
 ghost use Rattle.beacon_types.specs.Equality.{same_checkpoint};
 ghost use Rattle.spec_state.specs.States.{attestations_limit};
-ghost use Rattle.block_operations.specs.inside.Pending.{full_or_empty, with_current_attested, with_previous_attested, with_attested};
+ghost use Rattle.block_operations.specs.WithVotes.{with_votes, HasRoom};
+ghost use Rattle.block_operations.specs.inside.Pending.{with_current_attested, with_previous_attested, with_attested};
 ghost use Rattle.beacon_types.specs.inside.RootedAttestations.{pending_of};
 
+use crate::pending_votes::PendingVotes;
 use balance_totals::current_epoch;
 use bc_words::{NoMemory, Refusal, Stop};
 use beacon_state::State;
@@ -22,17 +24,6 @@ fn attestations_limit(state: &State) -> u64
     let preset = state.preset();
     preset.bounds();
     preset.max_attestations * preset.slots_per_epoch
-}
-
-/// Why an attestation of nobody is refused: a full list comes first.
-fn full_or_empty(len: u64, limit: u64) -> Refusal
-    ensures { result ≡ full_or_empty len limit }
-{
-    if len < limit {
-        Refusal::AtEmpty
-    } else {
-        Refusal::ListFull
-    }
 }
 
 /// The attestation as it waits in the state.
@@ -59,26 +50,32 @@ fn is_current_source(state: &State, source: &Checkpoint) -> bool
     same_checkpoint(source, &state.current_justified_checkpoint())
 }
 
-/// Puts an attestation, which has this root, into the list of the current epoch, where its source is right, there is room, and somebody attested.
-#[tactic(auto, unfolding(crate::specs::inside::Pending::with_current_attested, spec_blocks::specs::ProcessAttestation::with_current_pending, bc_words::specs::Outcome::checked_push))]
-fn push_current(
-    state: &mut State,
+/// Puts an attestation, which has this root, among the votes for the current epoch, where its source is right, there is room in the
+/// state's list, and somebody attested.
+#[tactic(auto, using(crate::proofs::WithVotes::one_more_current), unfolding(crate::specs::inside::Pending::with_current_attested, spec_blocks::specs::ProcessAttestation::with_current_pending, bc_words::specs::Outcome::checked_push, crate::specs::WithVotes::with_votes))]
+fn vote_for_current(
+    state: &State,
     pending: PendingAttestation,
     root: Root,
     attested: bool,
+    votes: &mut PendingVotes,
 ) -> Result<(), Stop>
-    requires { root ≡ pending_attestation_codec.hash_tree_root pending }
-    ensures { Changes result state.old state.new (with_current_attested state.old pending attested) }
+    requires root { root ≡ pending_attestation_codec.hash_tree_root pending }
+    requires room { HasRoom state.now votes.old }
+    ensures step { Moves result (with_votes state.now votes.new) (with_current_attested (with_votes state.now votes.old) pending attested) }
+    ensures room { OnOk result (HasRoom state.now votes.new) }
 {
     if !is_current_source(state, &pending.content.source) {
         return Err(Stop::Refused(Refusal::AtSource));
     }
-    if !attested {
-        let len = state.current_epoch_attestations_len();
-        let why = full_or_empty(len, attestations_limit(state));
-        return Err(Stop::Refused(why));
+    let limit = attestations_limit(state);
+    if state.current_epoch_attestations_len() + votes.current_len() >= limit {
+        return Err(Stop::Refused(Refusal::ListFull));
     }
-    state.push_current_epoch_attestations(pending, root)?;
+    if !attested {
+        return Err(Stop::Refused(Refusal::AtEmpty));
+    }
+    votes.push_current(pending, root)?;
     Ok(())
 }
 
@@ -89,44 +86,53 @@ fn is_previous_source(state: &State, source: &Checkpoint) -> bool
     same_checkpoint(source, &state.previous_justified_checkpoint())
 }
 
-/// The same with the list of the previous epoch.
-#[tactic(auto, unfolding(crate::specs::inside::Pending::with_previous_attested, spec_blocks::specs::ProcessAttestation::with_previous_pending, bc_words::specs::Outcome::checked_push))]
-fn push_previous(
-    state: &mut State,
+/// Puts an attestation, which has this root, among the votes for the previous epoch, where its source is right, there is room in the
+/// state's list, and somebody attested.
+#[tactic(auto, using(crate::proofs::WithVotes::one_more_previous), unfolding(crate::specs::inside::Pending::with_previous_attested, spec_blocks::specs::ProcessAttestation::with_previous_pending, bc_words::specs::Outcome::checked_push, crate::specs::WithVotes::with_votes))]
+fn vote_for_previous(
+    state: &State,
     pending: PendingAttestation,
     root: Root,
     attested: bool,
+    votes: &mut PendingVotes,
 ) -> Result<(), Stop>
-    requires { root ≡ pending_attestation_codec.hash_tree_root pending }
-    ensures { Changes result state.old state.new (with_previous_attested state.old pending attested) }
+    requires root { root ≡ pending_attestation_codec.hash_tree_root pending }
+    requires room { HasRoom state.now votes.old }
+    ensures step { Moves result (with_votes state.now votes.new) (with_previous_attested (with_votes state.now votes.old) pending attested) }
+    ensures room { OnOk result (HasRoom state.now votes.new) }
 {
     if !is_previous_source(state, &pending.content.source) {
         return Err(Stop::Refused(Refusal::AtSource));
     }
-    if !attested {
-        let len = state.previous_epoch_attestations_len();
-        let why = full_or_empty(len, attestations_limit(state));
-        return Err(Stop::Refused(why));
+    let limit = attestations_limit(state);
+    if state.previous_epoch_attestations_len() + votes.previous_len() >= limit {
+        return Err(Stop::Refused(Refusal::ListFull));
     }
-    state.push_previous_epoch_attestations(pending, root)?;
+    if !attested {
+        return Err(Stop::Refused(Refusal::AtEmpty));
+    }
+    votes.push_previous(pending, root)?;
     Ok(())
 }
 
-/// Puts an attestation, which has this root, into the list of its target's epoch, where its source is right, there is room, and somebody attested.
-/// After a stop the state is as before.
-#[tactic(auto, unfolding(crate::specs::inside::Pending::with_attested, crate::specs::inside::Pending::with_current_attested, crate::specs::inside::Pending::with_previous_attested, spec_blocks::specs::ProcessAttestation::with_pending))]
-pub(crate) fn push_attested(
-    state: &mut State,
+/// Puts an attestation, which has this root, among the votes for its target's epoch, where its source is right, there is room in the
+/// state's list, and somebody attested.
+#[tactic(auto, unfolding(crate::specs::inside::Pending::with_attested, crate::specs::inside::Pending::with_current_attested, crate::specs::inside::Pending::with_previous_attested, spec_blocks::specs::ProcessAttestation::with_pending, crate::specs::WithVotes::with_votes, spec_state::specs::Accessors::get_current_epoch))]
+pub(crate) fn vote_attested(
+    state: &State,
     pending: PendingAttestation,
     root: Root,
     attested: bool,
+    votes: &mut PendingVotes,
 ) -> Result<(), Stop>
-    requires { root ≡ pending_attestation_codec.hash_tree_root pending }
-    ensures { Changes result state.old state.new (with_attested state.old pending attested) }
+    requires root { root ≡ pending_attestation_codec.hash_tree_root pending }
+    requires room { HasRoom state.now votes.old }
+    ensures step { Moves result (with_votes state.now votes.new) (with_attested (with_votes state.now votes.old) pending attested) }
+    ensures room { OnOk result (HasRoom state.now votes.new) }
 {
     if pending.content.target.epoch == current_epoch(state) {
-        push_current(state, pending, root, attested)
+        vote_for_current(state, pending, root, attested, votes)
     } else {
-        push_previous(state, pending, root, attested)
+        vote_for_previous(state, pending, root, attested, votes)
     }
 }

@@ -2,12 +2,14 @@
 
 ghost use Rattle.std.specs.Prelude.{◌≡◌, ◌≤◌, ◌*◌, ◌^◌, length, nat_lt};
 ghost use Rattle.bc_words.specs.Outcome.{Changes};
+ghost use Rattle.beacon_types.specs.Containers.{eth1_data_codec};
 ghost use Rattle.spec_state.specs.States.{votes_limit};
 ghost use Rattle.spec_blocks.specs.ProcessEth1Data.{same_eth1_data, count_votes, process_eth1_data};
 
 use bc_words::Stop;
 use beacon_state::State;
 use beacon_types::{BeaconBlockBody, Eth1Data};
+use hash_tree::Root;
 
 /// Whether the two are equal.
 fn same_eth1_data(a: &Eth1Data, b: &Eth1Data) -> bool
@@ -56,15 +58,16 @@ fn has_won(state: &State, eth1_data: &Eth1Data) -> bool
     limit < count_votes(state, eth1_data) * 2
 }
 
-/// Appends the block's vote for the data of the deposit contract, which becomes that of the state where more than half of a
+/// Appends the block's vote for the data of the deposit contract, which has this root, and which becomes that of the state where more than half of a
 /// period's votes are for it (beacon-chain.md, `process_eth1_data`).
 ///
 /// Refused as a full list exactly where the period has all its votes. After a stop the state is as before.
 #[tactic(auto, unfolding(spec_blocks::specs::ProcessEth1Data::process_eth1_data))]
-pub fn process_eth1_data(state: &mut State, body: &BeaconBlockBody) -> Result<(), Stop>
+pub fn process_eth1_data(state: &mut State, body: &BeaconBlockBody, root: Root) -> Result<(), Stop>
+    requires { root ≡ eth1_data_codec.hash_tree_root body.now.eth1_data }
     ensures { Changes result state.old state.new (process_eth1_data state.old body.now) }
 {
-    state.push_eth1_data_votes(body.eth1_data)?;
+    state.push_eth1_data_votes(body.eth1_data, root)?;
     if has_won(state, &body.eth1_data) {
         state.set_eth1_data(body.eth1_data);
     }

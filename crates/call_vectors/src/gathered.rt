@@ -18,6 +18,7 @@ pub fn process_attestation(
     let previous = committees_of_epoch(alloc, state, previous_epoch(state))?;
     let current = committees_of_epoch(alloc, state, current_epoch(state))?;
     block_operations::process_attestation::process_attestation(
+        alloc,
         state,
         attestation,
         proposer,

@@ -5,7 +5,7 @@ use bc_preset::Preset;
 use bc_words::PushStop;
 use beacon_state::State;
 use beacon_types::{Checkpoint, Eth1Data, Validator};
-use hash_tree::Root;
+use hash_tree::{Leaf, Root};
 use std::alloc::Global;
 use std::test::Fail;
 use transition::is_sound;
@@ -99,9 +99,12 @@ fn mixes_change(state: &mut State) -> bool {
 fn votes_fill(state: &mut State) -> bool {
     let mut pushed = true;
     for _ in 0..32 {
-        pushed &= state.push_eth1_data_votes(VOTE).is_ok();
+        pushed &= state.push_eth1_data_votes(VOTE, VOTE.root()).is_ok();
     }
-    let full = matches!(state.push_eth1_data_votes(VOTE), Err(PushStop::Full));
+    let full = matches!(
+        state.push_eth1_data_votes(VOTE, VOTE.root()),
+        Err(PushStop::Full)
+    );
     pushed
         & full
         & (state.eth1_data_votes_len() == 32)

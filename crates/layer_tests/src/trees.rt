@@ -1,15 +1,16 @@
 //! Shared lists against the roots of their items.
 
-ghost use Rattle.std.specs.Prelude.{◌≡◌, ◌<◌, ◌≤◌, length, OnOk};
+ghost use Rattle.std.specs.Prelude.{◌≡◌, ◌+◌, ◌<◌, ◌≤◌, length, IfOk, OnOk};
 ghost use Rattle.tree_nodes.specs.Changes.{AreChanges};
 
 use bc_words::{NoMemory, PushStop, Steps};
-use hash_tree::{Root, merkle_leaves, merkle_u64, mix_in_length};
+use hash_tree::{Leaf, Root, merkle_leaves, merkle_u64, mix_in_length};
 use shared_tree::{PackedList, SharedList, set_after_share};
 use std::alloc::Global;
 use std::marker::Brand;
 use std::sync::ledger::{Blank, Ledger};
 use std::test::Fail;
+use tree_nodes::NewLeaf;
 
 /// The root of a list of these items, of at most sixteen.
 fn root_of(items: &[u64]) -> Root
@@ -110,6 +111,49 @@ fn items_change<L: Ledger>(
     Ok(few && many && full && list.root() == pushed)
 }
 
+/// The leaf of a number.
+fn new_leaf(alloc: Global, item: u64) -> Result<NewLeaf<u64>, NoMemory> {
+    let root = item.root();
+    NewLeaf::known(item, root, alloc)
+}
+
+/// The leaves of numbers.
+fn new_leaves(alloc: Global, items: &[u64]) -> Result<Vec<NewLeaf<u64>>, NoMemory>
+    ensures { IfOk result (λ leaves. length leaves.items ≡ length items.now) }
+{
+    let mut leaves = Vec::new(alloc);
+    'items: for k in 0..items.len() {
+        leaves.push(new_leaf(alloc, items[k])?)?;
+    }
+    Ok(leaves)
+}
+
+/// Appends items to a list at once. The root.
+fn push_some<L: Ledger>(
+    alloc: Global,
+    list: &mut SharedList<u64>,
+    items: &[u64],
+    steps: &mut Steps<L>,
+) -> Result<Root, NoMemory>
+    requires { length list.old.items + length items.now ≤ list.old.limit }
+    ensures { OnOk result ((length list.new.items ≡ length list.old.items + length items.now) × (list.new.limit ≡ list.old.limit)) }
+{
+    let leaves = new_leaves(alloc, items)?;
+    list.push_many(leaves, steps)?;
+    Ok(list.root())
+}
+
+/// Whether a list of three numbers, of at most sixteen, has the roots of its items: after two more at once, and then nine more,
+/// by each of which its tree becomes deeper.
+fn more_are_pushed<L: Ledger>(alloc: Global, steps: &mut Steps<L>) -> Result<bool, NoMemory> {
+    let items = vec![in alloc; 1, 2, 3]?;
+    let mut list = SharedList::<u64>::from_vec(items, 16)?;
+    let few = push_some(alloc, &mut list, &[4, 5], steps)?;
+    let many = push_some(alloc, &mut list, &[6, 7, 8, 9, 10, 11, 12, 13, 14], steps)?;
+    let all = root_of(&[1, 2, 3, 4, 5, 6, 7, 8, 9, 10, 11, 12, 13, 14]);
+    Ok(few == root_of(&[1, 2, 3, 4, 5]) && many == all)
+}
+
 /// Sets two of three numbers at once. The root.
 #[tactic(auto, using(tree_nodes::proofs::Changes::length_changed))]
 fn set_two<L: Ledger>(
@@ -175,7 +219,7 @@ fn packed_list_changes<L: Ledger>(alloc: Global, steps: &mut Steps<L>) -> Result
     numbers_change(alloc, &mut list, steps)
 }
 
-/// Whether both kinds of lists do.
+/// Whether both kinds of lists do, and one that many items are appended to at once.
 fn lists_change<L: Ledger>(alloc: Global, blank: Blank) -> Result<bool, PushStop>
     requires name { blank.name ≡ L.name }
     requires parts { blank.parts ≡ L.parts }
@@ -183,8 +227,9 @@ fn lists_change<L: Ledger>(alloc: Global, blank: Blank) -> Result<bool, PushStop
 {
     let mut steps = Steps::<L>::new(blank);
     let values = list_changes(alloc, &mut steps)?;
+    let more = more_are_pushed(alloc, &mut steps)?;
     let numbers = packed_list_changes(alloc, &mut steps)?;
-    Ok(values && numbers)
+    Ok(values && more && numbers)
 }
 
 #[test]

@@ -3,7 +3,7 @@
 //! Items come from the state above. The tree of their roots is kept with them, so that the root of the list is there without
 //! work, and a change costs one path.
 
-ghost use Rattle.std.specs.Prelude.{◌≡◌, ◌+◌, ◌*◌, ◌<◌, ◌≤◌, ◌^◌, [], ◌∷◌, length, map, replicate, slice_get, slice_set, IfOk, OnOk};
+ghost use Rattle.std.specs.Prelude.{◌≡◌, ◌+◌, ◌*◌, ◌<◌, ◌≤◌, ◌^◌, [], ◌∷◌, ◌++◌, length, map, replicate, slice_get, slice_set, IfOk, OnOk};
 ghost use Rattle.std.specs.Option.{option_map};
 ghost use Rattle.bc_words.specs.Outcome.{Pushes, Becomes, checked_push};
 ghost use Rattle.hash_tree.specs.Merkle.{merkleize, mix_in_length as mixed_in, depth_of as depth_for};
@@ -14,7 +14,7 @@ use hash_tree::{Leaf, Root, depth_of, mix_in_length};
 use std::alloc::Global;
 use std::marker::Model;
 use std::sync::ledger::Ledger;
-use tree_nodes::{Iter, Tree, mix_step};
+use tree_nodes::{Iter, NewLeaf, Tree, mix_step};
 
 /// The items in order, of which there may be so many. Contracts see the list and its limit.
 #[derive(Drop)]
@@ -160,6 +160,25 @@ impl<T: Leaf + Drop> SharedList<T> {
         }
         self.tree.put_known(len, value, root, steps)?;
         self.root = mix_step(&self.tree.top(), len + 1, steps);
+        Ok(())
+    }
+
+    /// More items at the end, whose roots are known. Each node is made anew once: at most a step for each level of the tree and
+    /// item, and one for the length. Where memory is refused, the list is as before and the items are dropped.
+    pub fn push_many<L: Ledger>(
+        &mut self,
+        leaves: Vec<NewLeaf<T>>,
+        steps: &mut Steps<L>,
+    ) -> Result<(), NoMemory>
+        requires fits { length self.old.items + length leaves.items ≤ self.old.limit }
+        ensures push { Becomes result self.old self.new (record self.old { items = self.old.items ++ leaves.items }) }
+        ensures at_most { steps.new ≤ steps.old + (length leaves.items * depth_for self.old.limit + 1) }
+    {
+        if leaves.is_empty() {
+            return Ok(());
+        }
+        self.tree.push_many(leaves, steps)?;
+        self.root = mix_step(&self.tree.top(), self.tree.len(), steps);
         Ok(())
     }
 

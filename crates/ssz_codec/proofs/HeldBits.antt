@@ -6,10 +6,10 @@ use Rattle.std.proofs.Math.Pow.{pow_mono}
 use Rattle.std.proofs.Math.Seq.{take-append-add}
 use Rattle.std.proofs.lemmas.Grind.{and_numeral, flat_map-append, one_shifted}
 use Rattle.std.proofs.lemmas.Option.{slice_get-get_or}
-use Rattle.std.proofs.lemmas.List.{take_all, take-append-drop, length-append, length-take, length-take-le, length-drop, get_or_append_left, get_or-append_right, get_or-take, get_or_default, append-nil}
+use Rattle.std.proofs.lemmas.List.{take_all, take-append-drop, length-append, length-take-le, length-drop, get_or_append_left, get_or-append_right, get_or-take, get_or_default, append-nil}
 use Rattle.ssz_codec.specs.Basic.{number_bits}
 use Rattle.hash_tree.specs.Merkle.{bits_number}
-use Rattle.hash_tree.specs.Merkle.{packed_bits, bits_bytes}
+use Rattle.hash_tree.specs.Merkle.{bits_bytes}
 use Rattle.hash_tree.proofs.Bits.{bits_bytes_one}
 use Rattle.ssz_codec.specs.BitLists.{bit_list_bytes}
 use Rattle.ssz_codec.specs.laws.Basic.{bits_bytes_len, bits_bytes_nil, bits_bytes_step, packed_fits}

@@ -1,5 +1,5 @@
 -- Lists of bits (simple-serialize.md, "Bitlist[N]").
-use Rattle.std.specs.Prelude.{ℕ, zero, suc, ◌+◌, ◌/◌, ◌%◌, ◌≤◌, Bool, true, false, List, [], ◌∷◌, ◌++◌, length, take, drop, Option, Some, None, nat_lt, ◌==◌, if◌then◌else◌}
+use Rattle.std.specs.Prelude.{ℕ, zero, suc, ◌/◌, ◌%◌, ◌≤◌, Bool, true, false, List, [], ◌∷◌, ◌++◌, length, Option, Some, None, nat_lt, ◌==◌, if◌then◌else◌}
 use Rattle.hash_tree.specs.Merkle.{merkleize, mix_in_length, bit_chunk_count, byte_chunks, bits_bytes}
 use Rattle.ssz_codec.specs.declared.layout.Field.TheVariants.{Variable}
 use Rattle.ssz_codec.specs.Layout.{◌and_then◌}

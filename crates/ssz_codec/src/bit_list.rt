@@ -2,8 +2,8 @@
 //!
 //! Bytes come from containers; bits go to those who look up which members attested, and roots to the containers.
 
-ghost use Rattle.std.specs.Prelude.{◌≡◌, ℕ, ◌+◌, ◌*◌, ◌/◌, ◌^◌, ◌<◌, ◌≤◌, List, Bool, length, slice_get, take, OnOk, OnErr, IfOk, IsTrue, ◌↔◌, Some, ◌++◌, ◌==◌, ◌∷◌, [], cond};
-ghost use Rattle.hash_tree.specs.Merkle.{byte_chunks, bit_chunk_count};
+ghost use Rattle.std.specs.Prelude.{◌≡◌, ℕ, ◌+◌, ◌*◌, ◌/◌, ◌^◌, ◌<◌, ◌≤◌, List, Bool, length, slice_get, take, drop, OnOk, OnErr, IfOk, IsTrue, ◌↔◌, Some, ◌++◌, ◌==◌, ◌∷◌, [], cond};
+ghost use Rattle.hash_tree.specs.Merkle.{byte_chunks, bit_chunk_count, bits_bytes, chunks_of, padded_chunk};
 ghost use Rattle.ssz_codec.specs.Basic.{number_bits};
 ghost use Rattle.ssz_codec.specs.BitLists.{parse_bit_list, bit_list_bytes, bitlist};
 ghost use Rattle.ssz_codec.specs.laws.BitLists.{whole_bits};
@@ -12,7 +12,7 @@ ghost use Rattle.ssz_codec.specs.Reads.{ReadsAs, Reads};
 use crate::fault::SszFault;
 use crate::writer::Writer;
 use bc_words::NoMemory;
-use hash_tree::{Root, depth_of, merkle_bytes, mix_in_length};
+use hash_tree::{Root, chunk_root, depth_of, merkle_bytes, mix_in_length};
 use std::alloc::Global;
 use std::marker::Model;
 
@@ -43,6 +43,14 @@ fn bit_chunks(bits: u64) -> u64
     ensures low { result ≤ 2 ^ 40 }
 {
     (bits + 255) / 256
+}
+
+/// The chunk of the bytes from a place on, where those that are missing are zeros.
+fn chunk_from(bytes: &[u8], begin: usize) -> Root
+    ensures { result ≡ padded_chunk (take 32 (drop begin bytes.now)) }
+{
+    let rest = &bytes[begin.min(bytes.len())..];
+    chunk_root(&rest[..rest.len().min(32)])
 }
 
 /// A byte of which so many bits are in use, with one more above them.
@@ -176,6 +184,13 @@ impl BitList {
             Ok(()) => Ok(out.finish()),
             Err(refused) => Err(refused),
         }
+    }
+
+    /// The first two chunks of the bits (simple-serialize.md, "pack_bits"), which are zero where there are none.
+    pub fn first_chunks(&self) -> [Root; 2]
+        ensures { result ≡ chunks_of 2 (bits_bytes self.now) }
+    {
+        [chunk_from(&self.bytes, 0), chunk_from(&self.bytes, 32)]
     }
 
     /// The root, as a list of at most so many bits (simple-serialize.md, "Merkleization").

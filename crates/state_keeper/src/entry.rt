@@ -29,8 +29,8 @@ fn keep_state<S: Drop>(
     distance: u32,
     state: S,
 ) -> Result<(Option<usize>, Option<S>), NoMemory>
-    ensures place { IfOk result (λ kept. kept.0 ≡ place_of distance (states.old.len)) }
-    ensures kept { OnOk result (IfSome (place_of distance (states.old.len)) (λ place. slice_get states.new.items place ≡ Some state)) }
+    ensures place { IfOk result (λ kept. kept.0 ≡ place_of distance states.old.len) }
+    ensures kept { OnOk result (IfSome (place_of distance states.old.len) (λ place. slice_get states.new.items place ≡ Some state)) }
     ensures stay { Stay states.old.items states.new.items }
     ensures other { IfOk result (λ kept. IfSome kept.1 (λ s. s ≡ state)) }
     ensures succeeds { states.old.len < states.old.cap → IsOk result }
@@ -55,9 +55,9 @@ pub(crate) fn push_entry<B: Drop, S: Drop>(
     state: S,
     seen: Snapshot<S>,
 ) -> Result<Option<S>, NoMemory>
-    ensures items { OnOk result (entries.new.items ≡ entries.old.items ++ record { block = block; parent = parent; distance = distance; kept = place_of distance (states.old.len); state = seen } ∷ []) }
+    ensures items { OnOk result (entries.new.items ≡ entries.old.items ++ record { block = block; parent = parent; distance = distance; kept = place_of distance states.old.len; state = seen } ∷ []) }
     ensures same { OnErr result (entries.new.items ≡ entries.old.items) }
-    ensures kept { OnOk result (IfSome (place_of distance (states.old.len)) (λ place. slice_get states.new.items place ≡ Some state)) }
+    ensures kept { OnOk result (IfSome (place_of distance states.old.len) (λ place. slice_get states.new.items place ≡ Some state)) }
     ensures stay { Stay states.old.items states.new.items }
     ensures other { IfOk result (λ other. IfSome other (λ s. s ≡ state)) }
     ensures succeeds { entries.old.len < entries.old.cap → states.old.len < states.old.cap → IsOk result }

@@ -3,7 +3,7 @@
 //!
 //! Values come from reading and from those who change the state, and go to getters, writing and roots.
 
-ghost use Rattle.std.specs.Prelude.{◌≡◌, ◌<◌, ◌≤◌, ◌^◌, [], length, slice_get, slice_set, IfOk};
+ghost use Rattle.std.specs.Prelude.{◌≡◌, ◌+◌, ◌<◌, ◌≤◌, ◌^◌, [], ◌++◌, length, slice_get, slice_set, IfOk};
 ghost use Rattle.std.specs.List.{AllByRecursion};
 ghost use Rattle.std.specs.Option.{option_map};
 ghost use Rattle.bc_words.specs.Outcome.{Pushes, Becomes, checked_push};
@@ -20,6 +20,7 @@ use ssz_codec::{FixedSsz, Items};
 use std::alloc::Global;
 use std::marker::{Brand, Model};
 use std::sync::ledger::{Blank, Ledger};
+use tree_nodes::NewLeaf;
 
 /// The values in order, and how many there may be: of a vector, how many there are.
 #[derive(Drop)]
@@ -88,6 +89,22 @@ fn set_items<T: Leaf + Drop, L: Ledger>(
 {
     let mut steps = Steps::<L>::new(blank);
     list.set_many(changes, &mut steps)
+}
+
+/// Puts more items, whose roots are known, at the end of a list, with a counter of its own.
+fn push_items<T: Leaf + Drop, L: Ledger>(
+    list: &mut SharedList<T>,
+    leaves: Vec<NewLeaf<T>>,
+    blank: Blank,
+) -> Result<(), NoMemory>
+    requires name { blank.name ≡ L.name }
+    requires parts { blank.parts ≡ L.parts }
+    requires some { 0 < blank.parts }
+    requires fits { length list.old.items + length leaves.items ≤ list.old.limit }
+    ensures { Becomes result list.old list.new (record list.old { items = list.old.items ++ leaves.items }) }
+{
+    let mut steps = Steps::<L>::new(blank);
+    list.push_many(leaves, &mut steps)
 }
 
 /// Makes a list of these items. Where there are as many as before, the nodes over those that are the same are kept, and else
@@ -201,6 +218,18 @@ impl<T: InRange> Values<T> {
             change.1.in_range();
         }
         set_items::<T, Brand>(&mut self.list, changes, Blank::new(1))
+    }
+
+    /// More values at the end, whose roots are known. The paths to them are made anew once. Where memory is refused, they are
+    /// as before.
+    pub fn push_many(&mut self, leaves: Vec<NewLeaf<T>>) -> Result<(), NoMemory>
+        requires { length self.old.items + length leaves.items ≤ self.old.limit }
+        ensures { Becomes result self.old self.new (record self.old { items = self.old.items ++ leaves.items }) }
+    {
+        for leaf in &leaves {
+            leaf.item().in_range();
+        }
+        push_items::<T, Brand>(&mut self.list, leaves, Blank::new(1))
     }
 
     /// Writes other values in the place of all of them. Where there are as many, only the paths to those that differ are made

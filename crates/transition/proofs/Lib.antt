@@ -1,4 +1,3 @@
-pub mod Counted
 pub mod Loop
 pub mod Tests
 pub mod Blocks

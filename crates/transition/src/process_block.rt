@@ -15,6 +15,7 @@ use beacon_types::{BeaconBlock, RootedAttestation, rooted_attestations};
 use block_operations::process_eth1_data::process_eth1_data;
 use block_operations::process_randao::process_randao;
 use block_operations::process_rooted_header;
+use hash_tree::Leaf;
 use std::alloc::Global;
 
 /// The state keeps the active validators of the previous and the current epoch, and the committees of the current one, where it
@@ -31,7 +32,8 @@ fn keep_epoch(alloc: Global, state: &mut State) -> Result<(), NoMemory>
     keep_committees(alloc, state, now)
 }
 
-/// The parts of a block, one after another. Its attestations come with their roots, which its own root and the state's lists take in.
+/// The parts of a block, one after another. Its attestations come with their roots, which its own root and the state's lists take in,
+/// as they do that of its vote for the deposit contract.
 #[tactic(auto, unfolding(spec_blocks::specs::ProcessBlock::process_block))]
 fn take_parts(
     alloc: Global,
@@ -44,10 +46,11 @@ fn take_parts(
     ensures { Moves result state.new (process_block state.old block.now config.now) }
 {
     let proposer = get_beacon_proposer_index(alloc, state)?;
-    let body_root = block.body.root_over(attestations);
+    let vote_root = block.body.eth1_data.root();
+    let body_root = block.body.root_over(&vote_root, attestations);
     process_rooted_header(state, block, body_root, proposer)?;
     process_randao(state, &block.body)?;
-    process_eth1_data(state, &block.body)?;
+    process_eth1_data(state, &block.body, vote_root)?;
     process_operations(alloc, state, &block.body, attestations, proposer, config)
 }
 

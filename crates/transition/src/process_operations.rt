@@ -1,12 +1,13 @@
 //! The operations of a block (beacon-chain.md, "Operations").
 
-ghost use Rattle.std.specs.Prelude.{◌≡◌, length, IfOk};
+ghost use Rattle.std.specs.Prelude.{◌≡◌, length, IfOk, OnOk};
 ghost use Rattle.bc_words.specs.Outcome.{Moves, GivesBy};
 ghost use Rattle.spec_state.specs.Accessors.{get_current_epoch, get_previous_epoch, get_active_validator_indices};
 ghost use Rattle.spec_blocks.specs.Checks.{each_of};
 ghost use Rattle.spec_blocks.specs.ProcessDeposit.{process_deposit};
 ghost use Rattle.spec_blocks.specs.ProcessOperations.{check_deposit_count, process_operations};
 ghost use Rattle.block_operations.specs.Indexes.{Indexes};
+ghost use Rattle.block_operations.specs.WithVotes.{with_votes, HasRoom};
 ghost use Rattle.transition.specs.inside.Operations.{by_proposer_slashing, by_attester_slashing, by_attestation, by_exit};
 
 use balance_totals::{count_active, current_epoch, previous_epoch};
@@ -17,12 +18,12 @@ use beacon_types::{
     AttesterSlashing, BeaconBlockBody, Deposit, ProposerSlashing, RootedAttestation,
     SignedVoluntaryExit,
 };
-use block_operations::PubkeyIndex;
 use block_operations::process_attestation::process_counted_attestation;
 use block_operations::process_attester_slashing::process_attester_slashing;
 use block_operations::process_deposit::process_deposit;
 use block_operations::process_proposer_slashing::process_proposer_slashing;
 use block_operations::process_voluntary_exit::process_voluntary_exit;
+use block_operations::{PendingVotes, PubkeyIndex};
 use std::alloc::Global;
 
 /// One proposer slashing.
@@ -110,47 +111,69 @@ fn voluntary_exits(
     Ok(())
 }
 
-/// One attestation, with how many validators are active in the state's previous and current epoch, which it leaves as they are.
-#[tactic(auto, using(crate::proofs::Counted::previous_stays, crate::proofs::Counted::current_stays), unfolding(crate::specs::inside::Operations::by_attestation))]
+/// One attestation, among the votes of the block, with how many validators are active in the state's previous and current epoch.
+#[tactic(auto, unfolding(crate::specs::inside::Operations::by_attestation))]
 fn attestation(
-    state: &mut State,
+    state: &State,
     attestation: &RootedAttestation<'_>,
     proposer: u64,
     previous: u64,
     current: u64,
+    votes: &mut PendingVotes,
 ) -> Result<(), Stop>
-    requires previous { previous ≡ length (get_active_validator_indices state.old (get_previous_epoch state.old)) }
-    requires current { current ≡ length (get_active_validator_indices state.old (get_current_epoch state.old)) }
-    ensures step { Moves result state.new (by_attestation proposer state.old attestation.now) }
-    ensures previous { IfOk result (λ _. previous ≡ length (get_active_validator_indices state.new (get_previous_epoch state.new))) }
-    ensures current { IfOk result (λ _. current ≡ length (get_active_validator_indices state.new (get_current_epoch state.new))) }
+    requires previous { previous ≡ length (get_active_validator_indices state.now (get_previous_epoch state.now)) }
+    requires current { current ≡ length (get_active_validator_indices state.now (get_current_epoch state.now)) }
+    requires room { HasRoom state.now votes.old }
+    ensures step { Moves result (with_votes state.now votes.new) (by_attestation proposer (with_votes state.now votes.old) attestation.now) }
+    ensures room { OnOk result (HasRoom state.now votes.new) }
 {
-    process_counted_attestation(state, attestation, proposer, previous, current)
+    process_counted_attestation(state, attestation, proposer, previous, current, votes)
 }
 
-/// Each attestation, in order.
+/// Each attestation, in order, among the votes of the block.
 #[tactic(auto, using(spec_blocks::proofs::Each::each_item))]
 fn each_attestation(
-    state: &mut State,
+    state: &State,
     attestations: &[RootedAttestation<'_>],
     proposer: u64,
     previous: u64,
     current: u64,
+    votes: &mut PendingVotes,
 ) -> Result<(), Stop>
-    requires previous { previous ≡ length (get_active_validator_indices state.old (get_previous_epoch state.old)) }
-    requires current { current ≡ length (get_active_validator_indices state.old (get_current_epoch state.old)) }
-    ensures { Moves result state.new (each_of (by_attestation proposer) state.old attestations.now) }
+    requires previous { previous ≡ length (get_active_validator_indices state.now (get_previous_epoch state.now)) }
+    requires current { current ≡ length (get_active_validator_indices state.now (get_current_epoch state.now)) }
+    requires room { HasRoom state.now votes.old }
+    ensures step { Moves result (with_votes state.now votes.new) (each_of (by_attestation proposer) (with_votes state.now votes.old) attestations.now) }
+    ensures room { OnOk result (HasRoom state.now votes.new) }
 {
     for voted in attestations {
-        attestation(state, voted, proposer, previous, current)?;
+        attestation(state, voted, proposer, previous, current, votes)?;
     }
     Ok(())
 }
 
-/// The attestations of a block: the active validators of the two epochs whose attestations may wait are counted once for all
-/// of them, and not at all where there are none.
+/// The votes of a block's attestations: the active validators of the two epochs whose attestations may wait are counted once for
+/// all of them.
+fn votes_of(
+    alloc: Global,
+    state: &State,
+    attestations: &[RootedAttestation<'_>],
+    proposer: u64,
+) -> Result<PendingVotes, Stop>
+    ensures votes { GivesBy (with_votes state.now) result (each_of (by_attestation proposer) state.now attestations.now) }
+    ensures room { IfOk result (HasRoom state.now) }
+{
+    let mut votes = PendingVotes::none(alloc, state);
+    let previous = count_active(state, previous_epoch(state));
+    let current = count_active(state, current_epoch(state));
+    each_attestation(state, attestations, proposer, previous, current, &mut votes)?;
+    Ok(votes)
+}
+
+/// The attestations of a block. Nothing is done where there are none.
 #[tactic(auto, using(spec_blocks::proofs::Each::no_items))]
 fn attestations(
+    alloc: Global,
     state: &mut State,
     attestations: &[RootedAttestation<'_>],
     proposer: u64,
@@ -160,9 +183,9 @@ fn attestations(
     if attestations.len() == 0 {
         return Ok(());
     }
-    let previous = count_active(state, previous_epoch(state));
-    let current = count_active(state, current_epoch(state));
-    each_attestation(state, attestations, proposer, previous, current)
+    let votes = votes_of(alloc, state, attestations, proposer)?;
+    votes.put(state)?;
+    Ok(())
 }
 
 /// One deposit, with the first index of each key.
@@ -230,7 +253,7 @@ pub fn process_operations(
     check_deposit_count(state, body)?;
     proposer_slashings(state, body.proposer_slashings.as_slice(), proposer, config)?;
     attester_slashings(state, body.attester_slashings.as_slice(), proposer, config)?;
-    attestations(state, attested, proposer)?;
+    attestations(alloc, state, attested, proposer)?;
     deposits(alloc, state, body.deposits.as_slice())?;
     voluntary_exits(state, body.voluntary_exits.as_slice(), config)
 }

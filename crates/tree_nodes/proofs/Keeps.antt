@@ -1,5 +1,5 @@
 -- What a tree keeps after a change.
-use Rattle.std.proofs.Common.{◌≡◌, ℕ, zero, suc, ◌+◌, ◌-◌, ◌*◌, ◌<◌, ◌≤◌, ◌^◌, inl, inr, List, length, map, max, sym, ap, ◌∙◌, arith}
+use Rattle.std.proofs.Common.{◌≡◌, ℕ, zero, suc, ◌+◌, ◌-◌, ◌*◌, ◌<◌, ◌≤◌, ◌^◌, inl, inr, List, length, map, max, refl, sym, ap, ◌∙◌, arith}
 use Rattle.std.proofs.Math.Pow.{pow_mono}
 use Rattle.std.proofs.lemmas.Bool.{cases_lt}
 use Rattle.hash_tree.specs.Merkle.{merkle_root}
@@ -76,6 +76,17 @@ tree_after_all root_of node new low depth len items old_top top sub h same is su
 pub tree_after_many : {A : Type 0} (root_of : A → List ℕ) (node new : ℕ × List A) (low depth len : ℕ) (changes : List (ℕ × A)) (old_top top sub : List ℕ) → IsTree root_of node low depth len old_top → new ≡ (low, changed node.1 changes) → sub ≡ merkle_root new.0 (map root_of new.1) → Lifts low depth sub top → IsTree root_of new low depth len top
 tree_after_many root_of node new low depth len changes old_top top sub h is sub_is lifts =
     tree_after_all root_of node new low depth len (changed node.1 changes) old_top top sub h (length_changed node.1 changes) is sub_is lifts
+
+-- a tree gets no lower by more items
+pub no_lower : (low grown len next : ℕ) → 2 ^ low ≤ 2 * len + 1 → len < next → next ≤ 2 ^ grown → low ≤ grown
+no_lower low grown len next least more room =
+    elim (cases_lt grown low) as (λ _. low ≤ grown) [
+      | inl less ↦
+          let wide : 2 ^ suc grown ≤ 2 ^ low = pow_mono (let above : suc grown ≤ low = omega arith in above) in
+          let twice : 2 ^ suc grown ≡ 2 ^ grown + 2 ^ grown = width_halves (suc grown) grown refl in
+          absurd (omega arith)
+      | inr order ↦ order
+    ]
 
 mul_wider : (n low depth : ℕ) → low ≤ depth → n * low ≤ n * depth
 mul_wider zero low depth h = omega arith

@@ -9,3 +9,4 @@ pub mod Every
 pub mod Plans
 pub mod NewLeaves
 pub mod Doubled
+pub mod Grown

@@ -257,7 +257,7 @@ module _ {A : Type 0} where
             ∙ (sym whole ∙ ap (λ (xs : List A). changed_in from xs cs) (sym items))),
       )
 
-times : (n d : ℕ) → 0 < d → n * d ≡ n * (d - 1) + n
+pub times : (n d : ℕ) → 0 < d → n * d ≡ n * (d - 1) + n
 times zero d h = omega arith
 times (suc n) d h = omega (arith, suc-mul n d, suc-mul n (d - 1), times n d h)
 

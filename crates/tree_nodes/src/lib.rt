@@ -7,6 +7,7 @@ mod build;
 mod find;
 mod iter;
 mod layers;
+mod more;
 mod new_leaves;
 mod node;
 mod plan;
@@ -18,6 +19,7 @@ mod tree;
 mod work;
 
 pub use iter::Iter;
+pub use node::NewLeaf;
 pub use put::{new_items, reaches};
 pub use taking::next_of;
 pub use tree::Tree;

@@ -63,7 +63,7 @@ pub(crate) struct Broad<T: Leaf + Drop> {
 
 /// An item that is to be a leaf of a tree, with its root. Contracts see it as the item.
 #[derive(Drop)]
-pub(crate) struct NewLeaf<T: Leaf + Drop> {
+pub struct NewLeaf<T: Leaf + Drop> {
     leaf: Rc<Item<T>>,
 }
 
@@ -77,12 +77,19 @@ impl<T: Leaf + Drop> Model for NewLeaf<T> {
 
 impl<T: Leaf + Drop> NewLeaf<T> {
     /// The leaf of an item, whose root is known.
-    pub(crate) fn known(item: T, root: Root, alloc: Global) -> Result<NewLeaf<T>, NoMemory>
+    pub fn known(item: T, root: Root, alloc: Global) -> Result<NewLeaf<T>, NoMemory>
         requires { root ≡ T.root_of item }
         ensures { IfOk result (λ new. new ≡ item) }
     {
         let leaf = Rc::new(alloc, Item { root, item })?;
         Ok(NewLeaf { leaf })
+    }
+
+    /// The item.
+    pub fn item(&self) -> &T
+        ensures { result.now ≡ self.now }
+    {
+        &self.leaf.item
     }
 
     /// The tree that is this leaf.

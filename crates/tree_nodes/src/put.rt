@@ -20,7 +20,7 @@ use std::alloc::Global;
 use std::sync::ledger::Ledger;
 
 /// From how many changes on the pairs of a layer are hashed by one call: so many are hashed side by side.
-const LANES: usize = 8;
+pub(crate) const LANES: usize = 8;
 
 /// The tree of a depth whose first leaf is this one, and which has no other. A step for each level.
 fn sprout<T: Leaf + Drop, L: Ledger>(

@@ -4,7 +4,7 @@
 //! smallest tree that has room for the items, so that an item is found by few steps; the root of the whole tree, whose
 //! depth is that of the list's limit, is kept beside it.
 
-ghost use Rattle.std.specs.Prelude.{◌≡◌, ◌+◌, ◌*◌, ◌<◌, ◌≤◌, ◌^◌, [], ◌∷◌, length, map, replicate, slice_get, IfOk, OnOk};
+ghost use Rattle.std.specs.Prelude.{◌≡◌, ◌+◌, ◌*◌, ◌<◌, ◌≤◌, ◌^◌, [], ◌∷◌, ◌++◌, length, map, replicate, slice_get, IfOk, OnOk};
 ghost use Rattle.std.specs.Option.{option_map};
 ghost use Rattle.bc_words.specs.Outcome.{Becomes};
 ghost use Rattle.hash_tree.specs.Merkle.{merkle_root};
@@ -15,6 +15,7 @@ use crate::build::{depth_over, leaves_of};
 use crate::find::find;
 use crate::iter::Iter;
 use crate::layers::{build, layered};
+use crate::more::add_all;
 use crate::node::{NewLeaf, Node};
 use crate::put::{depth_with, put_all, put_or_grow};
 use crate::repeated::repeat_item;
@@ -181,6 +182,33 @@ impl<T: Leaf + Drop> Tree<T> {
         let node = put_all(&self.node, self.low, self.len, changes, self.alloc, steps)?;
         self.top = lift_steps(node.root(), self.low, self.depth, steps);
         self.node = node;
+        Ok(())
+    }
+
+    /// More items behind the last, whose roots are known. Each node is made anew once: at most a step for each level and
+    /// item. Where memory is refused, the tree is as before.
+    pub fn push_many<L: Ledger>(
+        &mut self,
+        leaves: Vec<NewLeaf<T>>,
+        steps: &mut Steps<L>,
+    ) -> Result<(), NoMemory>
+        requires room { length self.old.1 + length leaves.items ≤ 2 ^ self.old.0 }
+        ensures push { Becomes result self.old self.new (self.old.0, self.old.1 ++ leaves.items) }
+        ensures at_most { steps.new ≤ steps.old + length leaves.items * self.old.0 }
+    {
+        let count = leaves.len();
+        if count == 0 {
+            return Ok(());
+        }
+        let len = self.len + count as u64;
+        let low = depth_over(len, self.depth);
+        let node = add_all(
+            &self.node, self.low, low, self.len, leaves, self.alloc, steps,
+        )?;
+        self.top = lift_steps(node.root(), low, self.depth, steps);
+        self.node = node;
+        self.low = low;
+        self.len = len;
         Ok(())
     }
 

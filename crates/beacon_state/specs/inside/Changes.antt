@@ -1,5 +1,5 @@
--- Longer changes of a state, one list at a time: an item more, refused where the list is full, and another one at a place.
-use Rattle.std.specs.Prelude.{ℕ, List, [], slice_set}
+-- Longer changes of a state, one list at a time: an item more, refused where the list is full, another one at a place, and more items.
+use Rattle.std.specs.Prelude.{ℕ, List, [], ◌++◌, slice_set}
 use Rattle.bc_words.specs.Outcome.{Outcome, bind, done, checked_push}
 use Rattle.beacon_types.specs.declared.eth1_data.Eth1Data.{Eth1Data}
 use Rattle.beacon_types.specs.declared.validator.Validator.{Validator}
@@ -19,17 +19,18 @@ one_more_validator s validator = bind (checked_push s.preset.validator_registry_
 abbrev pub one_more_balance : PlainState → ℕ → Outcome PlainState
 one_more_balance s balance = bind (checked_push s.preset.validator_registry_limit s.balances balance) (λ items. done (record s { balances = items }))
 
-abbrev pub one_more_previous_attestation : PlainState → PendingAttestation → Outcome PlainState
-one_more_previous_attestation s attestation = bind (checked_push (attestations_limit s.preset) s.previous_epoch_attestations attestation) (λ items. done (record s { previous_epoch_attestations = items }))
-
-abbrev pub one_more_current_attestation : PlainState → PendingAttestation → Outcome PlainState
-one_more_current_attestation s attestation = bind (checked_push (attestations_limit s.preset) s.current_epoch_attestations attestation) (λ items. done (record s { current_epoch_attestations = items }))
-
 abbrev pub with_previous_attestation_at : PlainState → ℕ → PendingAttestation → PlainState
 with_previous_attestation_at s i attestation = record s { previous_epoch_attestations = slice_set s.previous_epoch_attestations i attestation }
 
 abbrev pub with_current_attestation_at : PlainState → ℕ → PendingAttestation → PlainState
 with_current_attestation_at s i attestation = record s { current_epoch_attestations = slice_set s.current_epoch_attestations i attestation }
+
+-- more attestations behind the last
+abbrev pub with_more_previous_attestations : PlainState → List PendingAttestation → PlainState
+with_more_previous_attestations s attestations = record s { previous_epoch_attestations = s.previous_epoch_attestations ++ attestations }
+
+abbrev pub with_more_current_attestations : PlainState → List PendingAttestation → PlainState
+with_more_current_attestations s attestations = record s { current_epoch_attestations = s.current_epoch_attestations ++ attestations }
 
 -- the attestations of the current epoch are those of the previous one
 abbrev pub with_rotated_attestations : PlainState → PlainState

@@ -3,11 +3,12 @@
 //! What may take memory answers whether it was refused, and then leaves the state as it was. A root that was kept goes with the
 //! first change, and a kept list of active validators with the first validator who isn't active at its epoch as before.
 
-ghost use Rattle.std.specs.Prelude.{◌≡◌, ◌<◌, [], length, slice_set};
+ghost use Rattle.std.specs.Prelude.{◌≡◌, ◌+◌, ◌<◌, ◌≤◌, [], length, slice_set};
 ghost use Rattle.bc_words.specs.Outcome.{Pushes, Becomes};
-ghost use Rattle.beacon_types.specs.Containers.{pending_attestation_codec};
+ghost use Rattle.beacon_types.specs.Containers.{eth1_data_codec};
+ghost use Rattle.spec_state.specs.States.{attestations_limit};
 ghost use Rattle.beacon_state.specs.inside.Changes.{one_more_historical_root, one_more_vote, one_more_validator, one_more_balance};
-ghost use Rattle.beacon_state.specs.inside.Changes.{one_more_previous_attestation, one_more_current_attestation};
+ghost use Rattle.beacon_state.specs.inside.Changes.{with_more_previous_attestations, with_more_current_attestations};
 ghost use Rattle.beacon_state.specs.inside.Changes.{with_previous_attestation_at, with_current_attestation_at, with_rotated_attestations};
 
 use super::{State, registry};
@@ -16,6 +17,7 @@ use beacon_types::{BeaconBlockHeader, Checkpoint, Eth1Data, Fork, PendingAttesta
 use hash_tree::Root;
 use state_parts::Rooted;
 use std::mem;
+use tree_nodes::NewLeaf;
 
 impl State {
     /// Writes when the chain began.
@@ -153,13 +155,14 @@ impl State {
         self.eth1_data_votes.set(i, vote)
     }
 
-    /// Appends one more vote. Full exactly where there are as many as the limit. On an error the
+    /// Appends one more vote, which has this root. Full exactly where there are as many as the limit. On an error the
     /// state is as before.
-    pub fn push_eth1_data_votes(&mut self, vote: Eth1Data) -> Result<(), PushStop>
+    pub fn push_eth1_data_votes(&mut self, vote: Eth1Data, root: Root) -> Result<(), PushStop>
+        requires { root ≡ eth1_data_codec.hash_tree_root vote }
         ensures { Pushes result self.old self.new (one_more_vote self.old vote) }
     {
         self.kept_root = None;
-        self.eth1_data_votes.push(vote)
+        self.eth1_data_votes.push_known(vote, root)
     }
 
     /// Writes another validator at a place. Where memory is refused, the state is as before.
@@ -229,19 +232,16 @@ impl State {
         self.previous_epoch_attestations.set(i, attestation)
     }
 
-    /// Appends one more attestation, which has this root. Full exactly where there are as many as the limit. On an error the
-    /// state is as before.
-    pub fn push_previous_epoch_attestations(
+    /// Appends more attestations, each with its root, for which there is room. Where memory is refused, the state is as before.
+    pub fn append_previous_epoch_attestations(
         &mut self,
-        attestation: PendingAttestation,
-        root: Root,
-    ) -> Result<(), PushStop>
-        requires { root ≡ pending_attestation_codec.hash_tree_root attestation }
-        ensures { Pushes result self.old self.new (one_more_previous_attestation self.old attestation) }
+        leaves: Vec<NewLeaf<PendingAttestation>>,
+    ) -> Result<(), NoMemory>
+        requires { length self.old.previous_epoch_attestations + length leaves.items ≤ attestations_limit self.old.preset }
+        ensures { Becomes result self.old self.new (with_more_previous_attestations self.old leaves.items) }
     {
         self.kept_root = None;
-        self.previous_epoch_attestations
-            .push_known(attestation, root)
+        self.previous_epoch_attestations.push_many(leaves)
     }
 
     /// Writes another attestation at a place. Where memory is refused, the state is as before.
@@ -257,19 +257,16 @@ impl State {
         self.current_epoch_attestations.set(i, attestation)
     }
 
-    /// Appends one more attestation, which has this root. Full exactly where there are as many as the limit. On an error the
-    /// state is as before.
-    pub fn push_current_epoch_attestations(
+    /// Appends more attestations, each with its root, for which there is room. Where memory is refused, the state is as before.
+    pub fn append_current_epoch_attestations(
         &mut self,
-        attestation: PendingAttestation,
-        root: Root,
-    ) -> Result<(), PushStop>
-        requires { root ≡ pending_attestation_codec.hash_tree_root attestation }
-        ensures { Pushes result self.old self.new (one_more_current_attestation self.old attestation) }
+        leaves: Vec<NewLeaf<PendingAttestation>>,
+    ) -> Result<(), NoMemory>
+        requires { length self.old.current_epoch_attestations + length leaves.items ≤ attestations_limit self.old.preset }
+        ensures { Becomes result self.old self.new (with_more_current_attestations self.old leaves.items) }
     {
         self.kept_root = None;
-        self.current_epoch_attestations
-            .push_known(attestation, root)
+        self.current_epoch_attestations.push_many(leaves)
     }
 
     /// Drops all votes for the deposit contract. Where memory is refused, the state is as before.

@@ -5,6 +5,7 @@ use anyhow::Result;
 use bc_words::Stop;
 use beacon_state::State;
 use beacon_types::{BeaconBlock, BeaconBlockBody};
+use hash_tree::Leaf;
 use ssz_codec::Ssz;
 use std::alloc::Global;
 
@@ -28,5 +29,6 @@ pub fn process_eth1_data(
     given: &Given,
 ) -> Result<Result<(), Stop>> {
     let body = BeaconBlockBody::read(alloc, given.input()?)?;
-    Ok(block_operations::process_eth1_data::process_eth1_data(state, &body))
+    let root = body.eth1_data.root();
+    Ok(block_operations::process_eth1_data::process_eth1_data(state, &body, root))
 }

@@ -4,7 +4,7 @@ use Rattle.std.specs.Prelude.{nat_lt, ◌==◌}
 use Rattle.std.specs.List.{flat_map}
 use Rattle.std.proofs.lemmas.Bool.{lt-ltb, ltb-false, le-ltb, eqb-true, ne_eqb}
 use Rattle.std.proofs.Math.Pow.{pow_pos}
-use Rattle.std.proofs.lemmas.List.{take_at, drop_at, take_all, take-append-drop, length-append, length-take-le, length-drop}
+use Rattle.std.proofs.lemmas.List.{take-append-drop, length-append, length-take-le, length-drop}
 use Rattle.ssz_codec.specs.Layout.{◌and_then◌}
 use Rattle.ssz_codec.specs.Basic.{number_bits}
 use Rattle.hash_tree.specs.Merkle.{bits_number, bits_bytes}

@@ -1,0 +1,8 @@
+-- The nodes written so far are those of the attestations.
+use Rattle.std.proofs.Common.{◌≡◌, ◌*◌, length, take}
+use Rattle.std.specs.List.{flat_map}
+use Rattle.beacon_types.specs.inside.AttestationChunks.{third_nodes}
+use Rattle.beacon_types.proofs.attestation_roots.write_third_roots.Given as goal
+
+abbrev pub invariant-layer : goal.invariant-layer
+invariant-layer l = record { room : length l.nodes ≡ 48; so_far : take (6 * l.i) l.nodes ≡ flat_map third_nodes (take l.i l.attestations) }
