@@ -1,6 +1,6 @@
 //! The votes of a block on their way into the two lists of pending attestations.
 //!
-//! PendingVotes come from `pending`, one attestation at a time, and go into the state together, so that the nodes at the end of a list
+//! Votes come from `pending`, one attestation at a time, and go into the state together, so that the nodes at the end of a list
 //! are hashed once for all votes of a block.
 
 ghost use Rattle.std.specs.Prelude.{◌≡◌, ◌++◌, [], ◌∷◌, length, OnOk};
@@ -14,7 +14,7 @@ use hash_tree::Root;
 use std::alloc::Global;
 use std::marker::Model;
 
-/// PendingVotes for the previous and for the current epoch, each with its root. Contracts see the two lists.
+/// Votes for the previous and for the current epoch, each with its root. Contracts see the two lists.
 #[derive(Drop)]
 pub struct PendingVotes {
     previous: Vec<NewLeaf<PendingAttestation>>,

@@ -84,12 +84,12 @@ pub fn check_block(
 fn step_from<V: Visitor>(
     alloc: Global,
     store: &StoreFields,
-    parent: &State,
+    parent: State,
     block: &SignedBeaconBlock,
     visitor: &mut Watched<V>,
 ) -> Result<MadeStep, Stop>
     requires chained { IsChained store.now }
-    requires parent { IsStateBehind store.now.blocks block.now.message.parent_root parent.now }
+    requires parent { IsStateBehind store.now.blocks block.now.message.parent_root parent }
     requires low { block.now.message.slot < 2 ^ 64 }
     requires checked { IsDone (check_block store.now block.now.message) }
     ensures step { Gives result (block_step store.now block.now) }
@@ -146,7 +146,7 @@ fn block_step<V: Visitor>(
     let _slot = block.message.slot;
     check_block(store, array, parent, &block.message)?;
     match kept_state(store.blocks(), keeper, parent) {
-        Ok(state) => step_from(alloc, store, &state, block, visitor),
+        Ok(state) => step_from(alloc, store, state, block, visitor),
         Err(_) => Err(Stop::NoMemory),
     }
 }

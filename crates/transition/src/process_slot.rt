@@ -1,6 +1,6 @@
 //! The end of a slot (beacon-chain.md, "process_slot").
 
-ghost use Rattle.std.specs.Prelude.{◌≡◌, ◌<◌, ◌%◌, length};
+ghost use Rattle.std.specs.Prelude.{◌≡◌, ◌<◌, ◌%◌, length, OnOk};
 ghost use Rattle.bc_words.specs.Outcome.{Becomes};
 ghost use Rattle.spec_state.specs.States.{state_codec};
 ghost use Rattle.spec_state.specs.Genesis.{block_header_of};
@@ -37,22 +37,31 @@ fn root_index(state: &State) -> u64
 }
 
 /// Ends the slot: keeps the state's root, gives it to a block header that has none, and keeps the root of the latest
-/// block. The slot itself doesn't grow. Where memory is refused, the state is as before.
+/// block. The slot itself doesn't grow. Where memory is refused, the state is of no use any more.
 ///
-/// The state's root is computed once, and not at all where the state keeps it. The lists of the state are shared first, which
-/// copies none.
+/// The state's root is computed once, and not at all where the state keeps it.
 #[tactic(auto, unfolding(spec_transition::specs::ProcessSlot::process_slot, spec_state::specs::Genesis::header_root_of))]
-pub fn process_slot(state: &mut State) -> Result<(), NoMemory>
-    ensures { Becomes result state.old state.new (process_slot state.old) }
+pub(crate) fn close_slot(state: &mut State) -> Result<(), NoMemory>
+    ensures { OnOk result (state.new ≡ process_slot state.old) }
 {
     let root = state.root();
     let header = closed_header(state, root);
     let block_root = header.root();
     let index = root_index(state);
+    state.set_state_roots_at(index, root)?;
+    state.set_latest_block_header(header);
+    state.set_block_roots_at(index, block_root)?;
+    Ok(())
+}
+
+/// Ends the slot: keeps the state's root, gives it to a block header that has none, and keeps the root of the latest
+/// block. The slot itself doesn't grow. Where memory is refused, the state is as before: the lists of the state are shared
+/// first, which copies none.
+pub fn process_slot(state: &mut State) -> Result<(), NoMemory>
+    ensures { Becomes result state.old state.new (process_slot state.old) }
+{
     let mut next = state.share()?;
-    next.set_state_roots_at(index, root)?;
-    next.set_latest_block_header(header);
-    next.set_block_roots_at(index, block_root)?;
+    close_slot(&mut next)?;
     *state = next;
     Ok(())
 }

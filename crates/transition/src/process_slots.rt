@@ -1,7 +1,7 @@
 //! The way of a state through slots without a block (beacon-chain.md, "process_slots").
 
-ghost use Rattle.std.specs.Prelude.{◌≡◌, ◌+◌, ◌<◌, ◌^◌, IfOk, OnErr};
-ghost use Rattle.bc_words.specs.Outcome.{Becomes, Gives, GivesBy, Moves};
+ghost use Rattle.std.specs.Prelude.{◌≡◌, ◌+◌, ◌<◌, ◌^◌, IfOk, OnErr, OnOk};
+ghost use Rattle.bc_words.specs.Outcome.{Gives, GivesBy, Moves};
 ghost use Rattle.spec_state.specs.Soundness.{IsSound};
 ghost use Rattle.spec_transition.specs.ProcessSlot.{process_slot};
 ghost use Rattle.spec_transition.specs.ProcessSlots.{is_last_of_epoch, process_slots};
@@ -9,7 +9,7 @@ ghost use Rattle.transition.specs.Shown.{showing, WasShown};
 ghost use Rattle.transition.specs.inside.Visits.{end_visited, next_visited, visited, IsLeft};
 
 use crate::process_epoch::process_epoch;
-use crate::process_slot::process_slot;
+use crate::process_slot::close_slot;
 use crate::step::Step;
 use bc_preset::Config;
 use bc_preset::constants::MAX_SLOTS;
@@ -54,11 +54,11 @@ fn end_epoch<V: Visitor>(
 /// Ends the slot of a sound state, which stays sound. The slot itself doesn't grow.
 #[tactic(auto, using(spec_transition::proofs::Sound::slot_end_sound, spec_transition::proofs::HeaderChecks::ended))]
 fn end_slot(state: &mut State) -> Result<(), NoMemory>
-    ensures step { Becomes result state.old state.new (process_slot state.old) }
+    ensures step { OnOk result (state.new ≡ process_slot state.old) }
     ensures slot { IfOk result (λ _. state.new.slot ≡ state.old.slot) }
     ensures sound { IfOk result (λ _. IsSound state.old → IsSound state.new) }
 {
-    process_slot(state)
+    close_slot(state)
 }
 
 /// One slot: it ends, and its epoch where it is the last one, and the next one begins.
@@ -85,29 +85,30 @@ fn next_slot<V: Visitor>(
 #[tactic(auto, using(bc_words::proofs::Folds::each_index))]
 fn go_to<V: Visitor>(
     alloc: Global,
-    state: &State,
+    state: State,
     slot: u64,
     config: &Config,
     visitor: &mut V,
 ) -> Result<State, Stop>
-    requires later { state.now.slot < slot }
-    requires sound { IsSound state.now }
+    requires later { state.slot < slot }
+    requires sound { IsSound state }
     ensures sound { IfOk result (λ now. IsSound now) }
     ensures slot { IfOk result (λ now. now.slot ≡ slot) }
-    ensures preset { IfOk result (λ now. now.preset ≡ state.now.preset) }
-    ensures step { GivesBy (λ now. (now, visitor.new)) result (visited V.shown visitor.old state.now slot config.now) }
-    ensures seen { WasShown V.shown config.now state.now slot visitor.old visitor.new }
+    ensures preset { IfOk result (λ now. now.preset ≡ state.preset) }
+    ensures step { GivesBy (λ now. (now, visitor.new)) result (visited V.shown visitor.old state slot config.now) }
+    ensures seen { WasShown V.shown config.now state slot visitor.old visitor.new }
 {
     state.preset().bounds();
-    let mut now = state.share()?;
-    for index in state.slot()..slot {
+    let begin = state.slot();
+    let mut now = state;
+    for index in begin..slot {
         next_slot(alloc, &mut now, visitor, config)?;
     }
     Ok(now)
 }
 
 /// Takes the sound state through all slots up to this one (beacon-chain.md, `process_slots`), and shows a visitor each state on
-/// which epoch processing is entered. The given state is untouched, and the new one is sound. The visitor was
+/// which epoch processing is entered. The new state is sound; after a stop there is none. The visitor was
 /// shown all of them, and after a stop those of the first slots, and maybe the one whose processing stopped.
 ///
 /// Refused as not later for a slot that isn't behind the state's, limited where it is more than `MAX_SLOTS` behind it, and
@@ -115,17 +116,17 @@ fn go_to<V: Visitor>(
 #[tactic(auto, unfolding(spec_transition::specs::ProcessSlots::process_slots, crate::specs::Shown::showing))]
 pub fn visit_slots<V: Visitor>(
     alloc: Global,
-    state: &State,
+    state: State,
     slot: u64,
     config: &Config,
     visitor: &mut V,
 ) -> Result<State, Stop>
-    requires sound { IsSound state.now }
+    requires sound { IsSound state }
     ensures sound { IfOk result (λ now. IsSound now) }
     ensures slot { IfOk result (λ now. now.slot ≡ slot) }
-    ensures preset { IfOk result (λ now. now.preset ≡ state.now.preset) }
-    ensures step { GivesBy (λ now. (now, visitor.new)) result (showing V.shown visitor.old (process_slots state.now slot config.now)) }
-    ensures seen { WasShown V.shown config.now state.now slot visitor.old visitor.new }
+    ensures preset { IfOk result (λ now. now.preset ≡ state.preset) }
+    ensures step { GivesBy (λ now. (now, visitor.new)) result (showing V.shown visitor.old (process_slots state slot config.now)) }
+    ensures seen { WasShown V.shown config.now state slot visitor.old visitor.new }
 {
     if slot <= state.slot() {
         return Err(Stop::Refused(Refusal::SlotNotLater));
@@ -136,8 +137,8 @@ pub fn visit_slots<V: Visitor>(
     go_to(alloc, state, slot, config, visitor)
 }
 
-/// Takes the sound state through all slots up to this one (beacon-chain.md, `process_slots`), as `visit_slots` does. The step tells
-/// clauses the states on which epoch processing was entered; none is kept.
+/// Takes the sound state through all slots up to this one (beacon-chain.md, `process_slots`), as `visit_slots` does. The given state
+/// is untouched. The step tells clauses the states on which epoch processing was entered; none is kept.
 #[tactic(auto, using(crate::proofs::Visits::stops_shown))]
 pub fn process_slots(alloc: Global, state: &State, slot: u64, config: &Config) -> Result<Step, Stop>
     requires sound { IsSound state.now }
@@ -147,6 +148,7 @@ pub fn process_slots(alloc: Global, state: &State, slot: u64, config: &Config) -
     ensures step { Gives result (process_slots state.now slot config.now) }
 {
     let mut entered = Seen::new();
-    let state = visit_slots(alloc, state, slot, config, &mut entered)?;
+    let now = state.share()?;
+    let state = visit_slots(alloc, now, slot, config, &mut entered)?;
     Ok(Step { state, entered })
 }

@@ -44,17 +44,17 @@ fn check_state_root(root: &Root, state: &mut State) -> Result<(), Stop>
 #[tactic(auto, unfolding(crate::specs::inside::Visits::block_visited))]
 fn take_block<V: Visitor>(
     alloc: Global,
-    state: &State,
+    state: State,
     block: &SignedBeaconBlock,
     config: &Config,
     visitor: &mut V,
 ) -> Result<State, Stop>
-    requires sound { IsSound state.now }
+    requires sound { IsSound state }
     ensures sound { IfOk result (λ now. IsSound now) }
     ensures slot { IfOk result (λ now. now.slot ≡ block.now.message.slot) }
-    ensures preset { IfOk result (λ now. now.preset ≡ state.now.preset) }
-    ensures step { GivesBy (λ now. (now, visitor.new)) result (transition_visited V.shown visitor.old state.now block.now config.now) }
-    ensures seen { WasShown V.shown config.now state.now block.now.message.slot visitor.old visitor.new }
+    ensures preset { IfOk result (λ now. now.preset ≡ state.preset) }
+    ensures step { GivesBy (λ now. (now, visitor.new)) result (transition_visited V.shown visitor.old state block.now config.now) }
+    ensures seen { WasShown V.shown config.now state block.now.message.slot visitor.old visitor.new }
 {
     let mut now = visit_slots(alloc, state, block.message.slot, config, visitor)?;
     process_block(alloc, &mut now, &block.message, config)?;
@@ -63,8 +63,8 @@ fn take_block<V: Visitor>(
 }
 
 /// Takes the sound state through the slots up to the block's, and then through the block (beacon-chain.md,
-/// `state_transition`), and shows a visitor each state on which epoch processing is entered. The given state is untouched, and
-/// the new one is sound, of the block's slot, and has the block as its latest one. The signature isn't checked. After a stop the
+/// `state_transition`), and shows a visitor each state on which epoch processing is entered. The new state is sound, of the block's
+/// slot, and has the block as its latest one; after a stop there is none. The signature isn't checked. After a stop the
 /// visitor was shown those of the first slots, and maybe the one whose processing stopped.
 ///
 /// Refused, in this order: as the slots and the block are, and as `StateRoot` where the block's state root isn't that of the
@@ -72,18 +72,18 @@ fn take_block<V: Visitor>(
 #[tactic(auto, using(crate::proofs::Visits::transition_shown))]
 pub fn visit_transition<V: Visitor>(
     alloc: Global,
-    state: &State,
+    state: State,
     block: &SignedBeaconBlock,
     config: &Config,
     visitor: &mut V,
 ) -> Result<State, Stop>
-    requires sound { IsSound state.now }
+    requires sound { IsSound state }
     ensures sound { IfOk result (λ now. IsSound now) }
     ensures slot { IfOk result (λ now. now.slot ≡ block.now.message.slot) }
-    ensures preset { IfOk result (λ now. now.preset ≡ state.now.preset) }
+    ensures preset { IfOk result (λ now. now.preset ≡ state.preset) }
     ensures latest { IfOk result (λ now. IsLatest now block.now.message) }
-    ensures step { GivesBy (λ now. (now, visitor.new)) result (showing V.shown visitor.old (state_transition state.now block.now config.now)) }
-    ensures seen { WasShown V.shown config.now state.now block.now.message.slot visitor.old visitor.new }
+    ensures step { GivesBy (λ now. (now, visitor.new)) result (showing V.shown visitor.old (state_transition state block.now config.now)) }
+    ensures seen { WasShown V.shown config.now state block.now.message.slot visitor.old visitor.new }
 {
     take_block(alloc, state, block, config, visitor)
 }
@@ -93,19 +93,19 @@ pub fn visit_transition<V: Visitor>(
 #[tactic(auto, using(crate::proofs::Visits::stops_shown))]
 pub fn visit_step<V: Visitor>(
     alloc: Global,
-    state: &State,
+    state: State,
     block: &SignedBeaconBlock,
     config: &Config,
     watched: &mut Watched<V>,
 ) -> Result<Step, Stop>
-    requires sound { IsSound state.now }
+    requires sound { IsSound state }
     ensures sound { IfOk result (λ step. IsSound step.state) }
     ensures slot { IfOk result (λ step. step.state.slot ≡ block.now.message.slot) }
-    ensures preset { IfOk result (λ step. step.state.preset ≡ state.now.preset) }
+    ensures preset { IfOk result (λ step. step.state.preset ≡ state.preset) }
     ensures latest { IfOk result (λ step. IsLatest step.state block.now.message) }
-    ensures step { Gives result (state_transition state.now block.now config.now) }
+    ensures step { Gives result (state_transition state block.now config.now) }
     ensures shown { IfOk result (λ step. watched.new.visitor ≡ shown_all V.shown watched.old.visitor step.entered) }
-    ensures seen { WasShown V.shown config.now state.now block.now.message.slot watched.old.visitor watched.new.visitor }
+    ensures seen { WasShown V.shown config.now state block.now.message.slot watched.old.visitor watched.new.visitor }
 {
     watched.seen = Seen::new();
     let state = visit_transition(alloc, state, block, config, watched)?;
@@ -114,7 +114,8 @@ pub fn visit_step<V: Visitor>(
 }
 
 /// Takes the sound state through the slots up to the block's, and then through the block (beacon-chain.md, `state_transition`), as
-/// `visit_transition` does. The step tells clauses the states on which epoch processing was entered; none is kept.
+/// `visit_transition` does. The given state is untouched. The step tells clauses the states on which epoch processing was entered;
+/// none is kept.
 #[tactic(auto, using(crate::proofs::Visits::stops_shown))]
 pub fn state_transition(
     alloc: Global,
@@ -130,7 +131,8 @@ pub fn state_transition(
     ensures step { Gives result (state_transition state.now block.now config.now) }
 {
     let mut entered = Seen::new();
-    let state = visit_transition(alloc, state, block, config, &mut entered)?;
+    let now = state.share()?;
+    let state = visit_transition(alloc, now, block, config, &mut entered)?;
     Ok(Step { state, entered })
 }
 

@@ -98,7 +98,8 @@ impl ChainBook {
         ensures genesis { IfOk result (λ state. watch.new.genesis ≡ self.now.book.genesis) }
         ensures step { Reaches result watch.new.entered (state_transition self.now.state block.now self.now.book.config) }
     {
-        visit_transition(alloc, &self.state, block, &self.config, watch)
+        let state = self.state.share()?;
+        visit_transition(alloc, state, block, &self.config, watch)
     }
 
     /// Adds a block to the history, with the number of its event, the state behind it and the watch that was shown the states entered

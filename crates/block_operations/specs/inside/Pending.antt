@@ -1,16 +1,12 @@
 -- An attestation on its way into a list of the state, where it is known already whether somebody attested.
-use Rattle.std.specs.Prelude.{ℕ, Bool, nat_lt, if◌then◌else◌}
+use Rattle.std.specs.Prelude.{Bool}
 use Rattle.bc_words.specs.Outcome.{Outcome, done, ◌>>=◌}
 use Rattle.bc_words.specs.declared.refusal.Refusal.{Refusal}
-use Rattle.bc_words.specs.declared.refusal.Refusal.TheVariants.{AtEmpty, ListFull}
+use Rattle.bc_words.specs.declared.refusal.Refusal.TheVariants.{AtEmpty}
 use Rattle.beacon_types.specs.declared.pending_attestation.PendingAttestation.{PendingAttestation}
 use Rattle.spec_state.specs.declared.plain.PlainState.{PlainState}
 use Rattle.spec_blocks.specs.Checks.{check, ◌>>◌}
 use Rattle.spec_blocks.specs.ProcessAttestation.{with_pending, with_current_pending, with_previous_pending}
-
--- why an attestation of nobody is refused
-abbrev pub full_or_empty : ℕ → ℕ → Refusal
-full_or_empty len limit = if nat_lt len limit then AtEmpty else ListFull
 
 -- it waits in the list of the current epoch, and somebody attested
 unfoldable pub with_current_attested : PlainState → PendingAttestation → Bool → Outcome PlainState

@@ -52,7 +52,8 @@ pub fn slots_lines(alloc: Global, state: &State, given: &Given) -> Result<String
     let mut entered = States::new(alloc);
     match is_sound(alloc, state) {
         Ok(true) => {
-            let outcome = visit_slots(alloc, state, slot, &config, &mut entered);
+            let begin = state.share()?;
+            let outcome = visit_slots(alloc, begin, slot, &config, &mut entered);
             lines_of(alloc, &outcome, &entered)
         }
         _ => bail!("the state isn't sound"),
@@ -69,7 +70,8 @@ fn lines_behind(
     let mut entered = States::new(alloc);
     match is_sound(alloc, state) {
         Ok(true) => {
-            let outcome = visit_transition(alloc, state, block, config, &mut entered);
+            let parent = state.share()?;
+            let outcome = visit_transition(alloc, parent, block, config, &mut entered);
             lines_of(alloc, &outcome, &entered)
         }
         _ => bail!("the state isn't sound"),

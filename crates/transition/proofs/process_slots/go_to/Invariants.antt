@@ -7,10 +7,10 @@ use Rattle.transition.proofs.process_slots.go_to.Given as goal
 
 abbrev pub invariant-loop-index : goal.invariant-loop-index
 invariant-loop-index g l = record {
-  from : l.state.slot ≤ l.index;
+  from : l.fn.state.slot ≤ l.index;
   slot : l.now.slot ≡ l.index;
-  preset : l.now.preset ≡ l.state.preset;
+  preset : l.now.preset ≡ l.fn.state.preset;
   sound : IsSound l.now;
-  shown : each_from (λ index. next_visited g.V.Visitor.shown l.config) (l.index - l.state.slot) l.state.slot (l.state, l.fn.visitor) ≡ done (l.now, l.visitor);
-  left : each_from (λ index. next_visited g.V.Visitor.shown l.config) (l.slot - l.index) l.index (l.now, l.visitor) ≡ visited g.V.Visitor.shown l.fn.visitor l.state l.slot l.config;
+  shown : each_from (λ index. next_visited g.V.Visitor.shown l.config) (l.index - l.fn.state.slot) l.fn.state.slot (l.fn.state, l.fn.visitor) ≡ done (l.now, l.visitor);
+  left : each_from (λ index. next_visited g.V.Visitor.shown l.config) (l.slot - l.index) l.index (l.now, l.visitor) ≡ visited g.V.Visitor.shown l.fn.visitor l.fn.state l.slot l.config;
 }

@@ -6,10 +6,10 @@ use Rattle.transition.proofs.process_slots.visit_slots.Goals as goal
 
 pub returns-clause-step : goal.returns-clause-step
 returns-clause-step g c =
-    subst (GivesBy _ c.go_to.result) (slots_visited g.V.Visitor.shown c.args.config.now c.args.visitor.now c.args.state.now c.args.slot (omega (arith, c.slot.ensures)) (omega (arith, c.slot-2.ensures))) c.go_to.ensures.step
+    subst (GivesBy _ c.go_to.result) (slots_visited g.V.Visitor.shown c.args.config.now c.args.visitor.now c.args.state c.args.slot (omega (arith, c.slot.ensures)) (omega (arith, c.slot-2.ensures))) c.go_to.ensures.step
 
 pub returns-then-slot-clause-seen : goal.returns-then-slot-clause-seen
-returns-then-slot-clause-seen g c = none_shown g.V.Visitor.shown _ c.args.state.now _ _ _ refl
+returns-then-slot-clause-seen g c = none_shown g.V.Visitor.shown _ c.args.state _ _ _ refl
 
 pub returns-then-slot-gt-MAX_SLOTS-clause-seen : goal.returns-then-slot-gt-MAX_SLOTS-clause-seen
-returns-then-slot-gt-MAX_SLOTS-clause-seen g c = none_shown g.V.Visitor.shown _ c.args.state.now _ _ _ refl
+returns-then-slot-gt-MAX_SLOTS-clause-seen g c = none_shown g.V.Visitor.shown _ c.args.state _ _ _ refl

@@ -2,7 +2,7 @@
 use Rattle.std.proofs.Common.{refl}
 use Rattle.spec_state.specs.Genesis.{header_root_of}
 use Rattle.spec_transition.specs.ProcessSlot.{process_slot}
-use Rattle.transition.proofs.process_slot.process_slot.Goals as goal
+use Rattle.transition.proofs.process_slot.close_slot.Goals as goal
 
 pub returns : goal.returns
 unfolding process_slot header_root_of
@@ -11,7 +11,6 @@ returns c =
       c.in_ok-set_block_roots_at.ensures,
       c.set_latest_block_header.ensures,
       c.in_ok-set_state_roots_at.ensures,
-      c.in_ok-next.ensures,
       c.root-block_root.ensures,
       c.closed_header-header.ensures,
       c.root-root.ensures,
