@@ -26,6 +26,8 @@ mod outside;
 #[cfg(test)]
 mod records;
 #[cfg(test)]
+mod registries;
+#[cfg(test)]
 mod safety;
 #[cfg(test)]
 mod shuffles;

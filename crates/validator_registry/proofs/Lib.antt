@@ -1,0 +1,10 @@
+pub mod GroupChanges
+pub mod GroupRoots
+pub mod GroupTrees
+pub mod Groups
+pub mod MemberRoots
+pub mod Members
+pub mod Places
+pub mod RegistryRoots
+pub mod RegistryTrees
+pub mod Walks
