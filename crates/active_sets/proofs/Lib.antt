@@ -1,2 +1,2 @@
 pub mod Following
-pub mod Many
+pub mod Rebalanced

@@ -1,18 +1,18 @@
 //! The list of an epoch's active validators, which states share.
 
 ghost use Rattle.std.specs.Prelude.{◌≡◌, ◌<◌, ◌++◌, ◌∷◌, [], List, length, slice_get, slice_set, IfOk, IfSome, IsTrue, None};
-ghost use Rattle.tree_nodes.specs.Changes.{AreChanges, changed};
 ghost use Rattle.beacon_types.specs.declared.validator.Validator.{Validator};
 ghost use Rattle.spec_state.specs.Predicates.{is_active_validator};
+ghost use Rattle.validator_registry.specs.Registries.{with_balances};
 ghost use Rattle.active_sets.specs.inside.Active.{IsActiveIn};
 
-use crate::predicates::is_active_validator;
+use crate::predicates::{is_active_entry, is_active_validator};
 use bc_words::NoMemory;
 use beacon_types::Validator;
-use shared_tree::SharedList;
 use std::alloc::Global;
 use std::marker::Model;
 use std::rc::Rc;
+use validator_registry::{Entry, Registry};
 
 /// The indices of the validators that are active at an epoch, in order, and the sum of their effective balances, in Gwei, where it
 /// was noted.
@@ -110,33 +110,33 @@ impl ActiveList {
 }
 
 /// Whether a validator is active at an epoch exactly where the one is whose place it takes.
-fn is_active_alike(before: &Validator, after: &Validator, epoch: u64) -> bool
+fn is_active_alike(before: &Entry, after: &Validator, epoch: u64) -> bool
     ensures { IsTrue result → is_active_validator before.now epoch ≡ is_active_validator after.now epoch }
 {
-    is_active_validator(before, epoch) == is_active_validator(after, epoch)
+    is_active_entry(before, epoch) == is_active_validator(after, epoch)
 }
 
 /// The list, so far as it stays true where a validator takes the place of another one.
 #[tactic(auto, using(crate::proofs::Following::list_at, crate::proofs::Following::balance_at))]
 fn changed_at(
     list: ActiveList,
-    validators: &SharedList<Validator>,
+    validators: &Registry,
     i: u64,
     validator: &Validator,
 ) -> Option<ActiveList>
-    requires place { i < length validators.now.items }
-    requires active { IsActiveIn validators.now.items list }
-    ensures before { IfSome result (IsActiveIn validators.now.items) }
-    ensures behind { (registry : List Validator) → slice_get registry i ≡ slice_get validators.now.items i → IsActiveIn registry list → IfSome result (IsActiveIn (slice_set registry i validator.now)) }
+    requires place { i < length validators.now }
+    requires active { IsActiveIn validators.now list }
+    ensures before { IfSome result (IsActiveIn validators.now) }
+    ensures behind { (registry : List Validator) → slice_get registry i ≡ slice_get validators.now i → IsActiveIn registry list → IfSome result (IsActiveIn (slice_set registry i validator.now)) }
 {
     let mut list = list;
     let Some(before) = validators.get(i) else {
         return None;
     };
-    if !is_active_alike(before, validator, list.epoch()) {
+    if !is_active_alike(&before, validator, list.epoch()) {
         return None;
     }
-    if before.effective_balance != validator.effective_balance {
+    if before.effective_balance() != validator.effective_balance {
         list.note_balance(None);
         return Some(list);
     }
@@ -147,12 +147,12 @@ fn changed_at(
 #[tactic(auto, using(crate::proofs::Following::list_behind, crate::proofs::Following::balance_behind))]
 fn pushed_behind(
     list: ActiveList,
-    validators: &SharedList<Validator>,
+    validators: &Registry,
     validator: &Validator,
 ) -> Option<ActiveList>
-    requires { IsActiveIn validators.now.items list }
-    ensures before { IfSome result (IsActiveIn validators.now.items) }
-    ensures behind { IfSome result (IsActiveIn (validators.now.items ++ validator.now ∷ [])) }
+    requires { IsActiveIn validators.now list }
+    ensures before { IfSome result (IsActiveIn validators.now) }
+    ensures behind { IfSome result (IsActiveIn (validators.now ++ validator.now ∷ [])) }
 {
     if is_active_validator(validator, list.epoch()) {
         return None;
@@ -164,45 +164,48 @@ fn pushed_behind(
 /// same validator there.
 pub(crate) fn follow_set(
     kept: &mut Option<ActiveList>,
-    validators: &SharedList<Validator>,
+    validators: &Registry,
     i: u64,
     validator: &Validator,
 )
-    requires place { i < length validators.now.items }
-    requires active { IfSome kept.old (IsActiveIn validators.now.items) }
-    ensures before { IfSome kept.new (IsActiveIn validators.now.items) }
-    ensures behind { (registry : List Validator) → slice_get registry i ≡ slice_get validators.now.items i → IfSome kept.old (IsActiveIn registry) → IfSome kept.new (IsActiveIn (slice_set registry i validator.now)) }
+    requires place { i < length validators.now }
+    requires active { IfSome kept.old (IsActiveIn validators.now) }
+    ensures before { IfSome kept.new (IsActiveIn validators.now) }
+    ensures behind { (registry : List Validator) → slice_get registry i ≡ slice_get validators.now i → IfSome kept.old (IsActiveIn registry) → IfSome kept.new (IsActiveIn (slice_set registry i validator.now)) }
 {
     if let Some(list) = kept.take() {
         *kept = changed_at(list, validators, i, validator);
     }
 }
 
-/// Gives a kept list up so far as it isn't true of the registry any longer once validators take many places.
-pub(crate) fn follow_many(
+/// Gives the sum of a kept list up where an effective balance changes.
+#[tactic(auto, using(crate::proofs::Rebalanced::list_still))]
+pub(crate) fn follow_balances(
     kept: &mut Option<ActiveList>,
-    validators: &SharedList<Validator>,
-    changes: &[(u64, Validator)],
+    validators: &Registry,
+    changes: &[(u64, u64)],
 )
-    requires places { AreChanges 0 (length validators.now.items) changes.now }
-    requires active { IfSome kept.old (IsActiveIn validators.now.items) }
-    ensures before { IfSome kept.new (IsActiveIn validators.now.items) }
-    ensures behind { IfSome kept.new (IsActiveIn (changed validators.now.items changes.now)) }
+    requires { IfSome kept.old (IsActiveIn validators.now) }
+    ensures before { IfSome kept.new (IsActiveIn validators.now) }
+    ensures behind { IfSome kept.new (IsActiveIn (with_balances validators.now changes.now)) }
 {
-    for change in changes {
-        follow_set(kept, validators, change.0, &change.1);
+    if changes.is_empty() {
+        return;
+    }
+    if let Some(list) = kept {
+        list.note_balance(None);
     }
 }
 
 /// Gives a kept list up where it isn't true of the registry any longer once a validator is put behind the others.
 pub(crate) fn follow_push(
     kept: &mut Option<ActiveList>,
-    validators: &SharedList<Validator>,
+    validators: &Registry,
     validator: &Validator,
 )
-    requires { IfSome kept.old (IsActiveIn validators.now.items) }
-    ensures before { IfSome kept.new (IsActiveIn validators.now.items) }
-    ensures behind { IfSome kept.new (IsActiveIn (validators.now.items ++ validator.now ∷ [])) }
+    requires { IfSome kept.old (IsActiveIn validators.now) }
+    ensures before { IfSome kept.new (IsActiveIn validators.now) }
+    ensures behind { IfSome kept.new (IsActiveIn (validators.now ++ validator.now ∷ [])) }
 {
     if let Some(list) = kept.take() {
         *kept = pushed_behind(list, validators, validator);

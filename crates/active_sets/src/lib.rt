@@ -12,4 +12,4 @@ mod predicates;
 pub use active_list::ActiveList;
 pub use active_lists::ActiveLists;
 pub use kept_committees::KeptCommittees;
-pub use predicates::is_active_validator;
+pub use predicates::{is_active_entry, is_active_validator};

@@ -30,9 +30,9 @@ pub fn gather(alloc: Global, state: &State, config: &Config) -> Result<Stakes, N
     let epoch = current_epoch(state);
     let mut list = Vec::with_capacity(alloc, state.validators_len() as usize)?;
     let mut any = false;
-    for validator in state.validator_list().iter() {
-        any = any || stirs(state.preset(), config, epoch, validator);
-        list.push(stake_of(previous, validator))?;
+    for validator in state.registry().iter() {
+        any = any || stirs(state.preset(), config, epoch, &validator);
+        list.push(stake_of(previous, &validator))?;
     }
     Ok(Stakes { list, stirs: any })
 }

@@ -15,7 +15,7 @@ mod stirring;
 mod totals;
 mod validators;
 
-pub use active_sets::is_active_validator;
+pub use active_sets::{is_active_entry, is_active_validator};
 pub use block_roots::{block_root, block_root_at_slot};
 pub use epoch::{committees_of_epoch, keep_committees, kept_committees, shared_committees};
 pub use epochs::{current_epoch, previous_epoch};

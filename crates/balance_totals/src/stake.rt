@@ -3,9 +3,8 @@
 ghost use Rattle.std.specs.Prelude.{◌≡◌, ◌+◌, ◌<◌, ◌^◌, Some, length, slice_get};
 ghost use Rattle.balance_totals.specs.inside.Stakes.{is_reached, stake_of, stakes_of};
 
-use active_sets::is_active_validator;
-use beacon_state::State;
-use beacon_types::Validator;
+use active_sets::is_active_entry;
+use beacon_state::{Entry, State};
 
 /// What an epoch's end reads of a validator.
 #[derive(Clone, Copy)]
@@ -21,24 +20,24 @@ pub struct Stake {
 /// Whether rewards and penalties reach a validator: it was active in the previous epoch, or it is slashed and can't withdraw
 /// yet (beacon-chain.md, `get_eligible_validator_indices`).
 #[tactic(auto, unfolding(crate::specs::inside::Stakes::is_reached))]
-fn is_reached(previous: u64, validator: &Validator) -> bool
+fn is_reached(previous: u64, validator: &Entry) -> bool
     requires { previous + 1 < 2 ^ 64 }
     ensures { result ≡ is_reached previous validator.now }
 {
-    is_active_validator(validator, previous)
-        || (validator.slashed && previous + 1 < validator.withdrawable_epoch)
+    is_active_entry(validator, previous)
+        || (validator.slashed() && previous + 1 < validator.withdrawable_epoch())
 }
 
 /// What is read of a validator.
 #[tactic(auto, unfolding(crate::specs::inside::Stakes::stake_of))]
-pub(crate) fn stake_of(previous: u64, validator: &Validator) -> Stake
+pub(crate) fn stake_of(previous: u64, validator: &Entry) -> Stake
     requires { previous + 1 < 2 ^ 64 }
     ensures { result ≡ stake_of previous validator.now }
 {
     Stake {
-        effective_balance: validator.effective_balance,
+        effective_balance: validator.effective_balance(),
         eligible: is_reached(previous, validator),
-        slashed: validator.slashed,
+        slashed: validator.slashed(),
     }
 }
 

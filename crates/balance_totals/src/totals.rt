@@ -11,7 +11,7 @@ ghost use Rattle.active_sets.specs.inside.Active.{balance_in};
 ghost use Rattle.balance_totals.specs.inside.Sums.{IsNextSum};
 
 use crate::validators::effective_at;
-use active_sets::is_active_validator;
+use active_sets::is_active_entry;
 use bc_words::{NoMemory, Stop, checked_add};
 use beacon_state::State;
 use committees::Lookup;
@@ -44,11 +44,13 @@ fn listed(alloc: Global, state: &State, epoch: u64) -> Result<Listing, NoMemory>
 {
     let mut indices = Vec::new(alloc);
     let mut balance = Some(0);
-    let validators = state.validator_list().iter();
+    let registry = state.registry();
+    let _count = registry.len();
+    let validators = registry.iter();
     for (index, validator) in validators.enumerate() {
-        if is_active_validator(validator, epoch) {
+        if is_active_entry(&validator, epoch) {
             indices.push(index as u64)?;
-            balance = with_summand(balance, validator.effective_balance);
+            balance = with_summand(balance, validator.effective_balance());
         }
     }
     Ok(Listing { indices, balance })
@@ -88,8 +90,8 @@ fn counted(state: &State, epoch: u64) -> u64
 {
     active_are_indices(state, epoch);
     let mut count = 0;
-    for validator in state.validator_list().iter() {
-        if is_active_validator(validator, epoch) {
+    for validator in state.registry().iter() {
+        if is_active_entry(&validator, epoch) {
             count += 1;
         }
     }
@@ -159,9 +161,9 @@ fn summed(state: &State, epoch: u64) -> Result<u64, Stop>
     ensures { GivesExactly result (checked_sum_by (effective_balance state.now.validators) (get_active_validator_indices state.now epoch)) }
 {
     let mut sum = 0;
-    for validator in state.validator_list().iter() {
-        if is_active_validator(validator, epoch) {
-            sum = checked_add(sum, validator.effective_balance)?;
+    for validator in state.registry().iter() {
+        if is_active_entry(&validator, epoch) {
+            sum = checked_add(sum, validator.effective_balance())?;
         }
     }
     Ok(sum)

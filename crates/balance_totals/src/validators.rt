@@ -14,7 +14,7 @@ pub(crate) fn effective_at(state: &State, index: u64) -> u64
     ensures { result ≡ effective_balance state.now.validators index }
 {
     match state.validators_at(index) {
-        Some(validator) => validator.effective_balance,
+        Some(validator) => validator.effective_balance(),
         None => 0,
     }
 }
@@ -25,7 +25,7 @@ pub fn validator_at(state: &State, index: u64) -> Result<Validator, Stop>
     ensures in_registry { IfOk result (λ validator. index < length state.now.validators) }
 {
     match state.validators_at(index) {
-        Some(validator) => Ok(*validator),
+        Some(validator) => Ok(validator.validator()),
         None => Err(Stop::Refused(Refusal::IndexRange)),
     }
 }

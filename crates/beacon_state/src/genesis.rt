@@ -7,9 +7,10 @@ ghost use Rattle.spec_state.specs.Genesis.{is_genesis_header as is_header, is_ze
 
 use crate::state::State;
 use bc_preset::constants::FAR_FUTURE_EPOCH;
-use beacon_types::{BeaconBlockHeader, Checkpoint, Validator, empty_body_root};
+use beacon_types::{BeaconBlockHeader, Checkpoint, empty_body_root};
 use spec_state::{GenesisFault, ValidatorFault};
-use state_parts::{Numbers, Values};
+use state_parts::{Numbers, Validators};
+use validator_registry::Entry;
 
 /// Whether the header is that of an empty block of slot 0.
 fn is_genesis_header(header: &BeaconBlockHeader) -> bool
@@ -31,42 +32,42 @@ fn is_zero_checkpoint(checkpoint: &Checkpoint) -> bool
 
 /// What is wrong with a validator of a genesis state.
 #[tactic(auto, unfolding(spec_state::specs::Genesis::validator_fault))]
-fn validator_fault(most: u64, validator: &Validator) -> Option<ValidatorFault>
+fn validator_fault(most: u64, validator: &Entry) -> Option<ValidatorFault>
     ensures { result ≡ fault_of most validator.now }
 {
-    if validator.slashed {
+    if validator.slashed() {
         return Some(ValidatorFault::Slashed);
     }
-    if validator.exit_epoch != FAR_FUTURE_EPOCH {
+    if validator.exit_epoch() != FAR_FUTURE_EPOCH {
         return Some(ValidatorFault::ExitEpoch);
     }
-    if validator.withdrawable_epoch != FAR_FUTURE_EPOCH {
+    if validator.withdrawable_epoch() != FAR_FUTURE_EPOCH {
         return Some(ValidatorFault::WithdrawableEpoch);
     }
-    let activation = validator.activation_epoch;
+    let activation = validator.activation_epoch();
     if activation != 0 && activation != FAR_FUTURE_EPOCH {
         return Some(ValidatorFault::ActivationEpoch);
     }
-    if validator.effective_balance > most {
+    if validator.effective_balance() > most {
         return Some(ValidatorFault::EffectiveBalance);
     }
     None
 }
 
 /// What is wrong with the validator at a place.
-fn fault_at(most: u64, validators: &Values<Validator>, i: u64) -> Option<ValidatorFault>
-    requires { i < length validators.now.items }
-    ensures { Some result ≡ option_map (fault_of most) (slice_get validators.now.items i) }
+fn fault_at(most: u64, validators: &Validators, i: u64) -> Option<ValidatorFault>
+    requires { i < length validators.now }
+    ensures { Some result ≡ option_map (fault_of most) (slice_get validators.now i) }
 {
     match validators.get(i) {
-        Some(validator) => validator_fault(most, validator),
+        Some(validator) => validator_fault(most, &validator),
         None => unreachable!(),
     }
 }
 
 /// The first validator that is wrong.
-fn validators_fault(most: u64, validators: &Values<Validator>) -> Option<GenesisFault>
-    ensures { result ≡ first_fault most 0 validators.now.items }
+fn validators_fault(most: u64, validators: &Validators) -> Option<GenesisFault>
+    ensures { result ≡ first_fault most 0 validators.now }
 {
     for i in 0..validators.len() {
         if let Some(wrong) = fault_at(most, validators, i) {

@@ -13,4 +13,5 @@ mod writing;
 pub use genesis::genesis_check;
 pub use state::State;
 pub use tree_nodes::NewLeaf;
+pub use validator_registry::{Entry, Registry};
 pub use writing::{one_writing_of_states, shortest_state, state_reads_back};

@@ -43,6 +43,6 @@ impl Lookup for State {
         let Some(validator) = self.validators_at(index) else {
             unreachable!()
         };
-        validator.effective_balance
+        validator.effective_balance()
     }
 }

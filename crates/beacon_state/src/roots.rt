@@ -34,7 +34,7 @@ impl State {
             self.eth1_data_root(),
             self.eth1_data_votes().list_root(),
             self.eth1_deposit_index().root(),
-            self.validators().list_root(),
+            self.validators_root(),
             self.balances().list_root(),
             self.randao_mixes().vector_root(),
             self.slashings().vector_root(),

@@ -17,11 +17,12 @@ mod whole;
 use active_sets::{ActiveLists, KeptCommittees};
 use bc_preset::Preset;
 use bc_words::NoMemory;
-use beacon_types::{BeaconBlockHeader, Checkpoint, Eth1Data, Fork, PendingAttestation, Validator};
+use beacon_types::{BeaconBlockHeader, Checkpoint, Eth1Data, Fork, PendingAttestation};
 use hash_tree::Root;
 use spec_state::PlainState;
 use state_parts::{
-    Numbers, Rooted, Values, both, lists_built, pending_built, registry_built, vectors_built,
+    Numbers, Rooted, Validators, Values, both, lists_built, pending_built, registry_built,
+    vectors_built,
 };
 use std::marker::Model;
 
@@ -39,7 +40,7 @@ pub struct State {
     eth1_data: Rooted<Eth1Data>,
     eth1_data_votes: Values<Eth1Data>,
     eth1_deposit_index: u64,
-    validators: Values<Validator>,
+    validators: Validators,
     balances: Numbers,
     randao_mixes: Values<Root>,
     slashings: Numbers,
@@ -249,7 +250,7 @@ impl State {
     }
 
     /// The registry, the balances and the slashed balances once more.
-    fn share_registry(&self) -> Result<((Values<Validator>, Numbers), Numbers), NoMemory>
+    fn share_registry(&self) -> Result<((Validators, Numbers), Numbers), NoMemory>
         ensures { IfOk result (HasRegistry self.now) }
     {
         let registry = both(self.validators.share(), self.balances.share());

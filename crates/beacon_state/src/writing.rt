@@ -7,7 +7,7 @@ ghost use Rattle.ssz_codec.specs.Basic.{uint64};
 ghost use Rattle.ssz_codec.specs.Layout.{fixed_length, joined};
 ghost use Rattle.ssz_codec.specs.Containers.{layout_of, parts_of};
 ghost use Rattle.ssz_codec.specs.inside.Halves.{with_fixed, with_variable, with_parts};
-ghost use Rattle.beacon_types.specs.Containers.{pending_attestation_codec};
+ghost use Rattle.beacon_types.specs.Containers.{pending_attestation_codec, validator_codec};
 ghost use Rattle.spec_state.specs.States.{state_fields, state_codec};
 ghost use Rattle.state_parts.specs.inside.Groups.{clock_fields, history_fields, eth1_fields, registry_fields, pending_fields, finality_fields, clock_of, history_of, eth1_of, registry_of, pending_of, finality_of};
 ghost use Rattle.spec_state.specs.Limits.{IsState};
@@ -76,6 +76,16 @@ fn add_slashings(alloc: Global, s: &State, out: &mut PartsWriter) -> Result<(), 
     }
 }
 
+/// The registry.
+fn add_validators(alloc: Global, s: &State, out: &mut PartsWriter) -> Result<(), NoMemory>
+    ensures { OnOk result (out.new ≡ with_variable (flat_map validator_codec.serialize s.now.validators) out.old) }
+{
+    match s.validators().copied(alloc) {
+        Ok(copies) => out.add_items(&copies),
+        Err(refused) => Err(refused),
+    }
+}
+
 /// The balances.
 fn add_balances(alloc: Global, s: &State, out: &mut PartsWriter) -> Result<(), NoMemory>
     ensures { OnOk result (out.new ≡ with_variable (flat_map uint64.serialize s.now.balances) out.old) }
@@ -108,7 +118,7 @@ fn add_eth1(alloc: Global, s: &State, out: &mut PartsWriter) -> Result<(), NoMem
 fn add_registry(alloc: Global, s: &State, out: &mut PartsWriter) -> Result<(), NoMemory>
     ensures { OnOk result (out.new ≡ with_parts (layout_of (registry_fields s.now.preset)) (parts_of (registry_fields s.now.preset) (registry_of s.now)) out.old) }
 {
-    add_items(alloc, s.validators(), out)?;
+    add_validators(alloc, s, out)?;
     add_balances(alloc, s, out)?;
     add_vector(alloc, s.randao_mixes(), out)?;
     add_slashings(alloc, s, out)

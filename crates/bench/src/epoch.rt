@@ -79,8 +79,8 @@ impl Times {
 /// Reads every validator and balance once, in order, joined so that none is left out.
 fn read_all(state: &State) -> u64 {
     let mut joined = 0u64;
-    for validator in state.validator_list().iter() {
-        joined = joined.wrapping_add(validator.effective_balance ^ validator.exit_epoch);
+    for validator in state.registry().iter() {
+        joined = joined.wrapping_add(validator.effective_balance() ^ validator.exit_epoch());
     }
     for balance in state.balance_list().iter() {
         joined = joined.wrapping_add(balance);

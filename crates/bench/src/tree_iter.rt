@@ -18,8 +18,8 @@ const PASSES: u32 = 20;
 /// A pass over the registry of the state, joined so that none is left out.
 fn pass_tree(state: &State) -> u64 {
     let mut joined = 0u64;
-    for validator in state.validator_list().iter() {
-        joined = joined.wrapping_add(validator.effective_balance ^ validator.exit_epoch);
+    for validator in state.registry().iter() {
+        joined = joined.wrapping_add(validator.effective_balance() ^ validator.exit_epoch());
     }
     joined
 }
@@ -56,7 +56,7 @@ fn pass_walks(state: &State) -> u64 {
     let mut joined = 0u64;
     for index in 0..state.validators_len() {
         if let Some(validator) = state.validators_at(index) {
-            joined = joined.wrapping_add(validator.effective_balance ^ validator.exit_epoch);
+            joined = joined.wrapping_add(validator.effective_balance() ^ validator.exit_epoch());
         }
     }
     joined
@@ -65,8 +65,8 @@ fn pass_walks(state: &State) -> u64 {
 /// The registry of the state in a vector.
 fn registry_of(alloc: Global, state: &State) -> Result<Vec<Validator>, AllocError> {
     let mut validators = Vec::new(alloc);
-    for validator in state.validator_list().iter() {
-        validators.push(*validator)?;
+    for validator in state.registry().iter() {
+        validators.push(validator.validator())?;
     }
     Ok(validators)
 }

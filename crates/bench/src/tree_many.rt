@@ -1,4 +1,5 @@
-//! Every place of a list of 262,144 items set at once, against making the list of these items anew.
+//! Every effective balance of a registry of 262,144 validators set at once, and every place of a list of as many numbers, against
+//! making the registry and the list of these anew.
 
 ghost use Rattle.std.specs.Prelude.{◌≡◌, ◌<◌, ◌≤◌, ◌^◌, length, IfOk};
 ghost use Rattle.tree_nodes.specs.Changes.{AreChanges};
@@ -8,16 +9,17 @@ use anyhow::Result;
 use bc_words::{NoMemory, Steps};
 use beacon_types::Validator;
 use hash_tree::Root;
-use shared_tree::{PackedList, SharedList};
+use shared_tree::PackedList;
 use std::alloc::Global;
 use std::marker::Brand;
 use std::sync::ledger::{Blank, Ledger};
 use std::time::CpuClock;
+use validator_registry::Registry;
 
 /// How many items there are.
 const ITEMS: u64 = 262_144;
 
-/// How many there may be.
+/// How many numbers there may be.
 const LIMIT: u64 = 1 << 40;
 
 /// A validator with a balance.
@@ -56,18 +58,6 @@ fn numbers(alloc: Global) -> Result<Vec<u64>, NoMemory>
     Ok(items)
 }
 
-/// A change of each place to a validator.
-#[tactic(auto, using(crate::proofs::Places::every_place))]
-fn validator_changes(alloc: Global) -> Result<Vec<(u64, Validator)>, NoMemory>
-    ensures { IfOk result (λ changes. AreChanges 0 262144 changes.items) }
-{
-    let mut changes = Vec::new(alloc);
-    for i in 0..ITEMS {
-        changes.push((i, validator_with(i + 1)))?;
-    }
-    Ok(changes)
-}
-
 /// A change of each place to a number.
 #[tactic(auto, using(crate::proofs::Places::every_place))]
 fn number_changes(alloc: Global) -> Result<Vec<(u64, u64)>, NoMemory>
@@ -80,21 +70,21 @@ fn number_changes(alloc: Global) -> Result<Vec<(u64, u64)>, NoMemory>
     Ok(changes)
 }
 
-/// The time in which every place of the list is set.
+/// The time in which every effective balance of the registry is set.
 fn time_set<L: Ledger>(
     rt: &(impl AllocGlobal + CpuClock),
-    list: &mut SharedList<Validator>,
+    registry: &mut Registry,
     blank: Blank,
 ) -> Result<Time, NoMemory>
     requires name { blank.name ≡ L.name }
     requires parts { blank.parts ≡ L.parts }
     requires some { 0 < blank.parts }
-    requires all { length list.old.items ≡ 262144 }
+    requires all { length registry.old ≡ 262144 }
 {
     let mut steps = Steps::<L>::new(blank);
-    let changes = validator_changes(rt.alloc())?;
+    let changes = number_changes(rt.alloc())?;
     let begin = now(rt);
-    list.set_many(changes, &mut steps)?;
+    registry.set_effective_balances(changes, &mut steps)?;
     Ok(time_since(rt, begin))
 }
 
@@ -125,17 +115,17 @@ fn tell(rt: &impl Print, what: &str, whole: Time, measure: Time, root: &Root) ->
     ))
 }
 
-/// Sets each of the validators of a list that was made in this time, and prints both times.
+/// Sets each effective balance of a registry that was made in this time, and prints both times.
 fn measure_setting(
     rt: &(impl AllocGlobal + Print + CpuClock),
-    list: &mut SharedList<Validator>,
+    registry: &mut Registry,
     measure: Time,
 ) -> Result<()>
-    requires all { length list.old.items ≡ 262144 }
+    requires all { length registry.old ≡ 262144 }
 {
-    let what = "every one of 262144 validators set, against their list made anew";
-    match time_set::<Brand>(rt, list, Blank::new(1)) {
-        Ok(whole) => tell(rt, what, whole, measure, &list.root()),
+    let what = "every effective balance of 262144 validators set, against their registry made anew";
+    match time_set::<Brand>(rt, registry, Blank::new(1)) {
+        Ok(whole) => tell(rt, what, whole, measure, &registry.root()),
         Err(stop) => Err(stop.into()),
     }
 }
@@ -155,12 +145,12 @@ fn measure_setting_numbers(
     }
 }
 
-/// Makes a list of validators, sets each, and prints both times.
+/// Makes a registry of validators, sets each effective balance, and prints both times.
 fn measure_validators(rt: &(impl AllocGlobal + Print + CpuClock)) -> Result<()> {
     let items = validators(rt.alloc())?;
     let begin = now(rt);
-    match SharedList::from_vec(items, LIMIT) {
-        Ok(mut list) => measure_setting(rt, &mut list, time_since(rt, begin)),
+    match Registry::from_vec(items) {
+        Ok(mut registry) => measure_setting(rt, &mut registry, time_since(rt, begin)),
         Err(stop) => Err(stop.into()),
     }
 }
@@ -175,7 +165,7 @@ fn measure_numbers(rt: &(impl AllocGlobal + Print + CpuClock)) -> Result<()> {
     }
 }
 
-/// Measures both lists.
+/// Measures both.
 pub fn measure(rt: &(impl AllocGlobal + Print + CpuClock)) -> Result<()> {
     measure_validators(rt)?;
     measure_numbers(rt)

@@ -30,8 +30,8 @@ pub fn queue_end(state: &State, earliest: u64) -> u64
     ensures { result ≡ queue_end state.now.validators earliest }
 {
     let mut epoch = earliest;
-    for validator in state.validator_list().iter() {
-        epoch = later(validator.exit_epoch, epoch);
+    for validator in state.registry().iter() {
+        epoch = later(validator.exit_epoch(), epoch);
     }
     epoch
 }
@@ -51,8 +51,8 @@ pub fn exit_queue_churn(state: &State, epoch: u64) -> u64
 {
     churn_fits(state, epoch);
     let mut count = 0;
-    for validator in state.validator_list().iter() {
-        if validator.exit_epoch == epoch {
+    for validator in state.registry().iter() {
+        if validator.exit_epoch() == epoch {
             count += 1;
         }
     }

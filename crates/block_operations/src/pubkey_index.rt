@@ -48,7 +48,7 @@ impl PubkeyIndex {
     {
         match state.validators_at(index) {
             Some(validator) => {
-                self.note(&validator.pubkey, index)?;
+                self.note(validator.pubkey(), index)?;
                 Ok(())
             }
             None => unreachable!(),

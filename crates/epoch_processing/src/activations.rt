@@ -14,18 +14,18 @@ use crate::ejections::earliest_exit;
 use bc_preset::Config;
 use bc_preset::constants::FAR_FUTURE_EPOCH;
 use bc_words::NoMemory;
-use beacon_state::State;
+use beacon_state::{Entry, State};
 use beacon_types::Validator;
 use block_operations::churn_limit;
 use std::alloc::Global;
 
 /// Whether what made a validator eligible is final, and it isn't activated (beacon-chain.md, `is_eligible_for_activation`).
 #[tactic(auto, unfolding(spec_state::specs::Predicates::is_eligible_for_activation))]
-fn is_waiting(state: &State, validator: &Validator) -> bool
+fn is_waiting(state: &State, validator: &Entry) -> bool
     ensures { result ≡ is_eligible_for_activation state.now validator.now }
 {
-    validator.activation_eligibility_epoch <= state.finalized_checkpoint().epoch
-        && validator.activation_epoch == FAR_FUTURE_EPOCH
+    validator.activation_eligibility_epoch() <= state.finalized_checkpoint().epoch
+        && validator.activation_epoch() == FAR_FUTURE_EPOCH
 }
 
 /// Adds the rank of a validator where it waits.
@@ -34,12 +34,12 @@ fn note_rank(
     ranks: &mut Vec<(u64, u64)>,
     state: &State,
     index: u64,
-    validator: &Validator,
+    validator: &Entry,
 ) -> Result<(), NoMemory>
     ensures { OnOk result (ranks.new.items ≡ ranks.old.items ++ ranks_from state.now index (validator.now ∷ [])) }
 {
     if is_waiting(state, validator) {
-        ranks.push((validator.activation_eligibility_epoch, index))?;
+        ranks.push((validator.activation_eligibility_epoch(), index))?;
     }
     Ok(())
 }
@@ -49,10 +49,12 @@ fn note_rank(
 fn ranks(alloc: Global, state: &State) -> Result<Vec<(u64, u64)>, NoMemory>
     ensures { IfOk result (λ ranks. ranks.items ≡ ranks_from state.now 0 state.now.validators) }
 {
+    // As many are gone through, which a number holds.
+    let _count = state.validators_len();
     let mut ranks = Vec::new(alloc);
-    let validators = state.validator_list().iter();
+    let validators = state.registry().iter();
     for (index, validator) in validators.enumerate() {
-        note_rank(&mut ranks, state, index as u64, validator)?;
+        note_rank(&mut ranks, state, index as u64, &validator)?;
     }
     Ok(ranks)
 }
@@ -106,7 +108,7 @@ fn is_before_bar(bar: Option<(u64, u64)>, rank: (u64, u64)) -> bool
 fn let_in(
     state: &mut State,
     index: u64,
-    validator: &Validator,
+    validator: &Entry,
     bar: Option<(u64, u64)>,
     epoch: u64,
 ) -> Result<(), NoMemory>
@@ -114,13 +116,13 @@ fn let_in(
     ensures step { OnOk result (let_in_from state.new bar epoch (index + 1) ≡ let_in_from state.old bar epoch index) }
     ensures behind { drop (index + 1) state.new.validators ≡ drop (index + 1) state.old.validators }
 {
-    let rank = (validator.activation_eligibility_epoch, index);
+    let rank = (validator.activation_eligibility_epoch(), index);
     if !is_waiting(state, validator) || !is_before_bar(bar, rank) {
         return Ok(());
     }
     let activated = Validator {
         activation_epoch: epoch,
-        ..*validator
+        ..validator.validator()
     };
     state.set_validators_at(index, activated)
 }
@@ -131,10 +133,10 @@ fn let_in(
 fn let_all_in(state: &mut State, bar: Option<(u64, u64)>, epoch: u64) -> Result<(), NoMemory>
     ensures { OnOk result (state.new ≡ let_in_from state.old bar epoch 0) }
 {
-    let registry = state.validator_list().share()?;
+    let registry = state.registry().share()?;
     let validators = registry.iter();
     for (index, validator) in validators.enumerate() {
-        let_in(state, index as u64, validator, bar, epoch)?;
+        let_in(state, index as u64, &validator, bar, epoch)?;
     }
     Ok(())
 }

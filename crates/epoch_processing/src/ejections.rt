@@ -17,7 +17,7 @@ use balance_totals::{current_epoch, is_ejected, may_wait, validator_at};
 use bc_preset::Config;
 use bc_preset::constants::FAR_FUTURE_EPOCH;
 use bc_words::{NoMemory, Stop, checked_add};
-use beacon_state::State;
+use beacon_state::{Entry, State};
 use beacon_types::Validator;
 use block_operations::{churn_limit, exit_queue_churn, queue_end, withdrawable_epoch};
 
@@ -131,17 +131,17 @@ fn initiate_exit(
 
 /// The validator waits from the next epoch on where it may.
 #[tactic(auto, unfolding(spec_epochs::specs::ProcessRegistryUpdates::with_eligibility))]
-fn wait(state: &mut State, index: u64, validator: Validator) -> Result<(), NoMemory>
-    requires { slice_get state.old.validators index ≡ Some validator }
-    ensures { Becomes result state.old state.new (with_eligibility state.old index validator) }
+fn wait(state: &mut State, index: u64, validator: &Entry) -> Result<(), NoMemory>
+    requires { slice_get state.old.validators index ≡ Some validator.now }
+    ensures { Becomes result state.old state.new (with_eligibility state.old index validator.now) }
 {
-    if !may_wait(state.preset(), &validator) {
+    if !may_wait(state.preset(), validator) {
         return Ok(());
     }
     let activation_eligibility_epoch = current_epoch(state) + 1;
     let waiting = Validator {
         activation_eligibility_epoch,
-        ..validator
+        ..validator.validator()
     };
     state.set_validators_at(index, waiting)
 }
@@ -152,7 +152,7 @@ fn eligibility_and_ejection(
     state: &mut State,
     kept: &mut Option<ExitQueue>,
     index: u64,
-    validator: &Validator,
+    validator: &Entry,
     config: &Config,
 ) -> Result<(), Stop>
     requires kept { IsKept state.old config.now kept.old }
@@ -161,7 +161,7 @@ fn eligibility_and_ejection(
     ensures kept { OnOk result (IsKept state.new config.now kept.new) }
 {
     let ejected = is_ejected(validator, current_epoch(state), config);
-    wait(state, index, *validator)?;
+    wait(state, index, validator)?;
     if ejected {
         initiate_exit(state, kept, index, config)?;
     }
@@ -176,10 +176,10 @@ pub(crate) fn eligibility_and_ejections(state: &mut State, config: &Config) -> R
     ensures { Moves result state.new (each_of (eligibility_and_ejection config.now) state.old (validator_indices state.old)) }
 {
     let mut kept = None;
-    let registry = state.validator_list().share()?;
+    let registry = state.registry().share()?;
     let validators = registry.iter();
     for (index, validator) in validators.enumerate() {
-        eligibility_and_ejection(state, &mut kept, index as u64, validator, config)?;
+        eligibility_and_ejection(state, &mut kept, index as u64, &validator, config)?;
     }
     Ok(())
 }

@@ -3,18 +3,18 @@
 ghost use Rattle.std.specs.Prelude.{◌≡◌, ◌/◌, length, slice_get, Some, IfOk, OnOk};
 ghost use Rattle.bc_words.specs.Outcome.{Changes, GivesBy, GivesExactly};
 ghost use Rattle.bc_preset.specs.Presets.{IsPreset};
-ghost use Rattle.tree_nodes.specs.Changes.{AreChanges, changed};
+ghost use Rattle.tree_nodes.specs.Changes.{AreChanges};
+ghost use Rattle.validator_registry.specs.Registries.{with_balances};
 ghost use Rattle.spec_epochs.specs.Each.{checked_map, validator_indices};
 ghost use Rattle.spec_epochs.specs.ProcessEffectiveBalanceUpdates.{process_effective_balance_updates, updated_validator, is_out_of_bounds};
 ghost use Rattle.balance_totals.specs.inside.Stakes.{balances_read, effective_balances};
-ghost use Rattle.epoch_processing.specs.inside.Updates.{GivesAnother, IsNoted, updated_balance};
+ghost use Rattle.epoch_processing.specs.inside.Updates.{GivesBalance, IsNoted, updated_balance};
 
 use crate::balances::next_balance;
-use balance_totals::{Stake, validator_at};
+use balance_totals::Stake;
 use bc_preset::Preset;
 use bc_words::{NoMemory, Refusal, Stop, checked_add};
 use beacon_state::State;
-use beacon_types::Validator;
 use std::alloc::Global;
 
 /// The part of an increment by which the bounds are reckoned, in Gwei. A pass over the registry takes it once.
@@ -68,19 +68,19 @@ fn updated_balance(
     Ok(whole.min(preset.max_effective_balance))
 }
 
-/// The validator with its new effective balance, where that is another one than it has: only there it is looked up. Its balance
-/// stands at its index, where there is one.
+/// The new effective balance of a validator, in Gwei, where that is another one than it has. Its balance stands at its index, where
+/// there is one.
 fn updated(
     state: &State,
     hysteresis_increment: u64,
     index: u64,
     effective: u64,
     balance: Option<u64>,
-) -> Result<Option<Validator>, Stop>
+) -> Result<Option<u64>, Stop>
     requires effective { slice_get (effective_balances state.now.validators) index ≡ Some effective }
     requires balance { slice_get state.now.balances index ≡ balance }
     requires hysteresis { hysteresis_increment ≡ state.now.preset.effective_balance_increment / state.now.preset.hysteresis_quotient }
-    ensures { GivesAnother (slice_get state.now.validators index) result (updated_validator state.now index) }
+    ensures { GivesBalance (slice_get state.now.validators index) result (updated_validator state.now index) }
 {
     let Some(balance) = balance else {
         return Err(Stop::Refused(Refusal::IndexRange));
@@ -94,35 +94,25 @@ fn updated(
     if effective_balance == effective {
         return Ok(None);
     }
-    let mut validator = validator_at(state, index)?;
-    validator.effective_balance = effective_balance;
-    Ok(Some(validator))
+    Ok(Some(effective_balance))
 }
 
-/// Puts a validator among the changes of the registry, where there is another one for its place.
-fn note(
-    index: u64,
-    another: Option<Validator>,
-    changes: &mut Vec<(u64, Validator)>,
-) -> Result<(), NoMemory>
+/// Puts an effective balance among the changes of the registry, where there is another one for a place.
+fn note(index: u64, another: Option<u64>, changes: &mut Vec<(u64, u64)>) -> Result<(), NoMemory>
     ensures { OnOk result (IsNoted another index changes.old.items changes.new.items) }
 {
     match another {
-        Some(validator) => Ok(changes.push((index, validator))?),
+        Some(balance) => Ok(changes.push((index, balance))?),
         None => Ok(()),
     }
 }
 
-/// The validators whose effective balance changes, with their new one, at their places in the registry. The stakes hold the effective
-/// balances that they have.
+/// The new effective balances of the validators whose effective balance changes, beside their places in the registry. The stakes
+/// hold the effective balances that they have.
 #[tactic(auto, unfolding(spec_epochs::specs::Each::validator_indices), using(crate::proofs::MadeLeft::making))]
-fn all_updated(
-    alloc: Global,
-    state: &State,
-    stakes: &[Stake],
-) -> Result<Vec<(u64, Validator)>, Stop>
+fn all_updated(alloc: Global, state: &State, stakes: &[Stake]) -> Result<Vec<(u64, u64)>, Stop>
     requires { balances_read stakes.now ≡ effective_balances state.now.validators }
-    ensures exact { GivesBy (λ changes. changed state.now.validators changes.items) result (checked_map (updated_validator state.now) (validator_indices state.now)) }
+    ensures exact { GivesBy (λ changes. with_balances state.now.validators changes.items) result (checked_map (updated_validator state.now) (validator_indices state.now)) }
     ensures places { IfOk result (λ changes. AreChanges 0 (length state.now.validators) changes.items) }
 {
     let mut changes = Vec::new(alloc);
@@ -143,8 +133,8 @@ fn all_updated(
 }
 
 /// Each validator's effective balance follows its balance where this is far below or above it (beacon-chain.md,
-/// `process_effective_balance_updates`). The stakes hold the effective balances before: only those validators are looked up, and
-/// written, whose effective balance changes. Refused as an overflow exactly where a bound that is needed does not fit.
+/// `process_effective_balance_updates`). The stakes hold the effective balances before: no validator is looked up, and only
+/// the effective balances that change are written. Refused as an overflow exactly where a bound that is needed does not fit.
 #[tactic(auto, unfolding(spec_epochs::specs::ProcessEffectiveBalanceUpdates::process_effective_balance_updates), using(bc_preset::proofs::Bounds::preset_bounds))]
 pub fn process_effective_balances(
     alloc: Global,
@@ -155,6 +145,6 @@ pub fn process_effective_balances(
     ensures { Changes result state.old state.new (process_effective_balance_updates state.old) }
 {
     let changes = all_updated(alloc, state, stakes)?;
-    state.set_many_validators(changes)?;
+    state.set_effective_balances(changes)?;
     Ok(())
 }

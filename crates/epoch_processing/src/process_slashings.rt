@@ -10,8 +10,7 @@ ghost use Rattle.epoch_processing.specs.inside.Penalties.{penalized};
 use crate::balances::next_balance;
 use balance_totals::{current_epoch, total_active};
 use bc_words::{Refusal, Stop, checked_add, checked_mul};
-use beacon_state::State;
-use beacon_types::Validator;
+use beacon_state::{Entry, State};
 use std::alloc::Global;
 
 /// What was slashed in the latest epoch that has this place, in Gwei, or 0 where there is none.
@@ -35,12 +34,12 @@ fn slashed_lately(state: &State) -> Result<u64, Stop>
 
 /// Whether a validator pays at the epoch: it is slashed, and half way to its withdrawal.
 #[tactic(auto, using(bc_preset::proofs::Bounds::preset_bounds))]
-fn pays(state: &State, validator: &Validator) -> bool
+fn pays(state: &State, validator: &Entry) -> bool
     ensures { let half = state.now.preset.epochs_per_slashings_vector / 2 in
         result ≡ (validator.now.slashed && (get_current_epoch state.now + half == validator.now.withdrawable_epoch)) }
 {
     let half = state.preset().epochs_per_slashings_vector / 2;
-    validator.slashed && current_epoch(state) + half == validator.withdrawable_epoch
+    validator.slashed() && current_epoch(state) + half == validator.withdrawable_epoch()
 }
 
 /// A penalty in whole increments, in Gwei. Refused exactly where the product doesn't fit.
@@ -64,7 +63,7 @@ fn penalized_balance(
     state: &State,
     slashed: &Slashed,
     index: u64,
-    validator: &Validator,
+    validator: &Entry,
     balance: Option<u64>,
 ) -> Result<u64, Stop>
     requires total { 1 ≤ slashed.now.total }
@@ -79,7 +78,7 @@ fn penalized_balance(
         return Ok(balance);
     }
     let increment = state.preset().effective_balance_increment;
-    let numerator = checked_mul(validator.effective_balance / increment, slashed.adjusted)?;
+    let numerator = checked_mul(validator.effective_balance() / increment, slashed.adjusted)?;
     let penalty = whole_penalty(numerator, slashed.total, increment)?;
     Ok(balance.saturating_sub(penalty))
 }
@@ -93,10 +92,10 @@ fn penalized_balances(alloc: Global, state: &State, slashed: &Slashed) -> Result
 {
     let mut all = Vec::with_capacity(alloc, state.validators_len() as usize)?;
     let mut balances = state.balance_list().iter();
-    let validators = state.validator_list().iter();
+    let validators = state.registry().iter();
     for (index, validator) in validators.enumerate() {
         let balance = next_balance(&mut balances);
-        let penalized = penalized_balance(state, slashed, index as u64, validator, balance)?;
+        let penalized = penalized_balance(state, slashed, index as u64, &validator, balance)?;
         all.push(penalized)?;
     }
     Ok(all)

@@ -1,9 +1,8 @@
 -- A state whose validators stay as they are at genesis, place by place, is steady.
-use Rattle.std.proofs.Common.{Bor, ◌≡◌, ◌∙◌, ℕ, suc, ◌+◌, ◌<◌, ◌==◌, nat_eq, Bool, true, false, not, cond, ◌&&◌, List, [], ◌∷◌, map, Option, Some, None, refl, sym, ap, arith}
+use Rattle.std.proofs.Common.{◌≡◌, ◌∙◌, ℕ, suc, ◌+◌, ◌<◌, ◌==◌, nat_eq, Bool, true, false, not, cond, ◌&&◌, List, [], ◌∷◌, map, Option, Some, None, refl, sym, ap, arith}
 use Rattle.std.proofs.lemmas.Bool.{eq-eqb, ne_eqb}
 use Rattle.std.specs.Cmp.Lexicographic.{pointwise}
-use Rattle.std.specs.Iterator.{YieldsFirstRef}
-use Rattle.std.specs.Option.{option_map}
+use Rattle.std.specs.Iterator.{YieldsFirst}
 use Rattle.beacon_types.specs.declared.validator.Validator.{Validator}
 use Rattle.spec_state.specs.declared.plain.PlainState.{PlainState}
 use Rattle.spec_state.specs.Misc.{effective_balance}
@@ -147,7 +146,7 @@ walk_begins genesis state previous current one other =
     ∙ ap (λ b. is_steady_in genesis state (get_previous_epoch state) && b) (sym (steady_in (get_current_epoch state) genesis state))
 
 -- the next place
-pub next_place : (previous current : ℕ) (old now : List Validator) (own : Option (Bor Validator)) (v : Validator) (result : Bool) → YieldsFirstRef (λ (x : List Validator). x) old own now → result ≡ stays previous current (option_map (λ x. x.now) own) v
+pub next_place : (previous current : ℕ) (old now : List Validator) (own : Option Validator) (v : Validator) (result : Bool) → YieldsFirst (λ (x : List Validator). x) old own now → result ≡ stays previous current own v
     → (left : List Validator) → stay previous current old (v ∷ left) ≡ result && stay previous current now left
 unfolding stay
 next_place previous current old now None v result gives is left =

@@ -7,16 +7,15 @@ ghost use Rattle.beacon_types.specs.declared.validator.Validator.{Validator};
 ghost use Rattle.spec_state.specs.Accessors.{get_active_validator_indices};
 ghost use Rattle.forensics.specs.inside.ActiveLists.{active_from};
 
-use balance_totals::is_active_validator;
-use beacon_state::State;
-use beacon_types::Validator;
+use balance_totals::is_active_entry;
+use beacon_state::{Entry, State};
 
 /// Whether a list has the index of a validator at a place, which is then the next one, or the validator isn't active at the epoch.
 #[tactic(auto, using(crate::proofs::ActiveLists::passes_over, crate::proofs::ActiveLists::takes_off))]
-fn goes_on(list: &[u64], place: &mut usize, epoch: u64, index: usize, validator: &Validator) -> bool
+fn goes_on(list: &[u64], place: &mut usize, epoch: u64, index: usize, validator: &Entry) -> bool
     ensures { (left : List Validator) → IsTrue result → drop place.new list.now ≡ active_from epoch (index + 1) left → drop place.old list.now ≡ active_from epoch index (validator.now ∷ left) }
 {
-    if !is_active_validator(validator, epoch) {
+    if !is_active_entry(validator, epoch) {
         return true;
     }
     if *place < list.len() && list[*place] == index as u64 {
@@ -48,12 +47,14 @@ pub(crate) fn are_active(
 {
     let mut place = 0;
     let mut other = 0;
-    let validators = state.validator_list().iter();
+    let registry = state.registry();
+    let _count = registry.len();
+    let validators = registry.iter();
     for (index, validator) in validators.enumerate() {
-        if !goes_on(firsts, &mut place, first, index, validator) {
+        if !goes_on(firsts, &mut place, first, index, &validator) {
             return false;
         }
-        if !goes_on(seconds, &mut other, second, index, validator) {
+        if !goes_on(seconds, &mut other, second, index, &validator) {
             return false;
         }
     }

@@ -16,9 +16,8 @@ ghost use Rattle.forensics.specs.inside.Whole.{carried_in};
 
 use crate::history::History;
 use crate::spans::CarriedVotes;
-use balance_totals::{is_active_validator, total_active};
-use beacon_state::State;
-use beacon_types::Validator;
+use balance_totals::{is_active_entry, total_active};
+use beacon_state::{Entry, State};
 use hash_tree::Root;
 use spec_forensics::Verdict;
 
@@ -61,11 +60,11 @@ fn is_small(genesis: &State, total: u64) -> bool
 
 /// Whether the validator with an index is an offender that is active at genesis.
 #[tactic(auto, unfolding(crate::specs::inside::Offenders::counts))]
-fn counts(votes: &CarriedVotes, index: usize, validator: &Validator) -> bool
+fn counts(votes: &CarriedVotes, index: usize, validator: &Entry) -> bool
     requires { index < length votes.now.spans.spans }
     ensures { result ≡ counts votes.now index validator.now }
 {
-    is_active_validator(validator, 0) && votes.offends(index)
+    is_active_entry(validator, 0) && votes.offends(index)
 }
 
 /// What the offenders have at genesis, where they are active there, in Gwei.
@@ -76,10 +75,12 @@ fn offenders_balance(genesis: &State, votes: &CarriedVotes) -> u64
     ensures { result ≡ weight_of (genesis_weights genesis.now) (has_offence votes.now) }
 {
     let mut balance = 0;
-    let validators = genesis.validator_list().iter();
+    let registry = genesis.registry();
+    let _count = registry.len();
+    let validators = registry.iter();
     for (index, validator) in validators.enumerate() {
-        if counts(votes, index, validator) {
-            balance += validator.effective_balance;
+        if counts(votes, index, &validator) {
+            balance += validator.effective_balance();
         }
     }
     balance

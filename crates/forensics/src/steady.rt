@@ -3,25 +3,23 @@
 //! One pass over both registries by their iterators, which ends at the first difference and takes no memory.
 
 ghost use Rattle.std.specs.Prelude.{◌≡◌, ◌&&◌, List, [], ◌∷◌};
-ghost use Rattle.std.specs.Option.{option_map};
 ghost use Rattle.beacon_types.specs.declared.validator.Validator.{Validator};
 ghost use Rattle.spec_forensics.specs.Steady.{is_steady_at};
 ghost use Rattle.forensics.specs.inside.SideBySide.{stays_in, stays, stay};
 
-use balance_totals::{current_epoch, is_active_validator, previous_epoch};
-use beacon_state::State;
-use beacon_types::Validator;
-use tree_nodes::Iter;
+use balance_totals::{current_epoch, is_active_entry, previous_epoch};
+use beacon_state::{Entry, State};
+use validator_registry::Validators;
 
 /// Whether a validator is in an epoch as it is at genesis.
 #[tactic(auto, unfolding(crate::specs::inside::SideBySide::stays_in))]
-fn stays_in(epoch: u64, own: Option<&Validator>, validator: &Validator) -> bool
-    ensures { result ≡ stays_in epoch (option_map (λ v. v.now) own.entry) validator.now }
+fn stays_in(epoch: u64, own: &Option<Entry<'_>>, validator: &Entry) -> bool
+    ensures { result ≡ stays_in epoch own.now validator.now }
 {
-    let active = is_active_validator(validator, epoch);
+    let active = is_active_entry(validator, epoch);
     match own {
-        Some(own) if is_active_validator(own, 0) => {
-            active && validator.effective_balance == own.effective_balance
+        Some(own) if is_active_entry(own, 0) => {
+            active && validator.effective_balance() == own.effective_balance()
         }
         _ => !active,
     }
@@ -29,32 +27,28 @@ fn stays_in(epoch: u64, own: Option<&Validator>, validator: &Validator) -> bool
 
 /// Whether it is in two epochs.
 #[tactic(auto, unfolding(crate::specs::inside::SideBySide::stays))]
-fn stays(previous: u64, current: u64, own: Option<&Validator>, validator: &Validator) -> bool
-    ensures { result ≡ stays previous current (option_map (λ v. v.now) own.entry) validator.now }
+fn stays(previous: u64, current: u64, own: &Option<Entry<'_>>, validator: &Entry) -> bool
+    ensures { result ≡ stays previous current own.now validator.now }
 {
     stays_in(previous, own, validator) && stays_in(current, own, validator)
 }
 
 /// Whether a validator of a state stays beside the next one of genesis, which is taken off.
 #[tactic(auto, using(crate::proofs::Places::next_place))]
-fn next_stays(
-    previous: u64,
-    current: u64,
-    owns: &mut Iter<'_, Validator>,
-    validator: &Validator,
-) -> bool
+fn next_stays(previous: u64, current: u64, owns: &mut Validators<'_>, validator: &Entry) -> bool
     ensures { (left : List Validator) → stay previous current owns.old (validator.now ∷ left) ≡ result && stay previous current owns.new left }
 {
-    stays(previous, current, owns.next(), validator)
+    let own = owns.next();
+    stays(previous, current, &own, validator)
 }
 
 /// Whether none of the validators of genesis that a state doesn't have is active there.
 #[tactic(auto, using(crate::proofs::Places::idling))]
-fn are_idle(previous: u64, current: u64, owns: Iter<'_, Validator>) -> bool
+fn are_idle(previous: u64, current: u64, owns: Validators<'_>) -> bool
     ensures { result ≡ stay previous current owns.entry [] }
 {
     for own in owns {
-        if is_active_validator(own, 0) {
+        if is_active_entry(&own, 0) {
             return false;
         }
     }
@@ -68,9 +62,9 @@ pub(crate) fn is_steady(genesis: &State, state: &State) -> bool
 {
     let previous = previous_epoch(state);
     let current = current_epoch(state);
-    let mut owns = genesis.validator_list().iter();
-    for validator in state.validator_list().iter() {
-        if !next_stays(previous, current, &mut owns, validator) {
+    let mut owns = genesis.registry().iter();
+    for validator in state.registry().iter() {
+        if !next_stays(previous, current, &mut owns, &validator) {
             return false;
         }
     }

@@ -16,10 +16,10 @@ ghost use Rattle.fork_store.specs.Keepers.{IsKeeperOf};
 use crate::chain_stepper::ChainStepper;
 use crate::store_fields::StoreFields;
 use crate::store_target_checkpoint_state::store_target_checkpoint_state;
-use balance_totals::{count_active, current_epoch, is_active_validator};
+use balance_totals::{count_active, current_epoch, is_active_entry};
 use bc_words::{NoMemory, Stop};
-use beacon_state::State;
-use beacon_types::{Checkpoint, Validator};
+use beacon_state::{Entry, State};
+use beacon_types::Checkpoint;
 use block_array::BlockArray;
 use state_keeper::Keeper;
 use std::alloc::Global;
@@ -69,11 +69,11 @@ impl ReadyBalances {
 
 /// The effective balance of a validator, in Gwei, and 0 where it isn't active at the epoch.
 #[tactic(auto, unfolding(crate::specs::Arrays::balance_in))]
-fn balance_in(validator: &Validator, epoch: u64) -> u64
+fn balance_in(validator: &Entry, epoch: u64) -> u64
     ensures { result ≡ balance_in epoch validator.now }
 {
-    if is_active_validator(validator, epoch) {
-        validator.effective_balance
+    if is_active_entry(validator, epoch) {
+        validator.effective_balance()
     } else {
         0
     }
@@ -91,8 +91,8 @@ fn list_of(alloc: Global, state: &State) -> Result<(Vec<u64>, u128), NoMemory>
     state.preset().bounds();
     let mut list = Vec::with_capacity(alloc, state.validators_len() as usize)?;
     let mut sum: u128 = 0;
-    for validator in state.validator_list().iter() {
-        let balance = balance_in(validator, epoch);
+    for validator in state.registry().iter() {
+        let balance = balance_in(&validator, epoch);
         list.push(balance)?;
         sum += u128::from(balance);
     }

@@ -9,19 +9,19 @@ ghost use Rattle.genesis_maker.specs.inside.Gathered.{with_balance};
 
 use bc_preset::Preset;
 use bc_words::NoMemory;
-use beacon_state::State;
+use beacon_state::{Entry, State};
 use beacon_types::Validator;
 use shared_tree::Numbers;
 use std::alloc::Global;
 
 /// A validator at genesis, with its balance in Gwei.
 #[tactic(auto, unfolding(spec_genesis::specs::InitializeBeaconStateFromEth1::genesis_validator), using(bc_preset::proofs::Bounds::preset_bounds))]
-fn genesis_validator(preset: &Preset, validator: &Validator, balance: u64) -> Validator
+fn genesis_validator(preset: &Preset, validator: &Entry, balance: u64) -> Validator
     requires { IsPreset preset.now }
     ensures { result ≡ genesis_validator preset.now validator.now balance }
 {
     let whole = balance - balance % preset.effective_balance_increment;
-    let mut credited = *validator;
+    let mut credited = validator.validator();
     credited.effective_balance = whole.min(preset.max_effective_balance);
     if credited.effective_balance == preset.max_effective_balance {
         credited.activation_eligibility_epoch = 0;
@@ -31,13 +31,13 @@ fn genesis_validator(preset: &Preset, validator: &Validator, balance: u64) -> Va
 }
 
 /// The same, where there may be no balance.
-fn with_balance(preset: &Preset, validator: &Validator, balance: Option<u64>) -> Validator
+fn with_balance(preset: &Preset, validator: &Entry, balance: Option<u64>) -> Validator
     requires { IsPreset preset.now }
     ensures { result ≡ with_balance preset.now validator.now balance }
 {
     match balance {
         Some(balance) => genesis_validator(preset, validator, balance),
-        None => *validator,
+        None => validator.validator(),
     }
 }
 
@@ -57,9 +57,9 @@ fn genesis_validators(alloc: Global, state: &State) -> Result<Vec<Validator>, No
     let preset = state.preset();
     let mut all = Vec::with_capacity(alloc, state.validators_len() as usize)?;
     let mut balances = state.balance_list().iter();
-    for validator in state.validator_list().iter() {
+    for validator in state.registry().iter() {
         let balance = next_balance(&mut balances);
-        all.push(with_balance(preset, validator, balance))?;
+        all.push(with_balance(preset, &validator, balance))?;
     }
     Ok(all)
 }
@@ -74,7 +74,7 @@ pub(crate) fn activate(alloc: Global, state: &mut State) -> Result<(), NoMemory>
     let _count = state.validators_len();
     let validators = genesis_validators(alloc, state)?;
     state.set_validators(validators)?;
-    let root = state.validator_list().root();
+    let root = state.validators_root();
     state.set_genesis_validators_root(root);
     Ok(())
 }

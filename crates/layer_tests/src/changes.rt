@@ -3,7 +3,7 @@
 use crate::genesis::genesis;
 use bc_preset::Preset;
 use bc_words::PushStop;
-use beacon_state::State;
+use beacon_state::{Entry, State};
 use beacon_types::{Checkpoint, Eth1Data, Validator};
 use hash_tree::{Leaf, Root};
 use std::alloc::Global;
@@ -62,11 +62,19 @@ fn set_registry(state: &mut State) -> bool {
     sizes & validator & balance & pushed
 }
 
+/// Whether there is the validator that was set.
+fn is_validator(entry: Option<Entry<'_>>) -> bool {
+    match entry {
+        Some(entry) => entry.validator() == VALIDATOR,
+        None => false,
+    }
+}
+
 /// Whether validators and balances are those that were set and appended.
 fn registry_changes(state: &mut State) -> bool {
     set_registry(state)
-        & (state.validators_at(0) == Some(&VALIDATOR))
-        & (state.validators_at(64) == Some(&VALIDATOR))
+        & is_validator(state.validators_at(0))
+        & is_validator(state.validators_at(64))
         & (state.balances_at(63) == Some(7))
         & (state.balances_at(64) == Some(8))
 }

@@ -85,7 +85,7 @@ fn leave(state: &mut State) -> bool {
     };
     let leaving = Validator {
         exit_epoch: 5,
-        ..*validator
+        ..validator.validator()
     };
     0 < state.validators_len() && state.set_validators_at(0, leaving).is_ok()
 }

@@ -1,5 +1,6 @@
-pub mod Regrouped
-pub mod PartsOfGroups
-pub mod Within
+pub mod Balanced
 pub mod Differing
 pub mod LeftOf
+pub mod PartsOfGroups
+pub mod Regrouped
+pub mod Within

@@ -36,6 +36,9 @@ all_none_taken P (x ∷ xs) = tt
 pub all_taken_more : {A : Type 0} (P : A → Type 0) (xs : List A) (i : ℕ) (x : A) → i < length xs → x ≡ get_or xs i x → AllByRecursion P (take i xs) → P x → AllByRecursion P (take (i + 1) xs)
 all_taken_more P xs i x less at all is = subst (AllByRecursion P) (ap (λ y. take i xs ++ y ∷ []) at ∙ sym (take_more xs i x less)) (all_push P (take i xs) x all is)
 
+pub all_taken_next : {A : Type 0} (P : A → Type 0) (xs : List A) (i : ℕ) (d : A) → i < length xs → AllByRecursion P (take i xs) → P (get_or xs i d) → AllByRecursion P (take (i + 1) xs)
+all_taken_next P xs i d less all is = subst (AllByRecursion P) (sym (take_more xs i d less)) (all_push P (take i xs) (get_or xs i d) all is)
+
 pub all_taken : {A : Type 0} (P : A → Type 0) (xs : List A) (n : ℕ) → length xs ≤ n → AllByRecursion P (take n xs) → AllByRecursion P xs
 all_taken P xs n over all = subst (AllByRecursion P) (take_all n xs over) all
 

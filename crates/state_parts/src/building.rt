@@ -11,6 +11,7 @@ ghost use Rattle.state_parts.specs.inside.Lists.{limited_to};
 use crate::groups::{attestations_limit_of, votes_limit_of};
 use crate::numbers::Numbers;
 use crate::results::both;
+use crate::validators::Validators;
 use crate::values::Values;
 use bc_preset::Preset;
 use bc_words::NoMemory;
@@ -42,22 +43,22 @@ pub fn vectors_built(
     Ok((block_roots, state_roots, mixes))
 }
 
-/// The registry of a state, its balances and the slashed ones, with the preset's limits.
+/// The registry of a state, its balances and the slashed ones, of which those have the preset's limits.
 #[tactic(auto, using(bc_preset::proofs::Bounds::preset_bounds))]
 pub fn registry_built(
     preset: &Preset,
     validators: Items<Validator>,
     balances: Items<u64>,
     slashings: Items<u64>,
-) -> Result<(Values<Validator>, Numbers, Numbers), NoMemory>
+) -> Result<(Validators, Numbers, Numbers), NoMemory>
     requires preset { IsPreset preset.now }
     requires validators { (length validators ≤ preset.now.validator_registry_limit) × AllByRecursion validator_codec.Within validators }
     requires balances { (length balances ≤ preset.now.validator_registry_limit) × AllByRecursion uint64.Within balances }
     requires slashings { (length slashings ≡ preset.now.epochs_per_slashings_vector) × AllByRecursion uint64.Within slashings }
-    ensures { IfOk result (λ lists. (lists.0 ≡ limited_to preset.now.validator_registry_limit validators) × (lists.1 ≡ limited_to preset.now.validator_registry_limit balances) × (lists.2 ≡ limited_to preset.now.epochs_per_slashings_vector slashings)) }
+    ensures { IfOk result (λ lists. (lists.0 ≡ validators) × (lists.1 ≡ limited_to preset.now.validator_registry_limit balances) × (lists.2 ≡ limited_to preset.now.epochs_per_slashings_vector slashings)) }
 {
     let limit = preset.validator_registry_limit;
-    let validators = Values::from_items(validators, limit);
+    let validators = Validators::from_items(validators);
     let amounts = both(
         Numbers::from_items(balances, limit),
         Numbers::from_items(slashings, preset.epochs_per_slashings_vector),

@@ -13,6 +13,7 @@ mod reading;
 mod results;
 mod rooted;
 mod uniform;
+mod validators;
 mod values;
 
 pub use building::{lists_built, pending_built, registry_built, vectors_built};
@@ -24,4 +25,5 @@ pub use numbers::Numbers;
 pub use reading::read_plain;
 pub use results::both;
 pub use rooted::Rooted;
+pub use validators::Validators;
 pub use values::Values;

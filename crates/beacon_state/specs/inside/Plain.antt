@@ -28,7 +28,7 @@ plain_of s = record {
   eth1_data = s.eth1_data;
   eth1_data_votes = s.eth1_data_votes.items;
   eth1_deposit_index = s.eth1_deposit_index;
-  validators = s.validators.items;
+  validators = s.validators;
   balances = s.balances.items;
   randao_mixes = s.randao_mixes.items;
   slashings = s.slashings.items;
@@ -48,14 +48,13 @@ pub record IsHeld (s : Inside) : Type 0 where
   pub state_roots_limit : s.state_roots.limit ≡ s.preset.slots_per_historical_root
   pub historical_roots_limit : s.historical_roots.limit ≡ s.preset.historical_roots_limit
   pub eth1_data_votes_limit : s.eth1_data_votes.limit ≡ votes_limit s.preset
-  pub validators_limit : s.validators.limit ≡ s.preset.validator_registry_limit
   pub balances_limit : s.balances.limit ≡ s.preset.validator_registry_limit
   pub randao_mixes_limit : s.randao_mixes.limit ≡ s.preset.epochs_per_historical_vector
   pub slashings_limit : s.slashings.limit ≡ s.preset.epochs_per_slashings_vector
   pub previous_epoch_attestations_limit : s.previous_epoch_attestations.limit ≡ attestations_limit s.preset
   pub current_epoch_attestations_limit : s.current_epoch_attestations.limit ≡ attestations_limit s.preset
   pub kept_root : IfSome s.kept_root (λ root. root ≡ (state_codec s.preset).hash_tree_root (plain_of s))
-  pub active_lists : AreActiveIn s.validators.items s.active_lists
+  pub active_lists : AreActiveIn s.validators s.active_lists
   pub kept_committees : s.kept_committees ≡ s.preset
 
 -- these are lists of active validators, and committees, that a state may keep
@@ -71,9 +70,9 @@ HasRoots s lists =
     × (lists.0.1 ≡ limited_to s.preset.historical_roots_limit s.historical_roots)
     × (lists.1 ≡ limited_to s.preset.epochs_per_historical_vector s.randao_mixes)
 
-abbrev pub HasRegistry : PlainState → (Limited Validator × Limited ℕ) × Limited ℕ → Type 0
+abbrev pub HasRegistry : PlainState → (List Validator × Limited ℕ) × Limited ℕ → Type 0
 HasRegistry s lists =
-    (lists.0.0 ≡ limited_to s.preset.validator_registry_limit s.validators)
+    (lists.0.0 ≡ s.validators)
     × (lists.0.1 ≡ limited_to s.preset.validator_registry_limit s.balances)
     × (lists.1 ≡ limited_to s.preset.epochs_per_slashings_vector s.slashings)
 

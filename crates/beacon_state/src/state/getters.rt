@@ -7,8 +7,9 @@ ghost use Rattle.spec_state.specs.States.{votes_limit, attestations_limit};
 
 use super::State;
 use bc_preset::Preset;
-use beacon_types::{BeaconBlockHeader, Checkpoint, Eth1Data, Fork, PendingAttestation, Validator};
+use beacon_types::{BeaconBlockHeader, Checkpoint, Eth1Data, Fork, PendingAttestation};
 use hash_tree::Root;
+use validator_registry::Entry;
 
 impl State {
     /// The preset that the state was read with.
@@ -165,8 +166,8 @@ impl State {
     }
 
     /// A validator by its index. None exactly where the place is not below the length.
-    pub fn validators_at(&self, i: u64) -> Option<&Validator>
-        ensures { option_map (λ x. x.now) result ≡ slice_get self.now.validators i }
+    pub fn validators_at(&self, i: u64) -> Option<Entry<'_>>
+        ensures { result ≡ slice_get self.now.validators i }
     {
         self.validators.get(i)
     }

@@ -24,7 +24,7 @@ impl State {
     pub fn active_list(&self, epoch: u64) -> Option<&[u64]>
         ensures { IfSome result (λ indices. indices.now ≡ get_active_validator_indices self.now epoch) }
     {
-        self.active_lists.indices(self.validators.list(), epoch)
+        self.active_lists.indices(self.validators.registry(), epoch)
     }
 
     /// Keeps the indices of the validators that are active at an epoch, in the place of those that are kept longest. Where memory
@@ -40,14 +40,14 @@ impl State {
         ensures { self.new ≡ self.old }
     {
         let list = ActiveList::new(alloc, epoch, indices)?;
-        self.active_lists.keep(self.validators.list(), list)
+        self.active_lists.keep(self.validators.registry(), list)
     }
 
     /// The sum of the effective balances of the validators that are active at an epoch, in Gwei, where it was noted.
     pub fn active_balance(&self, epoch: u64) -> Option<u64>
         ensures { IfSome result (λ balance. balance_in self.now.validators epoch ≡ done balance) }
     {
-        self.active_lists.balance(self.validators.list(), epoch)
+        self.active_lists.balance(self.validators.registry(), epoch)
     }
 
     /// Notes that sum with the list of the epoch, where this is kept.
@@ -56,7 +56,7 @@ impl State {
         ensures { self.new ≡ self.old }
     {
         self.active_lists
-            .note_balance(self.validators.list(), epoch, balance);
+            .note_balance(self.validators.registry(), epoch, balance);
     }
 
     /// The committees that a seed makes of the validators that are active at an epoch, where they are kept with their list.
@@ -83,7 +83,7 @@ impl State {
         requires { committees ≡ committees_of self.old.preset seed.now (get_active_validator_indices self.old epoch) }
         ensures { self.new ≡ self.old }
     {
-        match self.active_lists.shared(self.validators.list(), epoch)? {
+        match self.active_lists.shared(self.validators.registry(), epoch)? {
             Some(active) => self.kept_committees.keep(alloc, seed, active, committees),
             None => Ok(()),
         }

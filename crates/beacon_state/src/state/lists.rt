@@ -3,17 +3,19 @@
 
 ghost use Rattle.std.specs.Prelude.{◌≡◌, ◌≤◌, length};
 ghost use Rattle.spec_state.specs.States.{votes_limit, attestations_limit};
-ghost use Rattle.beacon_types.specs.Containers.{fork_codec, eth1_data_codec, checkpoint_codec};
+ghost use Rattle.ssz_codec.specs.Lists.{list_codec};
+ghost use Rattle.beacon_types.specs.Containers.{validator_codec, fork_codec, eth1_data_codec, checkpoint_codec};
 ghost use Rattle.spec_state.specs.Limits.{IsState, IsInRange};
 
 use super::State;
-use beacon_types::{Eth1Data, PendingAttestation, Validator};
+use beacon_types::{Eth1Data, PendingAttestation};
 use hash_tree::Root;
 use shared_tree::{PackedList, SharedList};
 use state_parts::{
-    Numbers, Values, bits_in_range, checkpoint_in_range, eth1_data_in_range, fork_in_range,
-    header_in_range, root_in_range,
+    Numbers, Validators, Values, bits_in_range, checkpoint_in_range, eth1_data_in_range,
+    fork_in_range, header_in_range, root_in_range,
 };
+use validator_registry::Registry;
 
 impl State {
     /// The roots of the latest blocks.
@@ -53,9 +55,8 @@ impl State {
     }
 
     /// The registry.
-    pub(crate) fn validators(&self) -> &Values<Validator>
-        ensures same { result.now.items ≡ self.now.validators }
-        ensures most { result.now.limit ≡ self.now.preset.validator_registry_limit }
+    pub(crate) fn validators(&self) -> &Validators
+        ensures same { result.now ≡ self.now.validators }
         ensures limit { length self.now.validators ≤ self.now.preset.validator_registry_limit }
     {
         &self.validators
@@ -108,12 +109,19 @@ impl State {
 }
 
 impl State {
-    /// The registry. Its root is kept.
-    pub fn validator_list(&self) -> &SharedList<Validator>
-        ensures items { result.now.items ≡ self.now.validators }
-        ensures limit { result.now.limit ≡ self.now.preset.validator_registry_limit }
+    /// The registry, whose validators are lent in order.
+    pub fn registry(&self) -> &Registry
+        ensures { result.now ≡ self.now.validators }
     {
-        self.validators.list()
+        self.validators.registry()
+    }
+
+    /// The root of the registry, which is kept.
+    pub fn validators_root(&self) -> Root
+        ensures { result ≡ (list_codec validator_codec self.now.preset.validator_registry_limit).hash_tree_root self.now.validators }
+    {
+        let _preset = self.preset();
+        self.validators.root()
     }
 
     /// The balances, in Gwei. Their root is kept.

@@ -171,7 +171,7 @@ impl State {
         ensures { Becomes result self.old self.new (record self.old { validators = slice_set self.old.validators i validator }) }
     {
         self.kept_root = None;
-        registry::set(&mut self.validators, &mut self.active_lists, i, validator)
+        registry::set(&mut self.validators, &mut self.active_lists, i, &validator)
     }
 
     /// Appends one more validator. Full exactly where there are as many as the limit. On an error the
@@ -180,7 +180,13 @@ impl State {
         ensures { Pushes result self.old self.new (one_more_validator self.old validator) }
     {
         self.kept_root = None;
-        registry::push(&mut self.validators, &mut self.active_lists, validator)
+        let limit = self.preset.validator_registry_limit;
+        registry::push(
+            &mut self.validators,
+            &mut self.active_lists,
+            &validator,
+            limit,
+        )
     }
 
     /// Writes another balance at a place. Where memory is refused, the state is as before.

@@ -7,7 +7,8 @@ ghost use Rattle.bc_words.specs.Outcome.{Becomes};
 ghost use Rattle.ssz_codec.specs.Basic.{bytes32};
 ghost use Rattle.ssz_codec.specs.Lists.{vector_codec};
 ghost use Rattle.spec_state.specs.States.{state_codec};
-ghost use Rattle.tree_nodes.specs.Changes.{AreChanges, changed};
+ghost use Rattle.tree_nodes.specs.Changes.{AreChanges};
+ghost use Rattle.validator_registry.specs.Registries.{with_balances};
 
 use super::{State, registry};
 use active_sets::ActiveLists;
@@ -26,14 +27,14 @@ impl State {
         self.validators.replace(validators)
     }
 
-    /// Writes other validators at many places. Where memory is refused, the state is as before.
-    #[tactic(auto, using(tree_nodes::proofs::Changes::length_changed))]
-    pub fn set_many_validators(&mut self, changes: Vec<(u64, Validator)>) -> Result<(), NoMemory>
+    /// Writes other effective balances at many places, in Gwei. Where memory is refused, the state is as before.
+    #[tactic(auto, using(validator_registry::proofs::GroupChanges::balance_lengths))]
+    pub fn set_effective_balances(&mut self, changes: Vec<(u64, u64)>) -> Result<(), NoMemory>
         requires { AreChanges 0 (length self.old.validators) changes.items }
-        ensures { Becomes result self.old self.new (record self.old { validators = changed self.old.validators changes.items }) }
+        ensures { Becomes result self.old self.new (record self.old { validators = with_balances self.old.validators changes.items }) }
     {
         self.kept_root = None;
-        registry::set_many(&mut self.validators, &mut self.active_lists, changes)
+        registry::set_effective_balances(&mut self.validators, &mut self.active_lists, changes)
     }
 
     /// Writes all balances, in Gwei. Where memory is refused, the state is as before.

@@ -3,7 +3,7 @@
 use super::Difference;
 use super::parts::{compare_validators, compare_votes};
 use anyhow::Result;
-use beacon_state::State;
+use beacon_state::{Entry, State};
 use beacon_types::PendingAttestation;
 use hash_tree::Leaf;
 
@@ -62,7 +62,10 @@ impl List {
             List::StateRoots => ours.state_roots_at(i) == theirs.state_roots_at(i),
             List::HistoricalRoots => ours.historical_roots_at(i) == theirs.historical_roots_at(i),
             List::Eth1DataVotes => ours.eth1_data_votes_at(i) == theirs.eth1_data_votes_at(i),
-            List::Validators => ours.validators_at(i) == theirs.validators_at(i),
+            List::Validators => {
+                let ours = ours.validators_at(i);
+                is_same_validator(ours, theirs.validators_at(i))
+            }
             List::Balances => ours.balances_at(i) == theirs.balances_at(i),
             List::RandaoMixes => ours.randao_mixes_at(i) == theirs.randao_mixes_at(i),
             List::Slashings => ours.slashings_at(i) == theirs.slashings_at(i),
@@ -75,6 +78,15 @@ impl List {
                 is_same_vote(ours, theirs.current_epoch_attestations_at(i))
             }
         }
+    }
+}
+
+/// Whether two validators are the same, or there is none of either.
+fn is_same_validator(ours: Option<Entry<'_>>, theirs: Option<Entry<'_>>) -> bool {
+    match (ours, theirs) {
+        (Some(one), Some(other)) => one.validator() == other.validator(),
+        (None, None) => true,
+        _ => false,
     }
 }
 

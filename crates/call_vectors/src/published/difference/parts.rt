@@ -2,7 +2,8 @@
 
 use super::Difference;
 use anyhow::Result;
-use beacon_types::{Checkpoint, Eth1Data, Validator};
+use beacon_state::Entry;
+use beacon_types::{Checkpoint, Eth1Data};
 
 /// Two checkpoints.
 pub(crate) fn compare_checkpoints(
@@ -53,65 +54,65 @@ pub(crate) fn compare_votes(
 /// What a validator is and has.
 fn compare_holdings(
     place: &str,
-    ours: &Validator,
-    theirs: &Validator,
+    ours: &Entry,
+    theirs: &Entry,
     difference: &mut Difference,
 ) -> Result<()> {
-    difference.bytes(place, ".pubkey", &ours.pubkey, &theirs.pubkey)?;
+    difference.bytes(place, ".pubkey", ours.pubkey(), theirs.pubkey())?;
     difference.bytes(
         place,
         ".withdrawal_credentials",
-        &ours.withdrawal_credentials,
-        &theirs.withdrawal_credentials,
+        &ours.withdrawal_credentials(),
+        &theirs.withdrawal_credentials(),
     )?;
     difference.number(
         place,
         ".effective_balance",
-        ours.effective_balance,
-        theirs.effective_balance,
+        ours.effective_balance(),
+        theirs.effective_balance(),
     )?;
-    difference.truth(place, ".slashed", ours.slashed, theirs.slashed)
+    difference.truth(place, ".slashed", ours.slashed(), theirs.slashed())
 }
 
 /// When a validator comes and goes.
 fn compare_times(
     place: &str,
-    ours: &Validator,
-    theirs: &Validator,
+    ours: &Entry,
+    theirs: &Entry,
     difference: &mut Difference,
 ) -> Result<()> {
     difference.number(
         place,
         ".activation_eligibility_epoch",
-        ours.activation_eligibility_epoch,
-        theirs.activation_eligibility_epoch,
+        ours.activation_eligibility_epoch(),
+        theirs.activation_eligibility_epoch(),
     )?;
     difference.number(
         place,
         ".activation_epoch",
-        ours.activation_epoch,
-        theirs.activation_epoch,
+        ours.activation_epoch(),
+        theirs.activation_epoch(),
     )?;
-    difference.number(place, ".exit_epoch", ours.exit_epoch, theirs.exit_epoch)?;
+    difference.number(place, ".exit_epoch", ours.exit_epoch(), theirs.exit_epoch())?;
     difference.number(
         place,
         ".withdrawable_epoch",
-        ours.withdrawable_epoch,
-        theirs.withdrawable_epoch,
+        ours.withdrawable_epoch(),
+        theirs.withdrawable_epoch(),
     )
 }
 
 /// Two validators, where there are two.
 pub(crate) fn compare_validators(
     place: &str,
-    ours: Option<&Validator>,
-    theirs: Option<&Validator>,
+    ours: Option<Entry<'_>>,
+    theirs: Option<Entry<'_>>,
     difference: &mut Difference,
 ) -> Result<()> {
     match (ours, theirs) {
         (Some(one), Some(other)) => {
-            compare_holdings(place, one, other, difference)?;
-            compare_times(place, one, other, difference)
+            compare_holdings(place, &one, &other, difference)?;
+            compare_times(place, &one, &other, difference)
         }
         _ => Ok(()),
     }

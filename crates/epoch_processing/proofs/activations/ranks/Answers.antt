@@ -8,7 +8,7 @@ pub loop-index-preserved : goal.loop-index-preserved
 loop-index-preserved c =
     let state = c.args.state.now in
     let walk = c.loop-index.index-iterator in
-    let v = c.in-Some.validator.now in
+    let v = c.in-Some.validator in
     let before = c.loop-index.ranks.items in
     let opened : walk.iter ≡ v ∷ c.next.new.self.iter = search rules in
     let count : c.next.new.self.count ≡ walk.count + 1 = search rules in

@@ -14,7 +14,7 @@ eligibility_and_ejection-requires-clause-validator c =
     let validators = c.loop-index.state.validators in
     let step = c.in-Some.ensures.steps in
     ap (slice_get validators) step.1
-    ∙ first_left validators c.loop-index.index-iterator.count c.in-Some.validator.now c.next.new.self.iter (sym step.0 ∙ c.loop-index.invariant.here)
+    ∙ first_left validators c.loop-index.index-iterator.count c.in-Some.validator c.next.new.self.iter (sym step.0 ∙ c.loop-index.invariant.here)
 
 pub loop-index-preserved : goal.loop-index-preserved
 loop-index-preserved c =
@@ -22,7 +22,7 @@ loop-index-preserved c =
     let state = c.loop-index.state in
     let next = c.eligibility_and_ejection.new.state in
     let i = c.loop-index.index-iterator.count in
-    let x = c.in-Some.validator.now in
+    let x = c.in-Some.validator in
     let left = c.next.new.self.iter in
     let step = c.in-Some.ensures.steps in
     let made = c.in_ok-eligibility_and_ejection.ensures in
@@ -47,7 +47,7 @@ returns-in_err-eligibility_and_ejection c =
     let step = c.in-Some.ensures.steps in
     let all : Stops stop (each_of (eligibility_and_ejection c.args.config.now) old (validator_indices old)) =
     subst (Stops stop) c.loop-index.invariant.all
-    (walk_stops _ old.validators c.loop-index.index-iterator.count c.loop-index.state c.in-Some.validator.now c.next.new.self.iter c.in-Some.index stop (sym step.0 ∙ c.loop-index.invariant.before) step.1 c.in_err-eligibility_and_ejection.ensures.exact) in
+    (walk_stops _ old.validators c.loop-index.index-iterator.count c.loop-index.state c.in-Some.validator c.next.new.self.iter c.in-Some.index stop (sym step.0 ∙ c.loop-index.invariant.before) step.1 c.in_err-eligibility_and_ejection.ensures.exact) in
     search (rules, all)
 
 pub returns : goal.returns

@@ -1,17 +1,17 @@
 -- One validator more was looked at, or all of them were.
-use Rattle.std.proofs.Common.{◌<◌, ◌+◌, length, take, false, refl, rules, sym, ap, subst, ◌∙◌, arith}
-use Rattle.std.specs.Option.{unwrap_or}
+use Rattle.std.proofs.Common.{◌≡◌, ◌<◌, ◌+◌, length, take, false, refl, rules, sym, ap, subst, ◌∙◌, arith}
 use Rattle.std.proofs.lemmas.List.{take_all}
 use Rattle.bc_words.specs.Outcome.{Stops, done}
 use Rattle.bc_words.proofs.Outcomes.{stops_exactly}
-use Rattle.tree_nodes.specs.Changes.{changed}
-use Rattle.tree_nodes.proofs.Changes.{length_changed}
 use Rattle.tree_nodes.proofs.Many.{wider}
+use Rattle.validator_registry.specs.Registries.{with_balances}
+use Rattle.validator_registry.proofs.GroupChanges.{balance_lengths}
 use Rattle.spec_epochs.specs.Each.{checked_map, validator_indices}
 use Rattle.spec_epochs.specs.ProcessEffectiveBalanceUpdates.{updated_validator}
 use Rattle.spec_epochs.proofs.Each.{made_from, made_more, made_ends, made_stops}
+use Rattle.epoch_processing.specs.inside.Updates.{with_effective}
 use Rattle.epoch_processing.proofs.MadeLeft.{rest_left}
-use Rattle.epoch_processing.proofs.Updating.{as_many_read, balance_read, found_read, none_noted, noted_more, another_made}
+use Rattle.epoch_processing.proofs.Updating.{as_many_read, balance_read, found_read, none_noted, noted_more}
 use Rattle.epoch_processing.proofs.process_effective_balance_updates.all_updated.Goals as goal
 
 pub loop-index-init : goal.loop-index-init
@@ -21,7 +21,7 @@ loop-index-init c =
     record {
       beside = search rules;
       places = search rules;
-      made = none_noted (updated_validator state) state.validators 0 (length state.validators) c.new-changes.result.items refl c.new-changes.ensures.items;
+      made = none_noted (updated_validator state) state.validators 0 (length state.validators) c.new-changes.result.items refl;
     }
 
 pub updated-requires-clause-effective : goal.updated-requires-clause-effective
@@ -38,13 +38,13 @@ loop-index-preserved c =
     let within : i < n = omega (arith, c.loop-index-test.true, as_many_read c.args.stakes.now state.validators c.requires) in
     let here = found_read c.args.stakes.now state.validators c.requires i (record { effective_balance = 0; eligible = false; slashed = false }) c.loop-index-test.true in
     let more = noted_more state.validators i before after here.validator another c.loop-index.invariant.places here.here c.in_ok-note.ensures in
-    let made = another_made _ here.validator another (updated_validator state i) here.here c.in_ok-another.ensures in
+    let made : updated_validator state i ≡ done (with_effective here.validator another) = c.in_ok-another.ensures here.validator here.here in
     record {
       beside = c.next_balance-balance.ensures.others ∙ rest_left state.balances i c.loop-index.balances c.loop-index.invariant.beside;
       places = more.0;
       made =
           ap (made_from (updated_validator state) n (i + 1)) more.1
-          ∙ sym (made_more (updated_validator state) n i (take i (changed state.validators before)) (unwrap_or another here.validator) within made)
+          ∙ sym (made_more (updated_validator state) n i (take i (with_balances state.validators before)) (with_effective here.validator another) within made)
           ∙ c.loop-index.invariant.made;
     }
 
@@ -57,7 +57,7 @@ returns-in_err-another-clause-exact c =
     let within : i < n = omega (arith, c.loop-index-test.true, as_many_read c.args.stakes.now state.validators c.requires) in
     let all : Stops stop (checked_map (updated_validator state) (validator_indices state)) =
     subst (Stops stop) c.loop-index.invariant.made
-    (made_stops (updated_validator state) n i (take i (changed state.validators c.loop-index.changes.items)) stop within (stops_exactly stop (updated_validator state i) c.in_err-another.ensures)) in
+    (made_stops (updated_validator state) n i (take i (with_balances state.validators c.loop-index.changes.items)) stop within (stops_exactly stop (updated_validator state i) c.in_err-another.ensures)) in
     search (rules, all)
 
 pub returns-clause-exact : goal.returns-clause-exact
@@ -65,11 +65,11 @@ returns-clause-exact c =
     let state = c.args.state.now in
     let i = c.loop-index.index in
     let n = length state.validators in
-    let becomes = changed state.validators c.loop-index.changes.items in
+    let becomes = with_balances state.validators c.loop-index.changes.items in
     let count = as_many_read c.args.stakes.now state.validators c.requires in
     sym c.loop-index.invariant.made
     ∙ made_ends (updated_validator state) n i (take i becomes) (omega (arith, count, c.loop-index-test.false))
-    ∙ ap done (take_all i becomes (omega (arith, count, c.loop-index-test.false, length_changed state.validators c.loop-index.changes.items)))
+    ∙ ap done (take_all i becomes (omega (arith, count, c.loop-index-test.false, balance_lengths state.validators c.loop-index.changes.items)))
 
 pub returns-clause-places : goal.returns-clause-places
 returns-clause-places c =

@@ -1,9 +1,8 @@
 -- What becomes of a validator is decided by its effective balance and its balance.
-use Rattle.std.proofs.Common.{◌≡◌, Some, rules, ap, ◌∙◌}
+use Rattle.std.proofs.Common.{rules, ◌∙◌}
 use Rattle.bc_words.specs.Outcome.{StopsExactly}
-use Rattle.bc_words.proofs.Outcomes.{exactly_bound}
 use Rattle.spec_epochs.specs.ProcessEffectiveBalanceUpdates.{updated_validator}
-use Rattle.epoch_processing.proofs.Updating.{Found, found_at, no_balance, stops_by, gives_by, stays_by}
+use Rattle.epoch_processing.proofs.Updating.{no_balance, stops_by, gives_by, stays_by}
 use Rattle.epoch_processing.proofs.process_effective_balance_updates.updated.Goals as goal
 
 pub returns-in_default : goal.returns-in_default
@@ -19,16 +18,5 @@ returns-in_err-effective_balance c =
 pub returns-then-effective_balance-effective : goal.returns-then-effective_balance-effective
 returns-then-effective_balance-effective c = stays_by c.args.state.now c.args.index c.args.effective c.requires.effective c.preset.result.now c.in-Some.balance c.preset.ensures.same (c.requires.balance ∙ c.in-Some.is) c.in_ok-effective_balance.effective_balance c.in_ok-effective_balance.ensures c.if-effective_balance-effective.true
 
-pub returns-in_err-validator : goal.returns-in_err-validator
-unfolding updated_validator
-returns-in_err-validator c =
-    let stop = c.in_err-validator.field-0.0 in
-    let stops : StopsExactly stop (updated_validator c.args.state.now c.args.index) = exactly_bound stop _ _ c.in_err-validator.ensures.exact in
-    search (rules, stops)
-
 pub returns : goal.returns
-returns c =
-    let f : Found c.args.state.now.validators c.args.index c.args.effective = found_at c.args.state.now.validators c.args.index c.args.effective c.requires.effective in
-    let one : f.validator ≡ c.in_ok-validator.validator = cc (rw f.here at c.in_ok-validator.ensures.exact) in
-    gives_by c.args.state.now c.args.index c.args.effective c.requires.effective c.preset.result.now c.in-Some.balance c.preset.ensures.same (c.requires.balance ∙ c.in-Some.is) c.in_ok-effective_balance.effective_balance c.in_ok-effective_balance.ensures c.in_ok-validator.validator
-    (f.here ∙ ap Some one)
+returns c = gives_by c.args.state.now c.args.index c.args.effective c.requires.effective c.preset.result.now c.in-Some.balance c.preset.ensures.same (c.requires.balance ∙ c.in-Some.is) c.in_ok-effective_balance.effective_balance c.in_ok-effective_balance.ensures

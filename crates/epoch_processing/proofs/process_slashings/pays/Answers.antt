@@ -2,5 +2,5 @@
 use Rattle.std.proofs.Common.{rules, tests}
 use Rattle.epoch_processing.proofs.process_slashings.pays.Goals as goal
 
-pub returns-then-validator : goal.returns-then-validator
-returns-then-validator c = search (rules, tests)
+pub returns-then-slashed : goal.returns-then-slashed
+returns-then-slashed c = search (rules, tests)

@@ -12,7 +12,7 @@ pub loop-index-preserved : goal.loop-index-preserved
 loop-index-preserved c =
     let state = c.args.state.now in
     let i = c.loop-index.index-iterator.count in
-    let x = c.in-Some.validator.now in
+    let x = c.in-Some.validator in
     let left = c.next.new.self.iter in
     let step = c.in-Some.ensures.steps in
     let here : x ∷ left ≡ drop i state.validators = sym step.0 ∙ c.loop-index.invariant.at in
@@ -31,7 +31,7 @@ returns-in_err-penalized-clause-exact c =
     let step = c.in-Some.ensures.steps in
     let all : Stops stop (checked_map (penalized_balance state c.args.slashed.now.adjusted c.args.slashed.now.total) (validator_indices state)) =
     subst (Stops stop) c.loop-index.invariant.made
-    (left_stops _ state.validators c.loop-index.index-iterator.count c.loop-index.all.items c.in-Some.validator.now c.next.new.self.iter c.in-Some.index stop (sym step.0 ∙ c.loop-index.invariant.at) step.1 c.in_err-penalized.ensures) in
+    (left_stops _ state.validators c.loop-index.index-iterator.count c.loop-index.all.items c.in-Some.validator c.next.new.self.iter c.in-Some.index stop (sym step.0 ∙ c.loop-index.invariant.at) step.1 c.in_err-penalized.ensures) in
     search (rules, all)
 
 pub returns-clause-exact : goal.returns-clause-exact

@@ -4,10 +4,7 @@ use Rattle.bc_preset.proofs.Bounds.{preset_bounds}
 use Rattle.state_parts.proofs.building.registry_built.Goals as goal
 
 pub from_items-validators-requires-clause-fits : goal.from_items-validators-requires-clause-fits
-from_items-validators-requires-clause-fits c = omega (arith, c.requires.validators.0)
-
-pub from_items-validators-requires-clause-low : goal.from_items-validators-requires-clause-low
-from_items-validators-requires-clause-low c = grind (arith, preset_bounds)
+from_items-validators-requires-clause-fits c = grind (arith, preset_bounds)
 
 pub from_items-validators-requires-clause-within : goal.from_items-validators-requires-clause-within
 from_items-validators-requires-clause-within c = c.requires.validators.1

@@ -13,7 +13,6 @@ invariant_of-result c = record {
   state_roots_limit = search rules;
   historical_roots_limit = search rules;
   eth1_data_votes_limit = search rules;
-  validators_limit = search rules;
   balances_limit = search rules;
   randao_mixes_limit = search rules;
   slashings_limit = search rules;
