@@ -10,6 +10,7 @@ ghost use Rattle.validator_registry.specs.inside.Groups.{validators_of, group_ro
 use crate::entries::Entries;
 use crate::entry::Entry;
 use crate::member::Member;
+use crate::owners::write_owner_roots;
 use crate::roots::root_of_members;
 use bc_words::NoMemory;
 use beacon_types::Validator;
@@ -85,10 +86,13 @@ impl Group {
         requires { length validators.now ≤ 16 }
         ensures { IfOk result (λ group. group ≡ validators.now) }
     {
-        let mut members = Vec::with_capacity(alloc, validators.len())?;
+        let count = validators.len();
+        let mut owners = [[0; 32]; 16];
+        write_owner_roots(validators, &mut owners[..count]);
+        let mut members = Vec::with_capacity(alloc, count)?;
         let mut balances = [0; 16];
-        'members: for k in 0..validators.len() {
-            members.push(Member::of(&validators[k]))?;
+        'members: for k in 0..count {
+            members.push(Member::with(&validators[k], owners[k]))?;
             balances[k] = validators[k].effective_balance;
         }
         let members = Rc::new(alloc, members)?;

@@ -10,6 +10,7 @@ mod entry;
 mod group;
 mod group_changes;
 mod member;
+mod owners;
 mod registry;
 mod rest_roots;
 mod roots;

@@ -22,9 +22,18 @@ impl Member {
     pub(crate) fn of(validator: &Validator) -> Member
         ensures { result.validator ≡ validator.now }
     {
+        let owner = hash_pair(&validator.pubkey.root(), &validator.withdrawal_credentials);
+        Member::with(validator, owner)
+    }
+
+    /// That of a validator, the root over whose key and withdrawal credentials is known.
+    pub(crate) fn with(validator: &Validator, owner: Root) -> Member
+        requires { owner ≡ owner_root validator.now }
+        ensures { result.validator ≡ validator.now }
+    {
         Member {
             validator: *validator,
-            owner: hash_pair(&validator.pubkey.root(), &validator.withdrawal_credentials),
+            owner,
         }
     }
 }

@@ -182,7 +182,8 @@ impl Registry {
 
     /// The validators in order. An iterator is seen as what is left of them.
     pub fn iter(&self) -> Validators<'_>
-        ensures { result ≡ self.now }
+        ensures validators { result ≡ self.now }
+        ensures few { length result ≤ 2 ^ 40 }
     {
         Validators::over(&self.tree)
     }
@@ -210,8 +211,8 @@ impl Registry {
     }
 
     /// Other effective balances at many places, in Gwei. Each group in which one changes is hashed anew, and shares all but the
-    /// balances; with at most a step for each level above the groups and change, and one for the length. Where memory is
-    /// refused, the registry is as before.
+    /// balances; with at most a step for each level above the groups and change, and one for the length, and none where nothing
+    /// changes. Where memory is refused, the registry is as before.
     pub fn set_effective_balances<L: Ledger>(
         &mut self,
         changes: Vec<(u64, u64)>,
@@ -221,6 +222,9 @@ impl Registry {
         ensures set { Becomes result self.old self.new (with_balances self.old changes.items) }
         ensures at_most { steps.new ≤ steps.old + (length changes.items * 36 + 37) }
     {
+        if changes.is_empty() {
+            return Ok(());
+        }
         let groups = group_changes(&self.tree, changes, self.alloc)?;
         self.tree.put_many(groups, steps)?;
         self.root = root_over(&self.tree, self.depth, self.len, steps);

@@ -30,7 +30,7 @@ fn are_alike(members: &[Member], balances: &[u64], other: &Validator) -> bool
 }
 
 /// Writes the hashes of nodes, each with the one at its place on the right behind it.
-fn hash_beside(left: &[Root], right: &[Root], out: &mut [Root])
+pub(crate) fn hash_beside(left: &[Root], right: &[Root], out: &mut [Root])
     requires few { length left.now ≤ 16 }
     requires right { length right.now ≡ length left.now }
     requires out { length out.old ≡ length left.now }
