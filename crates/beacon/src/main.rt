@@ -5,6 +5,7 @@
 mod program;
 mod progress;
 mod stack;
+mod waiting;
 
 use crate::program::{explain_words, run, words_of};
 use crate::progress::Progress;

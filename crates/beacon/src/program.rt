@@ -1,6 +1,7 @@
 //! The program over a runtime: its words, the disk and standard output go to `beacon_main`, and its status to the caller.
 
 use crate::progress::{Progress, Watch, WatchedOut, WatchedShelf, WatchedSink};
+use crate::waiting::Waiting;
 use bc_outside::{DiskShelf, StdSink};
 use beacon_node::{Status, beacon_main};
 use command_arguments::Command;
@@ -37,11 +38,12 @@ pub fn explain_words<R: Eprint>(rt: &R, status: &Status) {
     };
 }
 
-/// Why the outside failed, where the status says that it did.
+/// Why the outside failed, where the status says that it did: lines may have failed to be written at the end.
 fn cause_of<'a, R: Files, W: io::Write>(
     status: &Status,
     shelf: &'a DiskShelf<'_, R>,
     out: &'a StdSink<W>,
+    at_end: Option<&'a io::Error>,
 ) -> Option<Cause<'a>> {
     match status {
         Status::ReadFault => {
@@ -53,7 +55,7 @@ fn cause_of<'a, R: Files, W: io::Write>(
         }
         Status::WriteFault => Some(Cause {
             name: None,
-            error: out.last_cause()?,
+            error: at_end.or(out.last_cause())?,
         }),
         _ => None,
     }
@@ -68,11 +70,11 @@ fn record_of(alloc: Global, words: &[String]) -> u32 {
 }
 
 /// The number of the event that was read or whose line was written, where the record of `replay` or `anchor` was opened: each event
-/// before it has its line.
-fn event_at<R: Files, W: io::Write>(
+/// before it has its line, of which there are so many.
+fn event_at<R: Files>(
     command: &Option<Command<'_>>,
     shelf: &DiskShelf<'_, R>,
-    out: &StdSink<W>,
+    lines: u64,
 ) -> Option<u64> {
     let record = match command {
         Some(Command::Replay(_)) => 2,
@@ -80,8 +82,23 @@ fn event_at<R: Files, W: io::Write>(
         _ => return None,
     };
     match shelf.handed_out(record) {
-        Some(_) => Some(out.lines().saturating_add(1)),
+        Some(_) => Some(lines.saturating_add(1)),
         None => None,
+    }
+}
+
+/// How the lines of a run ended: how many were written, and why the rest wasn't.
+struct Ended {
+    lines: u64,
+    error: Option<io::Error>,
+}
+
+/// Writes the lines that still wait, and tells how that ended.
+fn ended<R: Print>(waiting: &Waiting<'_, R>) -> Ended {
+    let error = waiting.finish().err();
+    Ended {
+        lines: waiting.lines(),
+        error,
     }
 }
 
@@ -93,16 +110,17 @@ fn explain<'a, R: Eprint + Files, W: io::Write>(
     words: &'a [String],
     shelf: &DiskShelf<'_, R>,
     out: &StdSink<W>,
+    ended: &Ended,
 ) {
     if status.number() != 0 {
         let wrong = what_is_wrong(alloc, words);
         let command = read_command(alloc, words).ok();
-        let event = event_at(&command, shelf, out);
+        let event = event_at(&command, shelf, ended.lines);
         let explanation = Explanation {
             status,
             command,
             wrong: wrong.as_deref(),
-            cause: cause_of(status, shelf, out),
+            cause: cause_of(status, shelf, out, ended.error.as_ref()),
             event,
             genesis_len: shelf.handed_out(1),
         };
@@ -119,11 +137,25 @@ pub fn run<R: Files + Print + Eprint + Clock + AllocGlobal>(
     progress: Progress,
 ) -> u8 {
     let watch = Watch::new(rt, progress, record_of(rt.alloc(), words));
-    let mut shelf = WatchedShelf::new(DiskShelf::new(rt.alloc(), rt), &watch);
-    let written = StdSink::new(rt.alloc(), WatchedOut::new(rt, &watch));
+    let waiting = Waiting::new(rt.alloc(), rt);
+    let mut shelf = WatchedShelf::new(DiskShelf::new(rt.alloc(), rt), &watch, &waiting);
+    let written = StdSink::new(rt.alloc(), WatchedOut::new(&waiting, &watch));
     let mut out = WatchedSink::new(written, &watch);
-    let status = beacon_main(rt.alloc(), words, &mut shelf, &mut out);
+    let told = beacon_main(rt.alloc(), words, &mut shelf, &mut out);
+    let ended = ended(&waiting);
+    let status = match ended.error {
+        Some(_) => Status::WriteFault,
+        None => told,
+    };
     watch.clear();
-    explain(rt.alloc(), rt, &status, words, shelf.shelf(), out.sink());
+    explain(
+        rt.alloc(),
+        rt,
+        &status,
+        words,
+        shelf.shelf(),
+        out.sink(),
+        &ended,
+    );
     status.number()
 }

@@ -7,6 +7,7 @@
 ghost use Rattle.std.specs.Prelude.{◌≡◌, ◌<◌, ◌^◌, [], ◌∷◌, length};
 ghost use Rattle.bc_outside.specs.Calls.{FailsOnlyBy, Opens, Reads, ShelfKeeps, SinkKeeps, Writes};
 
+use crate::waiting::Waiting;
 use bc_outside::{Shelf, Sink, Trouble};
 use std::cell::Cell;
 use std::io;
@@ -115,7 +116,7 @@ impl<'a, R: Eprint + Clock> Watch<'a, R> {
         }
     }
 
-    /// Counts a line where it ends in bytes that were written: no write has more than one.
+    /// Counts a line where it ends in bytes that were taken: no write has more than one.
     fn count_lines(&self, bytes: &[u8]) {
         if bytes.contains(&b'\n') {
             self.events.set(self.events.get().saturating_add(1));
@@ -130,19 +131,24 @@ impl<'a, R: Eprint + Clock> Watch<'a, R> {
     }
 }
 
-/// A shelf that shows which file is opened, and counts what is read of the record.
+/// A shelf that shows which file is opened, and counts what is read of the record. The lines that wait are written before.
 #[derive(Drop)]
-pub struct WatchedShelf<'a, 'b, F: Shelf + Drop, R: Eprint + Clock> {
+pub struct WatchedShelf<'a, 'b, F: Shelf + Drop, R: Print + Eprint + Clock> {
     shelf: F,
     watch: &'a Watch<'b, R>,
+    waiting: &'a Waiting<'b, R>,
 }
 
-impl<'a, 'b, F: Shelf + Drop, R: Eprint + Clock> WatchedShelf<'a, 'b, F, R> {
+impl<'a, 'b, F: Shelf + Drop, R: Print + Eprint + Clock> WatchedShelf<'a, 'b, F, R> {
     /// The same shelf, watched.
-    pub fn new(shelf: F, watch: &'a Watch<'b, R>) -> Self
+    pub fn new(shelf: F, watch: &'a Watch<'b, R>, waiting: &'a Waiting<'b, R>) -> Self
         ensures { result.shelf ≡ shelf }
     {
-        WatchedShelf { shelf, watch }
+        WatchedShelf {
+            shelf,
+            watch,
+            waiting,
+        }
     }
 
     /// The shelf itself.
@@ -153,7 +159,7 @@ impl<'a, 'b, F: Shelf + Drop, R: Eprint + Clock> WatchedShelf<'a, 'b, F, R> {
     }
 }
 
-impl<'a, 'b, F: Shelf + Drop, R: Eprint + Clock> Shelf for WatchedShelf<'a, 'b, F, R> {
+impl<'a, 'b, F: Shelf + Drop, R: Print + Eprint + Clock> Shelf for WatchedShelf<'a, 'b, F, R> {
     ghost told = { λ watched. F.told watched.shelf };
 
     fn open(&mut self, name: &str) -> Result<u32, Trouble>
@@ -172,35 +178,37 @@ impl<'a, 'b, F: Shelf + Drop, R: Eprint + Clock> Shelf for WatchedShelf<'a, 'b, 
         ensures causes { FailsOnlyBy result (F.told self.old.shelf).faults (F.told self.new.shelf).faults }
         ensures keeps { ShelfKeeps [] (F.told self.old.shelf) (F.told self.new.shelf) }
     {
+        // what can't be written now waits on, and the next line or the end of the run meets the fault
+        let _ = self.waiting.flush();
         let count = self.shelf.read(file, into)?;
         self.watch.count_bytes(file, count);
         Ok(count)
     }
 }
 
-/// Standard output, with its lines counted.
+/// What waits for standard output, with its lines counted.
 #[derive(Drop)]
 pub struct WatchedOut<'a, 'b, R: Print + Eprint + Clock> {
-    to: &'b R,
+    waiting: &'a Waiting<'b, R>,
     watch: &'a Watch<'b, R>,
 }
 
 impl<'a, 'b, R: Print + Eprint + Clock> WatchedOut<'a, 'b, R> {
-    /// What the runtime prints, watched.
-    pub fn new(to: &'b R, watch: &'a Watch<'b, R>) -> Self {
-        WatchedOut { to, watch }
+    /// What takes the lines, watched.
+    pub fn new(waiting: &'a Waiting<'b, R>, watch: &'a Watch<'b, R>) -> Self {
+        WatchedOut { waiting, watch }
     }
 }
 
 impl<R: Print + Eprint + Clock> Write for WatchedOut<'_, '_, R> {
     fn write(&mut self, buf: &[u8]) -> io::Result<usize> {
-        let n = self.to.write_some(buf)?;
+        let n = self.waiting.take(buf)?;
         self.watch.count_lines(&buf[..n]);
         Ok(n)
     }
 
     fn flush(&mut self) -> io::Result<()> {
-        Ok(())
+        self.waiting.flush()
     }
 }
 

@@ -48,9 +48,19 @@ impl State {
     }
 
     /// The root of the latest block: that of the latest header, whose zero state root is replaced by the state's root
-    /// (beacon-chain.md, "process_slot"). It takes no memory.
-    #[tactic(auto, unfolding(spec_state::specs::Genesis::header_root_of, spec_state::specs::Genesis::block_header_of))]
+    /// (beacon-chain.md, "process_slot"). It may be kept, and takes no memory.
     pub fn header_root(&self) -> Root
+        ensures { result ≡ header_root_of self.now }
+    {
+        match self.kept_header_root() {
+            Some(root) => root,
+            None => self.taken_header_root(),
+        }
+    }
+
+    /// The root of the latest block, by its header.
+    #[tactic(auto, unfolding(spec_state::specs::Genesis::header_root_of, spec_state::specs::Genesis::block_header_of))]
+    fn taken_header_root(&self) -> Root
         ensures { result ≡ header_root_of self.now }
     {
         let mut header = self.latest_block_header();

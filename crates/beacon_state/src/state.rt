@@ -26,6 +26,13 @@ use state_parts::{
 };
 use std::marker::Model;
 
+/// The root of a state, and that of its latest block where this was kept too.
+#[derive(Clone, Copy)]
+pub(crate) struct KeptRoot {
+    pub(crate) root: Root,
+    pub(crate) header: Option<Root>,
+}
+
 /// A state of the beacon chain (beacon-chain.md, "BeaconState"), whose lists are within the limits of its preset.
 pub struct State {
     preset: Preset,
@@ -50,8 +57,8 @@ pub struct State {
     previous_justified_checkpoint: Rooted<Checkpoint>,
     current_justified_checkpoint: Rooted<Checkpoint>,
     finalized_checkpoint: Rooted<Checkpoint>,
-    // The root, where it was kept and nothing changed since.
-    kept_root: Option<Root>,
+    // The roots, where they were kept and nothing changed since.
+    kept_root: Option<KeptRoot>,
     // The active validators of epochs and their committees, where they were kept. Those who share the state share them.
     active_lists: ActiveLists,
     kept_committees: KeptCommittees,

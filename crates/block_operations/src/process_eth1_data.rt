@@ -69,7 +69,7 @@ pub fn process_eth1_data(state: &mut State, body: &BeaconBlockBody, root: Root) 
 {
     state.push_eth1_data_votes(body.eth1_data, root)?;
     if has_won(state, &body.eth1_data) {
-        state.set_eth1_data(body.eth1_data);
+        state.set_known_eth1_data(body.eth1_data, root);
     }
     Ok(())
 }

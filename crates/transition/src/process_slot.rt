@@ -39,14 +39,14 @@ fn root_index(state: &State) -> u64
 /// Ends the slot: keeps the state's root, gives it to a block header that has none, and keeps the root of the latest
 /// block. The slot itself doesn't grow. Where memory is refused, the state is of no use any more.
 ///
-/// The state's root is computed once, and not at all where the state keeps it.
+/// The state's root is computed once, and neither it nor that of the latest block is where the state keeps them.
 #[tactic(auto, unfolding(spec_transition::specs::ProcessSlot::process_slot, spec_state::specs::Genesis::header_root_of))]
 pub(crate) fn close_slot(state: &mut State) -> Result<(), NoMemory>
     ensures { OnOk result (state.new ≡ process_slot state.old) }
 {
-    let root = state.root();
+    let root = state.keep_root();
+    let block_root = state.header_root();
     let header = closed_header(state, root);
-    let block_root = header.root();
     let index = root_index(state);
     state.set_state_roots_at(index, root)?;
     state.set_latest_block_header(header);

@@ -29,7 +29,7 @@ use hash_tree::Root;
 use std::alloc::Global;
 use std::mem;
 
-/// Refused where a root isn't that of the state, which keeps its own.
+/// Refused where a root isn't that of the state, which keeps its own, and then that of its latest block.
 fn check_state_root(root: &Root, state: &mut State) -> Result<(), Stop>
     ensures same { state.new ≡ state.old }
     ensures exact { GivesExactly result (check (same_root root.now ((state_codec state.old.preset).hash_tree_root state.old)) StateRoot) }
@@ -37,6 +37,7 @@ fn check_state_root(root: &Root, state: &mut State) -> Result<(), Stop>
     if *root != state.keep_root() {
         return Err(Stop::Refused(Refusal::StateRoot));
     }
+    let _header = state.keep_header_root();
     Ok(())
 }
 
@@ -68,7 +69,7 @@ fn take_block<V: Visitor>(
 /// visitor was shown those of the first slots, and maybe the one whose processing stopped.
 ///
 /// Refused, in this order: as the slots and the block are, and as `StateRoot` where the block's state root isn't that of the
-/// state behind it. The new state keeps its root, which its next slot takes.
+/// state behind it. The new state keeps its root and the block's, which its next slot takes.
 #[tactic(auto, using(crate::proofs::Visits::transition_shown))]
 pub fn visit_transition<V: Visitor>(
     alloc: Global,

@@ -15,10 +15,22 @@ use Rattle.validator_registry.specs.declared.member.Member.{Member}
 use Rattle.validator_registry.specs.inside.Columns.{epochs_chunks}
 use Rattle.validator_registry.specs.inside.Groups.{validator_of, validators_of}
 
+-- the hash of two nodes that stand side by side
+abbrev pub joined_hash : List ℕ → List ℕ → List ℕ
+joined_hash a b = hash (a ++ b)
+
 -- the root over a key and the withdrawal credentials is the hash of both
 pub owner_of_parts : (v : Validator) → hash (merkleize (byte_chunks v.pubkey) (chunk_count 48) ++ v.withdrawal_credentials) ≡ owner_root v
 unfolding owner_root owner_chunks key_root merkle_root
 owner_of_parts v = refl
+
+owners_of_parts : (vs : List Validator) → map (λ v. joined_hash (key_root v) v.withdrawal_credentials) vs ≡ map owner_root vs
+unfolding owner_root owner_chunks merkle_root
+owners_of_parts vs = refl
+
+-- the roots over keys and withdrawal credentials by both columns
+pub owners_of_columns : (vs : List Validator) → zip2 (λ a b. hash (a ++ b)) (map key_root vs) (map (λ v. v.withdrawal_credentials) vs) ≡ map owner_root vs
+owners_of_columns vs = zip2_of_maps joined_hash key_root (λ v. v.withdrawal_credentials) vs refl refl ∙ owners_of_parts vs
 
 -- as many validators as members
 pub count_of : (ms : List Member) (bs : List ℕ) → length ms ≤ length bs → length (validators_of ms bs) ≡ length ms
@@ -141,10 +153,6 @@ root_of_parts v = refl
 roots_of_parts : (vs : List Validator) → map (λ v. hash (hash (owner_root v ++ status_root v) ++ epochs_root v)) vs ≡ map validator_codec.hash_tree_root vs
 roots_of_parts [] = refl
 roots_of_parts (v ∷ vs) = ap₂ (λ (x : List ℕ) (xs : List (List ℕ)). x ∷ xs) (root_of_parts v) (roots_of_parts vs)
-
--- the hash of two nodes that stand side by side
-abbrev pub joined_hash : List ℕ → List ℕ → List ℕ
-joined_hash a b = hash (a ++ b)
 
 -- the roots of the validators by the three columns below them
 pub roots_of_columns : (ms : List Member) (bs : List ℕ) → length ms ≤ length bs

@@ -182,8 +182,7 @@ impl Registry {
 
     /// The validators in order. An iterator is seen as what is left of them.
     pub fn iter(&self) -> Validators<'_>
-        ensures validators { result ≡ self.now }
-        ensures few { length result ≤ 2 ^ 40 }
+        ensures { result ≡ self.now }
     {
         Validators::over(&self.tree)
     }

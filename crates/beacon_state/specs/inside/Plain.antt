@@ -8,10 +8,12 @@ use Rattle.active_sets.specs.inside.Kept.{AreActiveIn}
 use Rattle.bc_preset.specs.declared.presets.Preset.{Preset}
 use Rattle.spec_state.specs.States.{state_codec, votes_limit, attestations_limit}
 use Rattle.spec_state.specs.Limits.{IsState}
+use Rattle.spec_state.specs.Genesis.{header_root_of}
 use Rattle.beacon_types.specs.declared.eth1_data.Eth1Data.{Eth1Data}
 use Rattle.beacon_types.specs.declared.validator.Validator.{Validator}
 use Rattle.beacon_types.specs.declared.pending_attestation.PendingAttestation.{PendingAttestation}
 use Rattle.spec_state.specs.declared.plain.PlainState.{PlainState}
+use Rattle.beacon_state.specs.declared.state.KeptRoot.{KeptRoot}
 use Rattle.beacon_state.specs.declared.state.State.TheInside.{Inside}
 
 abbrev pub plain_of : Inside → PlainState
@@ -40,7 +42,12 @@ plain_of s = record {
   finalized_checkpoint = s.finalized_checkpoint;
 }
 
--- it is a state, each list has the limit of the preset, each vector its length, a root that is kept is the state's, and lists and
+-- these are the roots of a state and of its latest block, as far as they are kept
+pub record HasRoot (s : PlainState) (kept : KeptRoot) : Type 0 where
+  pub root : kept.root ≡ (state_codec s.preset).hash_tree_root s
+  pub header : IfSome kept.header (λ root. root ≡ header_root_of s)
+
+-- it is a state, each list has the limit of the preset, each vector its length, roots that are kept are the state's, and lists and
 -- committees that are kept are of its registry and its preset
 pub record IsHeld (s : Inside) : Type 0 where
   pub state : IsState (plain_of s)
@@ -53,7 +60,7 @@ pub record IsHeld (s : Inside) : Type 0 where
   pub slashings_limit : s.slashings.limit ≡ s.preset.epochs_per_slashings_vector
   pub previous_epoch_attestations_limit : s.previous_epoch_attestations.limit ≡ attestations_limit s.preset
   pub current_epoch_attestations_limit : s.current_epoch_attestations.limit ≡ attestations_limit s.preset
-  pub kept_root : IfSome s.kept_root (λ root. root ≡ (state_codec s.preset).hash_tree_root (plain_of s))
+  pub kept_root : IfSome s.kept_root (HasRoot (plain_of s))
   pub active_lists : AreActiveIn s.validators s.active_lists
   pub kept_committees : s.kept_committees ≡ s.preset
 

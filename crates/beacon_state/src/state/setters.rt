@@ -68,6 +68,15 @@ impl State {
         self.eth1_data = Rooted::new(eth1_data);
     }
 
+    /// Writes what is known of the deposit contract, which has this root.
+    pub fn set_known_eth1_data(&mut self, eth1_data: Eth1Data, root: Root)
+        requires { root ≡ eth1_data_codec.hash_tree_root eth1_data }
+        ensures { self.new ≡ record self.old { eth1_data = eth1_data } }
+    {
+        self.kept_root = None;
+        self.eth1_data = Rooted::known(eth1_data, root);
+    }
+
     /// Writes how many deposits were processed.
     pub fn set_eth1_deposit_index(&mut self, index: u64)
         ensures { self.new ≡ record self.old { eth1_deposit_index = index } }

@@ -1,5 +1,5 @@
 //! What is of a whole list or of the whole state: all values of a list written at once or many of them, the roots of the vectors of roots, and the
-//! state's root where it is kept.
+//! state's root and that of its latest block where they are kept.
 
 ghost use Rattle.std.specs.Prelude.{◌≡◌, ◌≤◌, length};
 ghost use Rattle.std.specs.Option.{IfSome};
@@ -7,10 +7,11 @@ ghost use Rattle.bc_words.specs.Outcome.{Becomes};
 ghost use Rattle.ssz_codec.specs.Basic.{bytes32};
 ghost use Rattle.ssz_codec.specs.Lists.{vector_codec};
 ghost use Rattle.spec_state.specs.States.{state_codec};
+ghost use Rattle.spec_state.specs.Genesis.{header_root_of};
 ghost use Rattle.tree_nodes.specs.Changes.{AreChanges};
 ghost use Rattle.validator_registry.specs.Registries.{with_balances};
 
-use super::{State, registry};
+use super::{KeptRoot, State, registry};
 use active_sets::ActiveLists;
 use bc_words::NoMemory;
 use beacon_types::Validator;
@@ -64,7 +65,20 @@ impl State {
     pub(crate) fn kept_root(&self) -> Option<Root>
         ensures { IfSome result (λ root. root ≡ (state_codec self.now.preset).hash_tree_root self.now) }
     {
-        self.kept_root
+        match self.kept_root {
+            Some(kept) => Some(kept.root),
+            None => None,
+        }
+    }
+
+    /// The root of the latest block, where it is kept.
+    pub(crate) fn kept_header_root(&self) -> Option<Root>
+        ensures { IfSome result (λ root. root ≡ header_root_of self.now) }
+    {
+        match self.kept_root {
+            Some(kept) => kept.header,
+            None => None,
+        }
     }
 
     /// The root of the state (simple-serialize.md, "Merkleization"), which is kept until a field changes: `root` answers it
@@ -74,7 +88,23 @@ impl State {
         ensures root { result ≡ (state_codec self.old.preset).hash_tree_root self.old }
     {
         let root = self.root();
-        self.kept_root = Some(root);
+        let header = self.kept_header_root();
+        self.kept_root = Some(KeptRoot { root, header });
         root
+    }
+
+    /// The root of the latest block (beacon-chain.md, "process_slot"), which is kept as that of the state is, and with it: `header_root`
+    /// answers it without a hash.
+    pub fn keep_header_root(&mut self) -> Root
+        ensures same { self.new ≡ self.old }
+        ensures root { result ≡ header_root_of self.old }
+    {
+        let root = self.root();
+        let header = self.header_root();
+        self.kept_root = Some(KeptRoot {
+            root,
+            header: Some(header),
+        });
+        header
     }
 }

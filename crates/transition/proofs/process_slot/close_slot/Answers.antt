@@ -11,8 +11,9 @@ returns c =
       c.in_ok-set_block_roots_at.ensures,
       c.set_latest_block_header.ensures,
       c.in_ok-set_state_roots_at.ensures,
-      c.root-block_root.ensures,
       c.closed_header-header.ensures,
-      c.root-root.ensures,
+      c.header_root-block_root.ensures,
+      c.keep_root-root.ensures.root,
       c.root_index-index.ensures.index,
+      c.keep_root-root.ensures.same,
     ) refl

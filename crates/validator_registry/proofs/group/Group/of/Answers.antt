@@ -17,6 +17,6 @@ members-preserved c =
       count = search rules;
       room = search rules;
       so_far =
-          validator_more c.members.members.items c.push.new.self.items c.members.balances (take k vs) k c.of.result _ c.members.invariant.so_far (search rules) c.of.ensures (sym c.members.invariant.count) (omega (arith, c.members.invariant.count, c.members.invariant.room, c.requires))
+          validator_more c.members.members.items c.push.new.self.items c.members.balances (take k vs) k c.with.result _ c.members.invariant.so_far (search rules) c.with.ensures (sym c.members.invariant.count) (omega (arith, c.members.invariant.count, c.members.invariant.room, c.requires))
           ∙ sym (take_more vs k _ (omega arith));
     }

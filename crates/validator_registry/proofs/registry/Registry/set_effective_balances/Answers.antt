@@ -1,10 +1,16 @@
 -- The groups with the other balances.
-use Rattle.std.proofs.Common.{◌∙◌, List, ap}
+use Rattle.std.proofs.Common.{rules, ◌≡◌, ◌∙◌, List, length, sym, ap}
 use Rattle.beacon_types.specs.declared.validator.Validator.{Validator}
 use Rattle.validator_registry.specs.Registries.{with_balances}
 use Rattle.validator_registry.specs.inside.Groups.{joined}
+use Rattle.validator_registry.proofs.GroupChanges.{balance_none}
 use Rattle.validator_registry.proofs.RegistryTrees.{balances_length, changed_tree, own_tree}
 use Rattle.validator_registry.proofs.registry.Registry.set_effective_balances.Goals as goal
+
+pub returns-then-is_empty-clause-set : goal.returns-then-is_empty-clause-set
+returns-then-is_empty-clause-set g c =
+    let none : length c.args.changes.items ≡ 0 = search rules in
+    sym (balance_none c.args.self.now c.args.changes.items none)
 
 pub root_over-self-inside-requires-clause-tree : goal.root_over-self-inside-requires-clause-tree
 root_over-self-inside-requires-clause-tree g c =
