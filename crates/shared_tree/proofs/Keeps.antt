@@ -1,5 +1,5 @@
 -- What a list keeps after a change.
-use Rattle.std.proofs.Common.{◌≡◌, ℕ, ◌<◌, ◌≤◌, ◌^◌, List, [], ◌∷◌, ◌++◌, length, map, cond, sym, ap, ap₂, subst, ◌∙◌, arith}
+use Rattle.std.proofs.Common.{◌≡◌, ℕ, ◌<◌, ◌≤◌, ◌^◌, List, [], ◌∷◌, ◌++◌, length, map, Option, Some, None, cond, sym, ap, ap₂, subst, ◌∙◌, arith}
 use Rattle.std.proofs.lemmas.Bool.{lt-ltb, le-ltb}
 use Rattle.bc_words.specs.Outcome.{done, refused, checked_push}
 use Rattle.bc_words.specs.declared.refusal.Refusal.TheVariants.{ListFull}
@@ -9,10 +9,9 @@ use Rattle.shared_tree.specs.inside.Kept.{IsKept}
 use Rattle.tree_nodes.specs.inside.Puts.{put_at}
 use Rattle.tree_nodes.proofs.Puts.{put_push}
 
--- a list after a change of its tree
-pub kept_after : {A : Type 0} (root_of : A → List ℕ) (tree new : ℕ × List A) (items : List A) (limit len : ℕ) (old_root root top : List ℕ) → IsKept root_of tree limit old_root → new ≡ (tree.0, items) → len ≡ length items → len ≤ limit → top ≡ merkle_root new.0 (map root_of new.1) → root ≡ mix_in_length top len → IsKept root_of new limit root
-unfolding merkleize
-kept_after root_of tree new items limit len old_root root top h is long fits top_is root_is =
+-- a list after a change of its tree, whose root is not made
+pub kept_unrooted : {A : Type 0} (root_of : A → List ℕ) (tree new : ℕ × List A) (items : List A) (limit : ℕ) (old_root : Option (List ℕ)) → IsKept root_of tree limit old_root → new ≡ (tree.0, items) → length items ≤ limit → IsKept root_of new limit None
+kept_unrooted root_of tree new items limit old_root h is fits =
     let deep : new.0 ≡ tree.0 = ap (λ (v : ℕ × List _). v.0) is in
     let count : length new.1 ≡ length items = ap (λ (v : ℕ × List _). length v.1) is in
     record {
@@ -20,10 +19,29 @@ kept_after root_of tree new items limit len old_root root top h is long fits top
       limit_low = h.limit_low;
       wide = subst (λ (d : ℕ). limit ≤ 2 ^ d) (sym deep) h.wide;
       fits = omega arith;
-      root_is = root_is ∙ (ap (λ (t : List ℕ). mix_in_length t len) (top_is ∙ ap (λ (d : ℕ). merkle_root d (map root_of new.1)) (deep ∙ h.depth_is)) ∙ ap (λ (n : ℕ). mix_in_length (merkle_root (depth_of limit) (map root_of new.1)) n) (long ∙ sym count));
+      root_is = tt;
     }
 
-pub kept_new : {A : Type 0} (root_of : A → List ℕ) (new : ℕ × List A) (items : List A) (limit depth len : ℕ) (root top : List ℕ) → new ≡ (depth, items) → depth ≡ depth_of limit → limit ≤ 2 ^ depth → limit ≤ 2 ^ 40 → length items ≤ limit → len ≡ length new.1 → top ≡ merkle_root new.0 (map root_of new.1) → root ≡ mix_in_length top len → IsKept root_of new limit root
+-- the root of a list, of what its tree has at the top
+pub root_of_top : {A : Type 0} (root_of : A → List ℕ) (tree : ℕ × List A) (limit len : ℕ) (kept : Option (List ℕ)) (root top : List ℕ) → IsKept root_of tree limit kept → len ≡ length tree.1 → top ≡ merkle_root tree.0 (map root_of tree.1) → root ≡ mix_in_length top len → root ≡ mix_in_length (merkleize (map root_of tree.1) limit) (length tree.1)
+unfolding merkleize
+root_of_top root_of tree limit len kept root top h long top_is root_is =
+    root_is ∙ (ap (λ (t : List ℕ). mix_in_length t len) (top_is ∙ ap (λ (d : ℕ). merkle_root d (map root_of tree.1)) h.depth_is) ∙ ap (λ (n : ℕ). mix_in_length (merkle_root (depth_of limit) (map root_of tree.1)) n) long)
+
+-- the same, whose root is made
+pub kept_after : {A : Type 0} (root_of : A → List ℕ) (tree new : ℕ × List A) (items : List A) (limit len : ℕ) (old_root : Option (List ℕ)) (root top : List ℕ) → IsKept root_of tree limit old_root → new ≡ (tree.0, items) → len ≡ length items → len ≤ limit → top ≡ merkle_root new.0 (map root_of new.1) → root ≡ mix_in_length top len → IsKept root_of new limit (Some root)
+kept_after root_of tree new items limit len old_root root top h is long fits top_is root_is =
+    let bare = kept_unrooted root_of tree new items limit old_root h is (omega arith) in
+    let count : length new.1 ≡ length items = ap (λ (v : ℕ × List _). length v.1) is in
+    record {
+      depth_is = bare.depth_is;
+      limit_low = bare.limit_low;
+      wide = bare.wide;
+      fits = bare.fits;
+      root_is = root_of_top root_of new limit len None root top bare (long ∙ sym count) top_is root_is;
+    }
+
+pub kept_new : {A : Type 0} (root_of : A → List ℕ) (new : ℕ × List A) (items : List A) (limit depth len : ℕ) (root top : List ℕ) → new ≡ (depth, items) → depth ≡ depth_of limit → limit ≤ 2 ^ depth → limit ≤ 2 ^ 40 → length items ≤ limit → len ≡ length new.1 → top ≡ merkle_root new.0 (map root_of new.1) → root ≡ mix_in_length top len → IsKept root_of new limit (Some root)
 unfolding merkleize
 kept_new root_of new items limit depth len root top is depth_is wide low fits long top_is root_is =
     let deep : new.0 ≡ depth = ap (λ (v : ℕ × List _). v.0) is in

@@ -9,7 +9,7 @@ use hash_tree::{Leaf, Root};
 use std::sync::ledger::Ledger;
 
 /// Shares a list, and then sets one of its items. The other list and its root are as the list was before, and the list's
-/// own next root costs the steps of one path.
+/// change costs the steps of one path.
 pub fn set_after_share<T: Leaf + Drop, L: Ledger>(
     list: &mut SharedList<T>,
     i: u64,
@@ -20,7 +20,7 @@ pub fn set_after_share<T: Leaf + Drop, L: Ledger>(
     ensures other { IfOk result (λ other. other.0 ≡ list.old) }
     ensures root { IfOk result (λ other. other.1 ≡ mixed_in (merkleize (map T.root_of list.old.items) list.old.limit) (length list.old.items)) }
     ensures set { OnOk result (list.new ≡ record list.old { items = slice_set list.old.items i value }) }
-    ensures path { OnOk result (steps.new ≡ steps.old + (depth_for list.old.limit + 1)) }
+    ensures path { OnOk result (steps.new ≡ steps.old + depth_for list.old.limit) }
 {
     let other = list.share()?;
     list.set(i, value, steps)?;

@@ -1,7 +1,7 @@
 //! A list of values with a root each.
 //!
 //! Items come from the state above. The tree of their roots is kept with them, so that the root of the list is there without
-//! work, and a change costs one path.
+//! work, or for one hash where an item was set since, and a change costs one path.
 
 ghost use Rattle.std.specs.Prelude.{◌≡◌, ◌+◌, ◌*◌, ◌<◌, ◌≤◌, ◌^◌, [], ◌∷◌, ◌++◌, length, map, replicate, slice_get, slice_set, IfOk, OnOk};
 ghost use Rattle.std.specs.Option.{option_map};
@@ -21,7 +21,8 @@ use tree_nodes::{Iter, NewLeaf, Tree, mix_step};
 pub struct SharedList<T: Leaf + Drop> {
     tree: Tree<T>,
     limit: u64,
-    root: Root,
+    /// The root with the length mixed in, where it was made and nothing is set since.
+    root: Option<Root>,
 }
 
 impl<T: Leaf + Drop> Model for SharedList<T> {
@@ -45,7 +46,11 @@ impl<T: Leaf + Drop> SharedList<T> {
     {
         let tree = Tree::of(items, depth_of(limit))?;
         let root = mix_in_length(&tree.top(), tree.len());
-        Ok(SharedList { tree, limit, root })
+        Ok(SharedList {
+            tree,
+            limit,
+            root: Some(root),
+        })
     }
 
     /// The list that is full of one item. Each level of its tree has one node.
@@ -56,7 +61,11 @@ impl<T: Leaf + Drop> SharedList<T> {
     {
         let tree = Tree::repeated(item, depth_of(limit), alloc)?;
         let root = mix_in_length(&tree.top(), tree.len());
-        Ok(SharedList { tree, limit, root })
+        Ok(SharedList {
+            tree,
+            limit,
+            root: Some(root),
+        })
     }
 
     /// How many items there are.
@@ -82,11 +91,15 @@ impl<T: Leaf + Drop> SharedList<T> {
         self.tree.get(i)
     }
 
-    /// The root of the list (simple-serialize.md, "Merkleization"). It is kept.
+    /// The root of the list (simple-serialize.md, "Merkleization"). It is kept, but where an item was set since: there the
+    /// length is mixed into the kept top.
     pub fn root(&self) -> Root
         ensures { result ≡ mixed_in (merkleize (map T.root_of self.now.items) self.now.limit) (length self.now.items) }
     {
-        self.root
+        match self.root {
+            Some(root) => root,
+            None => mix_in_length(&self.tree.top(), self.tree.len()),
+        }
     }
 
     /// The root before the length is mixed in, which is that of a vector. It is kept.
@@ -97,17 +110,16 @@ impl<T: Leaf + Drop> SharedList<T> {
         self.tree.top()
     }
 
-    /// Another item at a place. A step for each level of the tree, and one for the length. Where memory is refused, the
-    /// list is as before and the item is dropped.
+    /// Another item at a place. A step for each level of the tree; the length is mixed in where the root is asked for. Where
+    /// memory is refused, the list is as before and the item is dropped.
     pub fn set<L: Ledger>(&mut self, i: u64, value: T, steps: &mut Steps<L>) -> Result<(), NoMemory>
         requires { i < length self.old.items }
         ensures set { Becomes result self.old self.new (record self.old { items = slice_set self.old.items i value }) }
-        ensures steps { OnOk result (steps.new ≡ steps.old + (depth_for self.old.limit + 1)) }
-        ensures at_most { steps.new ≤ steps.old + (depth_for self.old.limit + 1) }
+        ensures steps { OnOk result (steps.new ≡ steps.old + depth_for self.old.limit) }
+        ensures at_most { steps.new ≤ steps.old + depth_for self.old.limit }
     {
-        let len = self.tree.len();
         self.tree.put(i, value, steps)?;
-        self.root = mix_step(&self.tree.top(), len, steps);
+        self.root = None;
         Ok(())
     }
 
@@ -125,7 +137,7 @@ impl<T: Leaf + Drop> SharedList<T> {
         ensures nodes { steps.new ≤ steps.old + (2 * length self.old.items + depth_for self.old.limit + 1) }
     {
         self.tree.put_many(changes, steps)?;
-        self.root = mix_step(&self.tree.top(), self.tree.len(), steps);
+        self.root = Some(mix_step(&self.tree.top(), self.tree.len(), steps));
         Ok(())
     }
 
@@ -159,7 +171,7 @@ impl<T: Leaf + Drop> SharedList<T> {
             return Err(PushStop::Full);
         }
         self.tree.put_known(len, value, root, steps)?;
-        self.root = mix_step(&self.tree.top(), len + 1, steps);
+        self.root = Some(mix_step(&self.tree.top(), len + 1, steps));
         Ok(())
     }
 
@@ -178,7 +190,7 @@ impl<T: Leaf + Drop> SharedList<T> {
             return Ok(());
         }
         self.tree.push_many(leaves, steps)?;
-        self.root = mix_step(&self.tree.top(), self.tree.len(), steps);
+        self.root = Some(mix_step(&self.tree.top(), self.tree.len(), steps));
         Ok(())
     }
 

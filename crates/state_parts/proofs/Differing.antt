@@ -3,9 +3,8 @@ use Rattle.std.proofs.Common.{◌≡◌, ℕ, ◌+◌, ◌≤◌, List, [], ◌�
 use Rattle.std.proofs.lemmas.List.{take_more, take_more_set, take_all}
 use Rattle.std.proofs.lemmas.Option.{slice_get_within, get_or_from_slice_get}
 use Rattle.tree_nodes.specs.Changes.{AreChanges, changed}
-use Rattle.tree_nodes.proofs.Changes.{length_changed}
+use Rattle.tree_nodes.proofs.Changes.{length_changed, changed_push, untouched}
 use Rattle.tree_nodes.proofs.Many.{more_places, wider}
-use Rattle.shared_tree.proofs.ChunkChanges.{changed_push, untouched}
 use Rattle.state_parts.specs.inside.Differences.{AreDifferences, IsCompared}
 
 pub none_taken : {A : Type 0} (xs : List A) → take 0 xs ≡ []

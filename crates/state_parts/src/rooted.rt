@@ -33,6 +33,14 @@ impl<T: Leaf + Copy> Rooted<T> {
         Rooted { value, root }
     }
 
+    /// The value with its root, which is known.
+    pub fn known(value: T, root: Root) -> Rooted<T>
+        requires { root ≡ T.root_of value }
+        ensures { result ≡ value }
+    {
+        Rooted { value, root }
+    }
+
     /// The value.
     pub fn value(&self) -> &T
         ensures { result.now ≡ self.now }

@@ -1,16 +1,17 @@
 -- Many changes of a tree, by its halves.
 use Rattle.std.proofs.Common.{◌≡◌, ℕ, zero, suc, ◌+◌, ◌-◌, ◌*◌, ◌<◌, ◌≤◌, ◌^◌, List, [], ◌∷◌, ◌++◌, length, min, cond, refl, sym, ap, ap₂, subst, ◌∙◌, arith, inl, inr, length-append}
-use Rattle.std.specs.Prelude.{slice_set, Result, Ok, Err, OnOk}
+use Rattle.std.specs.Prelude.{slice_get, slice_set, Some, Result, Ok, Err, OnOk}
 use Rattle.std.proofs.Math.Nat.{suc-mul}
 use Rattle.std.proofs.Math.Pow.{pow_mono}
 use Rattle.std.proofs.lemmas.Bool.{lt-ltb, le-ltb, cases_lt}
-use Rattle.std.proofs.lemmas.List.{length-set, set-append_left, set-append_right}
+use Rattle.std.proofs.lemmas.List.{length-set, set-set, set-append_left, set-append_right}
 use Rattle.tree_nodes.specs.Changes.{AreChanges, changed}
 use Rattle.hash_tree.specs.Merkle.{hash, merkle_root}
 use Rattle.hash_tree.proofs.Halves.{merkle_root-short}
 use Rattle.tree_nodes.specs.inside.Lifts.{Lifts}
 use Rattle.tree_nodes.specs.inside.Nodes.{AreHalves, HalvesOf}
 use Rattle.tree_nodes.specs.inside.Puts.{before, changed_in}
+use Rattle.tree_nodes.proofs.Changes.{length_changed, get_same, changed_push}
 
 module _ {A : Type 0} where
   before_yes : (from : ℕ) (c : ℕ × A) (cs : List (ℕ × A)) → c.0 < from → before from (c ∷ cs) ≡ c ∷ before from cs
@@ -145,6 +146,20 @@ module _ {A : Type 0} where
   all_before low len (c ∷ cs) last h =
       let rest = all_before (suc c.0) len cs last h.2 in
       ((h.0, last_above (suc c.0) len cs last h.2, rest.0), rest.1)
+
+  -- the last change, where it is at this place
+  pub held_facts : (xs : List A) (k at : ℕ) (f : A) (old front : List (ℕ × A)) → k < length xs → old ≡ front ++ (at, f) ∷ [] → k ≤ at → AreChanges 0 (k + 1) old
+      → AreChanges 0 k front × (slice_get (changed xs old) k ≡ Some f) × ((g : A) → slice_set (changed xs front) k g ≡ slice_set (changed xs old) k g)
+  held_facts xs k at f old front room is high h =
+      let ends = all_before 0 (k + 1) front (at, f) (subst (λ (cs : List (ℕ × A)). AreChanges 0 (k + 1) cs) is h) in
+      let below : at < k + 1 = ends.1 in
+      let same : at ≡ k = omega arith in
+      let places : AreChanges 0 k front = subst (λ (n : ℕ). AreChanges 0 n front) same ends.0 in
+      let now : changed xs old ≡ slice_set (changed xs front) k f = ap (λ (cs : List (ℕ × A)). changed xs cs) (is ∙ ap (λ (n : ℕ). front ++ (n, f) ∷ []) same) ∙ changed_push xs 0 k front f places in (
+        places,
+        ap (λ (l : List A). slice_get l k) now ∙ get_same (changed xs front) k f (omega (arith, length_changed xs front)),
+        (λ g. sym (ap (λ (l : List A). slice_set l k g) now ∙ set-set (changed xs front) k f g)),
+      )
 
   pub not_reached : (low len from : ℕ) (front : List (ℕ × A)) (last : ℕ × A) → AreChanges low len (front ++ last ∷ []) → last.0 < from → AreChanges low from (front ++ last ∷ [])
   not_reached low len from [] last h less = (h.0, less, tt)

@@ -7,9 +7,9 @@ use Rattle.std.proofs.lemmas.List.{take_all}
 use Rattle.ssz_codec.specs.Basic.{uint64}
 use Rattle.tree_nodes.specs.Changes.{AreChanges, changed}
 use Rattle.shared_tree.specs.inside.Fours.{packed, numbers_in}
-use Rattle.tree_nodes.proofs.Changes.{changed_none, length_changed}
+use Rattle.tree_nodes.proofs.Changes.{changed_none, length_changed, changed_push}
 use Rattle.tree_nodes.proofs.Many.{more_places, wider}
-use Rattle.shared_tree.proofs.ChunkChanges.{changed_push, set_below}
+use Rattle.shared_tree.proofs.ChunkChanges.{set_below}
 use Rattle.tree_nodes.proofs.Climbs.{take_next}
 use Rattle.tree_nodes.proofs.Climbs.{drop_next}
 use Rattle.shared_tree.proofs.Packing.{length_packed}

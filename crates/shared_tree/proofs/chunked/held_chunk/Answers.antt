@@ -1,8 +1,8 @@
 -- The chunk of the last change, or that of the tree.
 use Rattle.std.proofs.Common.{◌+◌, Bool, subst, ◌∙◌}
 use Rattle.tree_nodes.specs.inside.Puts.{Reaches}
-use Rattle.tree_nodes.proofs.Many.{unreached}
-use Rattle.shared_tree.proofs.ChunkChanges.{held_facts, untouched}
+use Rattle.tree_nodes.proofs.Changes.{untouched}
+use Rattle.tree_nodes.proofs.Many.{unreached, held_facts}
 use Rattle.shared_tree.proofs.chunked.held_chunk.Goals as goal
 
 pub returns-then-reaches-clause-places : goal.returns-then-reaches-clause-places

@@ -14,7 +14,7 @@ invariant_of-self-2 g c =
     let len = c.len-len.ensures.len in
     let room = c.if-len-self.false in
     let long : length (put_at c.self.inside.tree.1 c.len-len.result c.args.value) ≡ max (length c.self.inside.tree.1) (c.len-len.result + 1) = length_put c.self.inside.tree.1 c.len-len.result c.args.value (omega arith) in
-    kept_after g.T.Leaf.root_of c.self.inside.tree c.put_known.new.self (put_at c.self.inside.tree.1 c.len-len.result c.args.value) c.self.inside.limit (c.len-len.result + 1) c.self.inside.root c.mix_step-self-inside.result c.top.result c.self.invariant c.in_ok-put_known.ensures.put (omega arith) (omega arith) c.top.ensures c.mix_step-self-inside.ensures.mixed
+    kept_after g.T.Leaf.root_of c.self.inside.tree c.put_known.new.self (put_at c.self.inside.tree.1 c.len-len.result c.args.value) c.self.inside.limit (c.len-len.result + 1) c.self.inside.root c.mix_step.result c.top.result c.self.invariant c.in_ok-put_known.ensures.put (omega arith) (omega arith) c.top.ensures c.mix_step.ensures.mixed
 
 pub returns-clause-pushes : goal.returns-clause-pushes
 returns-clause-pushes g c =

@@ -3,7 +3,7 @@ use Rattle.std.proofs.Common.{◌≡◌, ◌<◌, ◌+◌, ℕ, List, length, ma
 use Rattle.std.specs.Prelude.{slice_set}
 use Rattle.shared_tree.specs.Lists.{Limited}
 use Rattle.tree_nodes.specs.inside.Puts.{put_at}
-use Rattle.shared_tree.proofs.Keeps.{kept_after, seen_after}
+use Rattle.shared_tree.proofs.Keeps.{kept_unrooted, seen_after}
 use Rattle.tree_nodes.proofs.Puts.{length_put, put_set}
 use Rattle.shared_tree.proofs.shared_list.SharedList.set.Goals as goal
 
@@ -12,9 +12,8 @@ invariant_of-self-2 g c =
     let view = ap (λ (l : Limited _). length l.items) c.self.view_is in
     let within : c.args.i < length c.self.inside.tree.1 = omega (arith, c.requires) in
     let long : length (put_at c.self.inside.tree.1 c.args.i c.args.value) ≡ max (length c.self.inside.tree.1) (c.args.i + 1) = length_put c.self.inside.tree.1 c.args.i c.args.value (omega arith) in
-    let same = ap (λ (v : ℕ × List _). length v.1) c.in_ok-put.ensures.put in
     let fits = c.self.invariant.fits in
-    kept_after g.T.Leaf.root_of c.self.inside.tree c.put.new.self (put_at c.self.inside.tree.1 c.args.i c.args.value) c.self.inside.limit c.len-len.result c.self.inside.root c.mix_step-self-inside.result c.top.result c.self.invariant c.in_ok-put.ensures.put (omega (arith, c.len-len.ensures.len)) (omega (arith, c.len-len.ensures.len)) c.top.ensures c.mix_step-self-inside.ensures.mixed
+    kept_unrooted g.T.Leaf.root_of c.self.inside.tree c.put.new.self (put_at c.self.inside.tree.1 c.args.i c.args.value) c.self.inside.limit c.self.inside.root c.self.invariant c.in_ok-put.ensures.put (omega arith)
 
 pub returns-clause-set : goal.returns-clause-set
 returns-clause-set g c =
