@@ -88,6 +88,7 @@ fn event_at<R: Files>(
 }
 
 /// How the lines of a run ended: how many were written, and why the rest wasn't.
+#[derive(Drop)]
 struct Ended {
     lines: u64,
     error: Option<io::Error>,
