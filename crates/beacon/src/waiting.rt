@@ -115,7 +115,9 @@ impl<'a, R: Print> Waiting<'a, R> {
 
     /// Takes bytes, from the front of these, and answers how many. Where there is no room, what waits is written first, and where
     /// there is none then, these are written too.
-    pub fn take(&self, bytes: &[u8]) -> io::Result<usize> {
+    pub fn take(&self, bytes: &[u8]) -> io::Result<usize>
+        ensures { IfOk result (λ n. n ≤ length bytes.now) }
+    {
         if self.put(bytes) {
             return Ok(bytes.len());
         }
