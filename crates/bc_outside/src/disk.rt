@@ -211,24 +211,11 @@ impl<'a, R: Files> Shelf for DiskShelf<'a, R> {
     }
 }
 
-// How many line feeds a piece has.
-fn line_feeds(piece: &[u8]) -> u64 {
-    let mut count = 0u64;
-    for byte in piece {
-        if *byte == b'\n' {
-            count = count.saturating_add(1);
-        }
-    }
-    count
-}
-
 /// Standard output, or another writer of the operating system.
 #[derive(Drop)]
 pub struct StdSink<W: Write> {
     out: W,
     taken: Vec<Snapshot<u8>>,
-    // How many line feeds are among the bytes taken. It stays at its last number.
-    lines: u64,
     faults: FaultCounts,
     cause: Option<Error>,
 }
@@ -248,7 +235,6 @@ impl<W: Write> StdSink<W> {
         StdSink {
             out,
             taken: nothing_seen(alloc),
-            lines: 0,
             faults: FaultCounts::new(),
             cause: None,
         }
@@ -257,11 +243,6 @@ impl<W: Write> StdSink<W> {
     /// The cause of the last fault, where there was one.
     pub fn last_cause(&self) -> Option<&Error> {
         self.cause.as_ref()
-    }
-
-    /// How many whole lines were taken.
-    pub fn lines(&self) -> u64 {
-        self.lines
     }
 
     // Writes from the front of a piece.
@@ -279,7 +260,6 @@ impl<W: Write> StdSink<W> {
             Err(trouble) => return Err(trouble),
         };
         see(&mut self.taken, &piece[..n]);
-        self.lines = self.lines.saturating_add(line_feeds(&piece[..n]));
         Ok(n)
     }
 }

@@ -95,10 +95,13 @@ struct Ended {
 }
 
 /// Writes the lines that still wait, and tells how that ended.
-fn finish_lines<R: Print>(waiting: &Waiting<'_, R>) -> Ended {
+fn finish_lines<R: Print + Eprint + Clock>(
+    waiting: &Waiting<'_, R>,
+    watch: &Watch<'_, R>,
+) -> Ended {
     let error = waiting.finish().err();
     Ended {
-        lines: waiting.lines(),
+        lines: watch.events().saturating_sub(waiting.lines()),
         error,
     }
 }
@@ -143,7 +146,7 @@ pub fn run<R: Files + Print + Eprint + Clock + AllocGlobal>(
     let written = StdSink::new(rt.alloc(), WatchedOut::new(&waiting, &watch));
     let mut out = WatchedSink::new(written, &watch);
     let told = beacon_main(rt.alloc(), words, &mut shelf, &mut out);
-    let ended = finish_lines(&waiting);
+    let ended = finish_lines(&waiting, &watch);
     let status = match ended.error {
         Some(_) => Status::WriteFault,
         None => told,

@@ -116,11 +116,16 @@ impl<'a, R: Eprint + Clock> Watch<'a, R> {
         }
     }
 
-    /// Counts a line where it ends in bytes that were taken: no write has more than one.
-    fn count_lines(&self, bytes: &[u8]) {
-        if bytes.contains(&b'\n') {
+    /// Counts a line where bytes that were taken end it: no write goes on behind one.
+    fn count_line(&self, bytes: &[u8]) {
+        if let [.., b'\n'] = bytes {
             self.events.set(self.events.get().saturating_add(1));
         }
+    }
+
+    /// How many lines were taken to their ends.
+    pub fn events(&self) -> u64 {
+        self.events.get()
     }
 
     /// Clears what was shown.
@@ -203,7 +208,7 @@ impl<'a, 'b, R: Print + Eprint + Clock> WatchedOut<'a, 'b, R> {
 impl<R: Print + Eprint + Clock> Write for WatchedOut<'_, '_, R> {
     fn write(&mut self, buf: &[u8]) -> io::Result<usize> {
         let n = self.waiting.take(buf)?;
-        self.watch.count_lines(&buf[..n]);
+        self.watch.count_line(&buf[..n]);
         Ok(n)
     }
 

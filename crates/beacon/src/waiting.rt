@@ -11,7 +11,7 @@ use std::io;
 use std::io::{ErrorKind, Print};
 
 /// How many bytes wait at most.
-const ROOM: usize = 16_384;
+const ROOM: usize = 32_768;
 
 /// How often the rest is written at the end while that is interrupted.
 const PATIENCE: u32 = 1_000;
@@ -24,8 +24,6 @@ pub struct Waiting<'a, R: Print> {
     bytes: Cell<Vec<u8>>,
     // How many of them, from the front, are written.
     written: Cell<usize>,
-    // How many line feeds are among all bytes that were written. It stays at its last number.
-    lines: Cell<u64>,
 }
 
 /// How many line feeds there are.
@@ -47,30 +45,25 @@ impl<'a, R: Print> Waiting<'a, R> {
             alloc,
             bytes: Cell::new(Vec::new(alloc)),
             written: Cell::new(0),
-            lines: Cell::new(0),
         }
     }
 
-    /// How many whole lines were written.
+    /// How many lines end in what still waits.
     pub fn lines(&self) -> u64 {
-        self.lines.get()
-    }
-
-    // Writes some of the bytes, from the front, and counts their lines.
-    fn write_some(&self, bytes: &[u8]) -> io::Result<usize>
-        ensures { IfOk result (λ n. n ≤ length bytes.now) }
-    {
-        let n = self.to.write_some(bytes)?;
-        self.lines
-            .set(self.lines.get().saturating_add(line_feeds(&bytes[..n])));
-        Ok(n)
+        let bytes = self.bytes.replace(Vec::new(self.alloc));
+        let lines = match bytes.get(self.written.get()..) {
+            Some(rest) => line_feeds(rest),
+            None => 0,
+        };
+        self.bytes.set(bytes);
+        lines
     }
 
     // Writes the bytes from a place on, which is moved behind all that are written.
     fn write_from(&self, bytes: &[u8]) -> io::Result<()> {
         let mut at = self.written.get();
         while at < bytes.len() {
-            let n = self.write_some(&bytes[at..])?;
+            let n = self.to.write_some(&bytes[at..])?;
             if n == 0 {
                 return Err(ErrorKind::WriteZero.into());
             }
@@ -125,6 +118,6 @@ impl<'a, R: Print> Waiting<'a, R> {
         if self.put(bytes) {
             return Ok(bytes.len());
         }
-        self.write_some(bytes)
+        self.to.write_some(bytes)
     }
 }

@@ -24,7 +24,7 @@ impl State {
         ensures written { IfOk result HasWriting }
     {
         let plain = read_plain(alloc, preset, bytes)?;
-        match State::from_plain(plain) {
+        match State::from_plain(alloc, plain) {
             Ok(state) => Ok(state),
             Err(_refused) => Err(SszFault::NoMemory),
         }

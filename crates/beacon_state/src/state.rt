@@ -5,7 +5,7 @@
 
 ghost use Rattle.std.specs.Prelude.{◌≡◌, IfOk};
 ghost use Rattle.spec_state.specs.Limits.{IsState, IsInRange};
-ghost use Rattle.beacon_state.specs.inside.Plain.{HasRoots, HasRegistry, HasPending, HasKept};
+ghost use Rattle.beacon_state.specs.inside.Plain.{HasRoots, HasRegistry, HasPending, HasKept, IsHeld, plain_of};
 
 mod getters;
 mod kept;
@@ -24,6 +24,7 @@ use state_parts::{
     Numbers, Rooted, Validators, Values, both, lists_built, pending_built, registry_built,
     vectors_built,
 };
+use std::alloc::Global;
 use std::marker::Model;
 
 /// The root of a state, and that of its latest block where this was kept too.
@@ -33,8 +34,16 @@ pub(crate) struct KeptRoot {
     pub(crate) header: Option<Root>,
 }
 
-/// A state of the beacon chain (beacon-chain.md, "BeaconState"), whose lists are within the limits of its preset.
+/// A state of the beacon chain (beacon-chain.md, "BeaconState"), whose lists are within the limits of its preset. It is one pointer:
+/// a call that hands a state on moves no field.
+#[derive(Drop)]
 pub struct State {
+    fields: Box<Fields>,
+    alloc: Global,
+}
+
+/// The fields, and what is kept beside them.
+pub(crate) struct Fields {
     preset: Preset,
     genesis_time: u64,
     genesis_validators_root: Root,
@@ -65,9 +74,9 @@ pub struct State {
 }
 
 // Written by hand, so that a call that lets a state go is one call, and not one for each of its lists.
-impl Drop for State {
+impl Drop for Fields {
     fn drop(self) {
-        let State {
+        let Fields {
             preset: _,
             genesis_time: _,
             genesis_validators_root: _,
@@ -121,14 +130,14 @@ impl Model for State {
 
     ghost use Rattle.beacon_state.specs.inside.Plain.{plain_of, IsHeld};
 
-    ghost view = { plain_of };
+    ghost view = { λ s. plain_of s.fields.value };
 
-    ghost invariant = { IsHeld };
+    ghost invariant = { λ s. IsHeld s.fields.value };
 }
 
 impl State {
     /// The state of these fields, which must be within the limits of their preset. The tree of each list is built once.
-    pub fn from_plain(plain: PlainState) -> Result<State, NoMemory>
+    pub fn from_plain(alloc: Global, plain: PlainState) -> Result<State, NoMemory>
         requires state { IsState plain }
         requires range { IsInRange plain }
         ensures { IfOk result (λ state. state ≡ plain) }
@@ -174,7 +183,7 @@ impl State {
         let (validators, balances, slashings) = registry;
         let (previous_epoch_attestations, current_epoch_attestations) = pending;
         let kept_committees = KeptCommittees::none(&preset);
-        Ok(State {
+        let fields = Fields {
             preset,
             genesis_time,
             genesis_validators_root,
@@ -200,6 +209,20 @@ impl State {
             kept_root: None,
             active_lists: ActiveLists::none(),
             kept_committees,
+        };
+        State::of(fields, alloc)
+    }
+
+    /// The state of these fields. It is a call of its own: put into the calls that make fields, its code would be moves of each
+    /// of them from place to place.
+    #[inline(never)]
+    fn of(fields: Fields, alloc: Global) -> Result<State, NoMemory>
+        requires { IsHeld fields }
+        ensures { IfOk result (λ state. state ≡ plain_of fields) }
+    {
+        Ok(State {
+            fields: Box::new(alloc, fields)?,
+            alloc,
         })
     }
 
@@ -207,28 +230,28 @@ impl State {
     pub fn share(&self) -> Result<State, NoMemory>
         ensures { IfOk result (λ state. state ≡ self.now) }
     {
-        let lists = both(self.share_roots(), self.share_registry());
-        let others = both(self.share_pending(), self.share_kept());
-        let ((roots, registry), (pending, kept)) = both(lists, others)?;
+        let roots = self.share_roots()?;
+        let registry = self.share_registry()?;
+        let pending = self.share_pending()?;
+        let (active_lists, kept_committees) = self.share_kept()?;
         let (((block_roots, state_roots), historical_roots), randao_mixes) = roots;
         let ((validators, balances), slashings) = registry;
         let ((eth1_data_votes, previous_epoch_attestations), current_epoch_attestations) = pending;
-        let (active_lists, kept_committees) = kept;
-        let genesis_validators_root = self.genesis_validators_root;
-        let justification_bits = self.justification_bits;
-        Ok(State {
-            preset: self.preset,
-            genesis_time: self.genesis_time,
+        let genesis_validators_root = self.fields.genesis_validators_root;
+        let justification_bits = self.fields.justification_bits;
+        let fields = Fields {
+            preset: self.fields.preset,
+            genesis_time: self.fields.genesis_time,
             genesis_validators_root,
-            slot: self.slot,
-            fork: self.fork.again(),
-            latest_block_header: self.latest_block_header,
+            slot: self.fields.slot,
+            fork: self.fields.fork.again(),
+            latest_block_header: self.fields.latest_block_header,
             block_roots,
             state_roots,
             historical_roots,
-            eth1_data: self.eth1_data.again(),
+            eth1_data: self.fields.eth1_data.again(),
             eth1_data_votes,
-            eth1_deposit_index: self.eth1_deposit_index,
+            eth1_deposit_index: self.fields.eth1_deposit_index,
             validators,
             balances,
             randao_mixes,
@@ -236,13 +259,14 @@ impl State {
             previous_epoch_attestations,
             current_epoch_attestations,
             justification_bits,
-            previous_justified_checkpoint: self.previous_justified_checkpoint.again(),
-            current_justified_checkpoint: self.current_justified_checkpoint.again(),
-            finalized_checkpoint: self.finalized_checkpoint.again(),
-            kept_root: self.kept_root,
+            previous_justified_checkpoint: self.fields.previous_justified_checkpoint.again(),
+            current_justified_checkpoint: self.fields.current_justified_checkpoint.again(),
+            finalized_checkpoint: self.fields.finalized_checkpoint.again(),
+            kept_root: self.fields.kept_root,
             active_lists,
             kept_committees,
-        })
+        };
+        State::of(fields, self.alloc)
     }
 
     /// The lists of roots once more.
@@ -251,17 +275,21 @@ impl State {
     ) -> Result<(((Values<Root>, Values<Root>), Values<Root>), Values<Root>), NoMemory>
         ensures { IfOk result (HasRoots self.now) }
     {
-        let of_chain = both(self.block_roots.share(), self.state_roots.share());
-        let roots = both(of_chain, self.historical_roots.share());
-        both(roots, self.randao_mixes.share())
+        let block_roots = self.fields.block_roots.share()?;
+        let state_roots = self.fields.state_roots.share()?;
+        let historical_roots = self.fields.historical_roots.share()?;
+        let randao_mixes = self.fields.randao_mixes.share()?;
+        Ok((((block_roots, state_roots), historical_roots), randao_mixes))
     }
 
     /// The registry, the balances and the slashed balances once more.
     fn share_registry(&self) -> Result<((Validators, Numbers), Numbers), NoMemory>
         ensures { IfOk result (HasRegistry self.now) }
     {
-        let registry = both(self.validators.share(), self.balances.share());
-        both(registry, self.slashings.share())
+        let validators = self.fields.validators.share()?;
+        let balances = self.fields.balances.share()?;
+        let slashings = self.fields.slashings.share()?;
+        Ok(((validators, balances), slashings))
     }
 
     /// The votes and the pending attestations once more.
@@ -276,24 +304,25 @@ impl State {
     >
         ensures { IfOk result (HasPending self.now) }
     {
-        let pending = both(
-            self.eth1_data_votes.share(),
-            self.previous_epoch_attestations.share(),
-        );
-        both(pending, self.current_epoch_attestations.share())
+        let votes = self.fields.eth1_data_votes.share()?;
+        let previous = self.fields.previous_epoch_attestations.share()?;
+        let current = self.fields.current_epoch_attestations.share()?;
+        Ok(((votes, previous), current))
     }
 
     /// The lists of active validators and the committees that are kept, once more.
     fn share_kept(&self) -> Result<(ActiveLists, KeptCommittees), NoMemory>
         ensures { IfOk result (HasKept self.now) }
     {
-        both(self.active_lists.share(), self.kept_committees.share())
+        let active_lists = self.fields.active_lists.share()?;
+        let kept_committees = self.fields.kept_committees.share()?;
+        Ok((active_lists, kept_committees))
     }
 
     /// The state is within the limits of its preset. It does nothing when it runs.
     pub(crate) fn limits(&self)
         ensures { IsState self.now }
     {
-        let _preset = &self.preset;
+        let _preset = &self.fields.preset;
     }
 }

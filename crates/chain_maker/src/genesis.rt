@@ -151,5 +151,5 @@ pub fn made_genesis(alloc: Global, preset: &Preset, number: u64) -> Result<State
     ensures passes { IfOk result (λ state. genesis_fault state ≡ None) }
 {
     let plain = made_fields(alloc, preset, number)?;
-    State::from_plain(plain)
+    State::from_plain(alloc, plain)
 }

@@ -133,5 +133,5 @@ pub(crate) fn state_before_deposits(
 {
     let plain = plain_before_deposits(alloc, preset, version, eth1_block_hash, time, count)?;
     given_in_range(version, &eth1_block_hash);
-    State::from_plain(plain)
+    State::from_plain(alloc, plain)
 }

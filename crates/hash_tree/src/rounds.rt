@@ -247,8 +247,9 @@ fn four_steps<const N: usize>(
     step(w, v, t + 3)
 }
 
-/// Sixteen rounds.
-#[inline(always)]
+/// Sixteen rounds. They are a call of their own: four times in a row their code would be more than a processor keeps beside the
+/// rest.
+#[inline(never)]
 fn sixteen_steps<const N: usize>(
     w: &[Simd<u32, N>; 64],
     v: [Simd<u32, N>; 8],
@@ -346,7 +347,7 @@ fn four_padding_steps<const N: usize>(v: [Simd<u32, N>; 8], t: usize) -> [Simd<u
 }
 
 /// Sixteen such rounds.
-#[inline(always)]
+#[inline(never)]
 fn sixteen_padding_steps<const N: usize>(v: [Simd<u32, N>; 8], t: usize) -> [Simd<u32, N>; 8]
     requires { t + 16 ≤ 64 }
     ensures { (j : ℕ) (h : List ℕ) → j < N → variables j v.entry ≡ rounds h (schedule padding_block 48) t

@@ -102,6 +102,7 @@ fn hash_lanes<const N: usize>(
 }
 
 /// Writes the hash of each of eight pairs.
+#[inline(never)]
 pub(crate) fn hash_eight(pairs: &[[[u8; 32]; 2]], out: &mut [[u8; 32]])
     requires pairs { length pairs.now ≡ 8 }
     requires out { length out.old ≡ 8 }
@@ -111,6 +112,7 @@ pub(crate) fn hash_eight(pairs: &[[[u8; 32]; 2]], out: &mut [[u8; 32]])
 }
 
 /// Writes the hash of each of four pairs.
+#[inline(never)]
 pub(crate) fn hash_four(pairs: &[[[u8; 32]; 2]], out: &mut [[u8; 32]])
     requires pairs { length pairs.now ≡ 4 }
     requires out { length out.old ≡ 4 }

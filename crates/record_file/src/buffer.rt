@@ -44,7 +44,7 @@ fn read_behind<F: Shelf>(
 }
 
 /// How many bytes are asked of a shelf at once.
-const PIECE: usize = 8_192;
+const PIECE: usize = 32_768;
 
 /// Bytes that were taken of a file and not read yet.
 #[derive(Drop)]

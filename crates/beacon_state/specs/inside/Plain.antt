@@ -14,9 +14,9 @@ use Rattle.beacon_types.specs.declared.validator.Validator.{Validator}
 use Rattle.beacon_types.specs.declared.pending_attestation.PendingAttestation.{PendingAttestation}
 use Rattle.spec_state.specs.declared.plain.PlainState.{PlainState}
 use Rattle.beacon_state.specs.declared.state.KeptRoot.{KeptRoot}
-use Rattle.beacon_state.specs.declared.state.State.TheInside.{Inside}
+use Rattle.beacon_state.specs.declared.state.Fields.{Fields}
 
-abbrev pub plain_of : Inside → PlainState
+abbrev pub plain_of : Fields → PlainState
 plain_of s = record {
   preset = s.preset;
   genesis_time = s.genesis_time;
@@ -49,7 +49,7 @@ pub record HasRoot (s : PlainState) (kept : KeptRoot) : Type 0 where
 
 -- it is a state, each list has the limit of the preset, each vector its length, roots that are kept are the state's, and lists and
 -- committees that are kept are of its registry and its preset
-pub record IsHeld (s : Inside) : Type 0 where
+pub record IsHeld (s : Fields) : Type 0 where
   pub state : IsState (plain_of s)
   pub block_roots_limit : s.block_roots.limit ≡ s.preset.slots_per_historical_root
   pub state_roots_limit : s.state_roots.limit ≡ s.preset.slots_per_historical_root

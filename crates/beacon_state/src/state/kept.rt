@@ -24,7 +24,7 @@ impl State {
     pub fn active_list(&self, epoch: u64) -> Option<&[u64]>
         ensures { IfSome result (λ indices. indices.now ≡ get_active_validator_indices self.now epoch) }
     {
-        self.active_lists.indices(self.validators.registry(), epoch)
+        self.fields.active_lists.indices(self.fields.validators.registry(), epoch)
     }
 
     /// Keeps the indices of the validators that are active at an epoch, in the place of those that are kept longest. Where memory
@@ -40,14 +40,15 @@ impl State {
         ensures { self.new ≡ self.old }
     {
         let list = ActiveList::new(alloc, epoch, indices)?;
-        self.active_lists.keep(self.validators.registry(), list)
+        let fields = &mut *self.fields;
+        fields.active_lists.keep(fields.validators.registry(), list)
     }
 
     /// The sum of the effective balances of the validators that are active at an epoch, in Gwei, where it was noted.
     pub fn active_balance(&self, epoch: u64) -> Option<u64>
         ensures { IfSome result (λ balance. balance_in self.now.validators epoch ≡ done balance) }
     {
-        self.active_lists.balance(self.validators.registry(), epoch)
+        self.fields.active_lists.balance(self.fields.validators.registry(), epoch)
     }
 
     /// Notes that sum with the list of the epoch, where this is kept.
@@ -55,8 +56,10 @@ impl State {
         requires { balance_in self.old.validators epoch ≡ done balance }
         ensures { self.new ≡ self.old }
     {
-        self.active_lists
-            .note_balance(self.validators.registry(), epoch, balance);
+        let fields = &mut *self.fields;
+        fields
+            .active_lists
+            .note_balance(fields.validators.registry(), epoch, balance);
     }
 
     /// The committees that a seed makes of the validators that are active at an epoch, where they are kept with their list.
@@ -65,7 +68,7 @@ impl State {
         ensures { IfSome result (λ committees. committees.now.value ≡ committees_of self.now.preset seed.now (get_active_validator_indices self.now epoch)) }
     {
         match self.active_list(epoch) {
-            Some(active) => self.kept_committees.get(seed, active),
+            Some(active) => self.fields.kept_committees.get(seed, active),
             None => None,
         }
     }
@@ -83,8 +86,9 @@ impl State {
         requires { committees ≡ committees_of self.old.preset seed.now (get_active_validator_indices self.old epoch) }
         ensures { self.new ≡ self.old }
     {
-        match self.active_lists.shared(self.validators.registry(), epoch)? {
-            Some(active) => self.kept_committees.keep(alloc, seed, active, committees),
+        let fields = &mut *self.fields;
+        match fields.active_lists.shared(fields.validators.registry(), epoch)? {
+            Some(active) => fields.kept_committees.keep(alloc, seed, active, committees),
             None => Ok(()),
         }
     }

@@ -24,7 +24,7 @@ impl State {
         ensures most { result.now.limit ≡ self.now.preset.slots_per_historical_root }
         ensures limit { length self.now.block_roots ≡ self.now.preset.slots_per_historical_root }
     {
-        &self.block_roots
+        &self.fields.block_roots
     }
 
     /// The roots of the latest states.
@@ -33,7 +33,7 @@ impl State {
         ensures most { result.now.limit ≡ self.now.preset.slots_per_historical_root }
         ensures limit { length self.now.state_roots ≡ self.now.preset.slots_per_historical_root }
     {
-        &self.state_roots
+        &self.fields.state_roots
     }
 
     /// The roots of older batches.
@@ -42,7 +42,7 @@ impl State {
         ensures most { result.now.limit ≡ self.now.preset.historical_roots_limit }
         ensures limit { length self.now.historical_roots ≤ self.now.preset.historical_roots_limit }
     {
-        &self.historical_roots
+        &self.fields.historical_roots
     }
 
     /// The votes for the deposit contract.
@@ -51,7 +51,7 @@ impl State {
         ensures most { result.now.limit ≡ votes_limit self.now.preset }
         ensures limit { length self.now.eth1_data_votes ≤ votes_limit self.now.preset }
     {
-        &self.eth1_data_votes
+        &self.fields.eth1_data_votes
     }
 
     /// The registry.
@@ -59,7 +59,7 @@ impl State {
         ensures same { result.now ≡ self.now.validators }
         ensures limit { length self.now.validators ≤ self.now.preset.validator_registry_limit }
     {
-        &self.validators
+        &self.fields.validators
     }
 
     /// The balances.
@@ -68,7 +68,7 @@ impl State {
         ensures most { result.now.limit ≡ self.now.preset.validator_registry_limit }
         ensures limit { length self.now.balances ≤ self.now.preset.validator_registry_limit }
     {
-        &self.balances
+        &self.fields.balances
     }
 
     /// The mixes.
@@ -77,7 +77,7 @@ impl State {
         ensures most { result.now.limit ≡ self.now.preset.epochs_per_historical_vector }
         ensures limit { length self.now.randao_mixes ≡ self.now.preset.epochs_per_historical_vector }
     {
-        &self.randao_mixes
+        &self.fields.randao_mixes
     }
 
     /// The slashed balances.
@@ -86,7 +86,7 @@ impl State {
         ensures most { result.now.limit ≡ self.now.preset.epochs_per_slashings_vector }
         ensures limit { length self.now.slashings ≡ self.now.preset.epochs_per_slashings_vector }
     {
-        &self.slashings
+        &self.fields.slashings
     }
 
     /// The attestations of the previous epoch.
@@ -95,7 +95,7 @@ impl State {
         ensures most { result.now.limit ≡ attestations_limit self.now.preset }
         ensures limit { length self.now.previous_epoch_attestations ≤ attestations_limit self.now.preset }
     {
-        &self.previous_epoch_attestations
+        &self.fields.previous_epoch_attestations
     }
 
     /// The attestations of the current epoch.
@@ -104,7 +104,7 @@ impl State {
         ensures most { result.now.limit ≡ attestations_limit self.now.preset }
         ensures limit { length self.now.current_epoch_attestations ≤ attestations_limit self.now.preset }
     {
-        &self.current_epoch_attestations
+        &self.fields.current_epoch_attestations
     }
 }
 
@@ -113,7 +113,7 @@ impl State {
     pub fn registry(&self) -> &Registry
         ensures { result.now ≡ self.now.validators }
     {
-        self.validators.registry()
+        self.fields.validators.registry()
     }
 
     /// The root of the registry, which is kept.
@@ -121,7 +121,7 @@ impl State {
         ensures { result ≡ (list_codec validator_codec self.now.preset.validator_registry_limit).hash_tree_root self.now.validators }
     {
         let _preset = self.preset();
-        self.validators.root()
+        self.validators().root()
     }
 
     /// The balances, in Gwei. Their root is kept.
@@ -129,7 +129,7 @@ impl State {
         ensures items { result.now.items ≡ self.now.balances }
         ensures limit { result.now.limit ≡ self.now.preset.validator_registry_limit }
     {
-        self.balances.list()
+        self.fields.balances.list()
     }
 
     /// The votes of the period for the data of the deposit contract. Their root is kept.
@@ -137,7 +137,7 @@ impl State {
         ensures items { result.now.items ≡ self.now.eth1_data_votes }
         ensures limit { result.now.limit ≡ votes_limit self.now.preset }
     {
-        self.eth1_data_votes.list()
+        self.fields.eth1_data_votes.list()
     }
 
     /// The law that a state is within the limits of its preset, and so is each value. It does nothing when it runs.
@@ -145,18 +145,18 @@ impl State {
         ensures state { IsState self.now }
         ensures range { IsInRange self.now }
     {
-        let _preset = &self.preset;
-        let _time = self.genesis_time;
-        let _slot = self.slot;
-        let _index = self.eth1_deposit_index;
-        root_in_range(&self.genesis_validators_root);
-        bits_in_range(&self.justification_bits);
-        fork_in_range(self.fork.value());
-        header_in_range(&self.latest_block_header);
-        eth1_data_in_range(self.eth1_data.value());
-        checkpoint_in_range(self.previous_justified_checkpoint.value());
-        checkpoint_in_range(self.current_justified_checkpoint.value());
-        checkpoint_in_range(self.finalized_checkpoint.value());
+        let _preset = &self.fields.preset;
+        let _time = self.fields.genesis_time;
+        let _slot = self.fields.slot;
+        let _index = self.fields.eth1_deposit_index;
+        root_in_range(&self.genesis_validators_root());
+        bits_in_range(&self.justification_bits());
+        fork_in_range(&self.fork());
+        header_in_range(&self.latest_block_header());
+        eth1_data_in_range(&self.eth1_data());
+        checkpoint_in_range(&self.previous_justified_checkpoint());
+        checkpoint_in_range(&self.current_justified_checkpoint());
+        checkpoint_in_range(&self.finalized_checkpoint());
         let _block_roots = self.block_roots().len();
         let _state_roots = self.state_roots().len();
         let _historical_roots = self.historical_roots().len();
@@ -173,34 +173,34 @@ impl State {
     pub(crate) fn fork_root(&self) -> Root
         ensures { result ≡ fork_codec.hash_tree_root self.now.fork }
     {
-        self.fork.root()
+        self.fields.fork.root()
     }
 
     /// The root of what is known of the deposit contract, which is kept.
     pub(crate) fn eth1_data_root(&self) -> Root
         ensures { result ≡ eth1_data_codec.hash_tree_root self.now.eth1_data }
     {
-        self.eth1_data.root()
+        self.fields.eth1_data.root()
     }
 
     /// The root of the justified checkpoint of the previous epoch, which is kept.
     pub(crate) fn previous_justified_checkpoint_root(&self) -> Root
         ensures { result ≡ checkpoint_codec.hash_tree_root self.now.previous_justified_checkpoint }
     {
-        self.previous_justified_checkpoint.root()
+        self.fields.previous_justified_checkpoint.root()
     }
 
     /// The root of the justified checkpoint of the current epoch, which is kept.
     pub(crate) fn current_justified_checkpoint_root(&self) -> Root
         ensures { result ≡ checkpoint_codec.hash_tree_root self.now.current_justified_checkpoint }
     {
-        self.current_justified_checkpoint.root()
+        self.fields.current_justified_checkpoint.root()
     }
 
     /// The root of the finalised checkpoint, which is kept.
     pub(crate) fn finalized_checkpoint_root(&self) -> Root
         ensures { result ≡ checkpoint_codec.hash_tree_root self.now.finalized_checkpoint }
     {
-        self.finalized_checkpoint.root()
+        self.fields.finalized_checkpoint.root()
     }
 }

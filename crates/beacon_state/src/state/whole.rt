@@ -23,9 +23,9 @@ impl State {
         requires { length validators.items ≤ self.old.preset.validator_registry_limit }
         ensures { Becomes result self.old self.new (record self.old { validators = validators.items }) }
     {
-        self.kept_root = None;
-        self.active_lists = ActiveLists::none();
-        self.validators.replace(validators)
+        self.fields.kept_root = None;
+        self.fields.active_lists = ActiveLists::none();
+        self.fields.validators.replace(validators)
     }
 
     /// Writes other effective balances at many places, in Gwei. Where memory is refused, the state is as before.
@@ -34,8 +34,9 @@ impl State {
         requires { AreChanges 0 (length self.old.validators) changes.items }
         ensures { Becomes result self.old self.new (record self.old { validators = with_balances self.old.validators changes.items }) }
     {
-        self.kept_root = None;
-        registry::set_effective_balances(&mut self.validators, &mut self.active_lists, changes)
+        let fields = &mut *self.fields;
+        fields.kept_root = None;
+        registry::set_effective_balances(&mut fields.validators, &mut fields.active_lists, changes)
     }
 
     /// Writes all balances, in Gwei. Where memory is refused, the state is as before.
@@ -43,8 +44,8 @@ impl State {
         requires { length balances.items ≤ self.old.preset.validator_registry_limit }
         ensures { Becomes result self.old self.new (record self.old { balances = balances.items }) }
     {
-        self.kept_root = None;
-        self.balances.replace(balances)
+        self.fields.kept_root = None;
+        self.fields.balances.replace(balances)
     }
 
     /// The root of the vector of the roots of the latest blocks. It is kept.
@@ -65,7 +66,7 @@ impl State {
     pub(crate) fn kept_root(&self) -> Option<Root>
         ensures { IfSome result (λ root. root ≡ (state_codec self.now.preset).hash_tree_root self.now) }
     {
-        match self.kept_root {
+        match self.fields.kept_root {
             Some(kept) => Some(kept.root),
             None => None,
         }
@@ -75,7 +76,7 @@ impl State {
     pub(crate) fn kept_header_root(&self) -> Option<Root>
         ensures { IfSome result (λ root. root ≡ header_root_of self.now) }
     {
-        match self.kept_root {
+        match self.fields.kept_root {
             Some(kept) => kept.header,
             None => None,
         }
@@ -89,7 +90,7 @@ impl State {
     {
         let root = self.root();
         let header = self.kept_header_root();
-        self.kept_root = Some(KeptRoot { root, header });
+        self.fields.kept_root = Some(KeptRoot { root, header });
         root
     }
 
@@ -101,7 +102,7 @@ impl State {
     {
         let root = self.root();
         let header = self.header_root();
-        self.kept_root = Some(KeptRoot {
+        self.fields.kept_root = Some(KeptRoot {
             root,
             header: Some(header),
         });

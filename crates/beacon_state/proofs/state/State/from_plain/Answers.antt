@@ -6,8 +6,8 @@ use Rattle.beacon_state.proofs.state.State.from_plain.Goals as goal
 pub returns : goal.returns
 returns c = grind (arith, common_steps)
 
-pub invariant_of-result : goal.invariant_of-result
-invariant_of-result c = record {
+pub of-requires : goal.of-requires
+of-requires c = record {
   state = grind (arith, common_steps);
   block_roots_limit = search rules;
   state_roots_limit = search rules;

@@ -6,4 +6,4 @@ use Rattle.beacon_state.proofs.state.State.set_validators.Goals as goal
 
 pub replace-requires : goal.replace-requires
 replace-requires c =
-    omega (arith, c.requires, (preset_bounds c.self.inside.preset c.self.invariant.state.preset_is).validator_registry_limit, ap (λ (s : PlainState). s.preset.validator_registry_limit) c.self.view_is)
+    omega (arith, c.requires, (preset_bounds c.self.inside.fields.value.preset c.self.invariant.state.preset_is).validator_registry_limit, ap (λ (s : PlainState). s.preset.validator_registry_limit) c.self.view_is)

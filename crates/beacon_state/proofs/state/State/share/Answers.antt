@@ -6,5 +6,5 @@ use Rattle.beacon_state.proofs.state.State.share.Goals as goal
 pub returns : goal.returns
 returns c = grind (arith, common_steps)
 
-pub invariant_of-result : goal.invariant_of-result
-invariant_of-result c = grind (arith, common_steps)
+pub of-requires : goal.of-requires
+of-requires c = grind (arith, common_steps)
