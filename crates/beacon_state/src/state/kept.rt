@@ -24,7 +24,9 @@ impl State {
     pub fn active_list(&self, epoch: u64) -> Option<&[u64]>
         ensures { IfSome result (λ indices. indices.now ≡ get_active_validator_indices self.now epoch) }
     {
-        self.fields.active_lists.indices(self.fields.validators.registry(), epoch)
+        self.fields
+            .active_lists
+            .indices(self.fields.validators.registry(), epoch)
     }
 
     /// Keeps the indices of the validators that are active at an epoch, in the place of those that are kept longest. Where memory
@@ -48,7 +50,9 @@ impl State {
     pub fn active_balance(&self, epoch: u64) -> Option<u64>
         ensures { IfSome result (λ balance. balance_in self.now.validators epoch ≡ done balance) }
     {
-        self.fields.active_lists.balance(self.fields.validators.registry(), epoch)
+        self.fields
+            .active_lists
+            .balance(self.fields.validators.registry(), epoch)
     }
 
     /// Notes that sum with the list of the epoch, where this is kept.
@@ -87,7 +91,10 @@ impl State {
         ensures { self.new ≡ self.old }
     {
         let fields = &mut *self.fields;
-        match fields.active_lists.shared(fields.validators.registry(), epoch)? {
+        match fields
+            .active_lists
+            .shared(fields.validators.registry(), epoch)?
+        {
             Some(active) => fields.kept_committees.keep(alloc, seed, active, committees),
             None => Ok(()),
         }

@@ -181,7 +181,12 @@ impl State {
     {
         let fields = &mut *self.fields;
         fields.kept_root = None;
-        registry::set(&mut fields.validators, &mut fields.active_lists, i, &validator)
+        registry::set(
+            &mut fields.validators,
+            &mut fields.active_lists,
+            i,
+            &validator,
+        )
     }
 
     /// Appends one more validator. Full exactly where there are as many as the limit. On an error the
@@ -304,8 +309,10 @@ impl State {
         let fields = &mut *self.fields;
         fields.kept_root = None;
         let none = fields.current_epoch_attestations.none()?;
-        fields.previous_epoch_attestations =
-            mem::replace(&mut fields.current_epoch_attestations, none);
+        fields.previous_epoch_attestations = mem::replace(
+            &mut fields.current_epoch_attestations,
+            none,
+        );
         Ok(())
     }
 }
