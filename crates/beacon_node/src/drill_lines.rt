@@ -19,33 +19,23 @@ use std::alloc::{AllocError, Global};
 
 /// Appends a line of two words, a name and a number.
 #[tactic(auto, unfolding(spec_replay::specs::Drill::line_of))]
-fn push_number_line(
-    lines: &mut Vec<u8>,
-    alloc: Global,
-    name: &str,
-    number: u64,
-) -> Result<(), AllocError>
+fn push_number_line(lines: &mut Vec<u8>, name: &str, number: u64) -> Result<(), AllocError>
     ensures { OnOk result (lines.new.items ≡ lines.old.items ++ line_of name.now (decimal number)) }
 {
     lines.extend_from_slice(name.as_bytes())?;
     lines.extend_from_slice(b" ")?;
-    push_number(lines, alloc, number)?;
+    push_number(lines, number)?;
     lines.extend_from_slice(b"\n")
 }
 
 /// Appends a line of a name and a root.
 #[tactic(auto, unfolding(spec_replay::specs::Drill::line_of))]
-fn push_root_line(
-    lines: &mut Vec<u8>,
-    alloc: Global,
-    name: &str,
-    root: &Root,
-) -> Result<(), AllocError>
+fn push_root_line(lines: &mut Vec<u8>, name: &str, root: &Root) -> Result<(), AllocError>
     ensures { OnOk result (lines.new.items ≡ lines.old.items ++ line_of name.now (root_text root.now)) }
 {
     lines.extend_from_slice(name.as_bytes())?;
     lines.extend_from_slice(b" ")?;
-    push_root(lines, alloc, root)?;
+    push_root(lines, root)?;
     lines.extend_from_slice(b"\n")
 }
 
@@ -53,7 +43,6 @@ fn push_root_line(
 #[tactic(auto, unfolding(spec_replay::specs::Drill::line_of))]
 fn push_checkpoint_line(
     lines: &mut Vec<u8>,
-    alloc: Global,
     name: &str,
     checkpoint: &Checkpoint,
 ) -> Result<(), AllocError>
@@ -61,7 +50,7 @@ fn push_checkpoint_line(
 {
     lines.extend_from_slice(name.as_bytes())?;
     lines.extend_from_slice(b" ")?;
-    push_checkpoint(lines, alloc, checkpoint)?;
+    push_checkpoint(lines, checkpoint)?;
     lines.extend_from_slice(b"\n")
 }
 
@@ -96,11 +85,11 @@ pub fn six_lines(
 {
     let head = head_of(store);
     let mut lines = Vec::new(alloc);
-    push_number_line(&mut lines, alloc, "events", u64::from(counts.events))?;
-    push_number_line(&mut lines, alloc, "accepted", u64::from(counts.accepted))?;
-    push_root_line(&mut lines, alloc, "head", &head)?;
-    push_checkpoint_line(&mut lines, alloc, "justified", &store.justified())?;
-    push_checkpoint_line(&mut lines, alloc, "finalized", &store.finalized())?;
+    push_number_line(&mut lines, "events", u64::from(counts.events))?;
+    push_number_line(&mut lines, "accepted", u64::from(counts.accepted))?;
+    push_root_line(&mut lines, "head", &head)?;
+    push_checkpoint_line(&mut lines, "justified", &store.justified())?;
+    push_checkpoint_line(&mut lines, "finalized", &store.finalized())?;
     push_digest_line(&mut lines, alloc, "lines", digest)?;
     Ok(lines)
 }
@@ -110,12 +99,7 @@ pub fn two_lines(alloc: Global, findings: &Findings) -> Result<Vec<u8>, NoMemory
     ensures { IfOk result (λ lines. lines.items ≡ line_of (codes "offenders") (decimal (length findings.now.offences.items)) ++ verdict_line findings.now.verdict) }
 {
     let mut lines = Vec::new(alloc);
-    push_number_line(
-        &mut lines,
-        alloc,
-        "offenders",
-        findings.offences.len() as u64,
-    )?;
+    push_number_line(&mut lines, "offenders", findings.offences.len() as u64)?;
     let verdict = verdict_line(alloc, &findings.verdict)?;
     lines.extend_from_slice(&verdict)?;
     Ok(lines)

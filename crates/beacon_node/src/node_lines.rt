@@ -29,64 +29,57 @@ pub fn digest_of(lines: &[u8]) -> Root
 }
 
 /// Appends a word and a number.
-fn push_number_word(
-    line: &mut Vec<u8>,
-    alloc: Global,
-    word: &str,
-    number: u64,
-) -> Result<(), AllocError>
+fn push_number_word(line: &mut Vec<u8>, word: &str, number: u64) -> Result<(), AllocError>
     ensures { OnOk result (line.new.items ≡ line.old.items ++ (word.now ++ decimal number)) }
 {
     line.extend_from_slice(word.as_bytes())?;
-    push_number(line, alloc, number)
+    push_number(line, number)
 }
 
 /// Appends a word and a checkpoint.
 fn push_checkpoint_word(
     line: &mut Vec<u8>,
-    alloc: Global,
     word: &str,
     checkpoint: &Checkpoint,
 ) -> Result<(), AllocError>
     ensures { OnOk result (line.new.items ≡ line.old.items ++ (word.now ++ checkpoint_text checkpoint.now)) }
 {
     line.extend_from_slice(word.as_bytes())?;
-    push_checkpoint(line, alloc, checkpoint)
+    push_checkpoint(line, checkpoint)
 }
 
 /// Appends the words of a node's number and of its counts.
 #[tactic(auto, unfolding(spec_replay::specs::Nodes::counts_text))]
 fn push_counts(
     line: &mut Vec<u8>,
-    alloc: Global,
     number: u64,
     events: u64,
     accepted: u64,
 ) -> Result<(), AllocError>
     ensures { OnOk result (line.new.items ≡ line.old.items ++ counts_text number events accepted) }
 {
-    push_number_word(line, alloc, "node ", number)?;
-    push_number_word(line, alloc, " events ", events)?;
-    push_number_word(line, alloc, " accepted ", accepted)
+    push_number_word(line, "node ", number)?;
+    push_number_word(line, " events ", events)?;
+    push_number_word(line, " accepted ", accepted)
 }
 
 /// Appends the word of a store's head and its root.
-fn push_head_word(line: &mut Vec<u8>, alloc: Global, store: &mut Store) -> Result<(), NoMemory>
+fn push_head_word(line: &mut Vec<u8>, store: &mut Store) -> Result<(), NoMemory>
     ensures line { OnOk result (line.new.items ≡ line.old.items ++ (codes " head " ++ root_text (get_head store.old.plain))) }
     ensures same { store.new.plain ≡ store.old.plain }
 {
     line.extend_from_slice(b" head ")?;
-    push_head(line, alloc, store)
+    push_head(line, store)
 }
 
 /// Appends the words of a store's head and checkpoints.
-fn push_ends(line: &mut Vec<u8>, alloc: Global, store: &mut Store) -> Result<(), NoMemory>
+fn push_ends(line: &mut Vec<u8>, store: &mut Store) -> Result<(), NoMemory>
     ensures line { OnOk result (line.new.items ≡ line.old.items ++ ends_text store.old.plain) }
     ensures same { store.new.plain ≡ store.old.plain }
 {
-    push_head_word(line, alloc, store)?;
-    push_checkpoint_word(line, alloc, " justified ", &store.justified())?;
-    push_checkpoint_word(line, alloc, " finalized ", &store.finalized())?;
+    push_head_word(line, store)?;
+    push_checkpoint_word(line, " justified ", &store.justified())?;
+    push_checkpoint_word(line, " finalized ", &store.finalized())?;
     Ok(())
 }
 
@@ -106,8 +99,8 @@ pub fn node_line(
 {
     let digits = hex::encode(alloc, digest)?;
     let mut line = Vec::new(alloc);
-    push_counts(&mut line, alloc, number, events, accepted)?;
-    push_ends(&mut line, alloc, store)?;
+    push_counts(&mut line, number, events, accepted)?;
+    push_ends(&mut line, store)?;
     line.extend_from_slice(b" lines ")?;
     line.extend_from_slice(digits.as_bytes())?;
     line.push(b'\n')?;
@@ -115,11 +108,11 @@ pub fn node_line(
 }
 
 /// Appends the word of a pair and the numbers of its nodes.
-fn push_pair(line: &mut Vec<u8>, alloc: Global, first: u64, second: u64) -> Result<(), AllocError>
+fn push_pair(line: &mut Vec<u8>, first: u64, second: u64) -> Result<(), AllocError>
     ensures { OnOk result (line.new.items ≡ line.old.items ++ (codes "pair " ++ (decimal first ++ (codes " " ++ decimal second)))) }
 {
     line.extend_from_slice(b"pair ")?;
-    push_two(line, alloc, first, second)
+    push_two(line, first, second)
 }
 
 /// Appends how many offences there are, and the line of the verdict.
@@ -127,7 +120,7 @@ fn push_found(line: &mut Vec<u8>, alloc: Global, findings: &Findings) -> Result<
     ensures { OnOk result (line.new.items ≡ line.old.items ++ (codes " offenders " ++ (decimal (length findings.now.offences.items) ++ (codes " " ++ verdict_line findings.now.verdict)))) }
 {
     let verdict = verdict_line(alloc, &findings.verdict)?;
-    push_number_word(line, alloc, " offenders ", findings.offences.len() as u64)?;
+    push_number_word(line, " offenders ", findings.offences.len() as u64)?;
     line.extend_from_slice(b" ")?;
     line.extend_from_slice(&verdict)
 }
@@ -143,7 +136,7 @@ pub fn pair_text(
     ensures { IfOk result (λ line. line.items ≡ pair_text first second (length findings.now.offences.items) findings.now.verdict) }
 {
     let mut line = Vec::new(alloc);
-    push_pair(&mut line, alloc, u64::from(first), u64::from(second))?;
+    push_pair(&mut line, u64::from(first), u64::from(second))?;
     push_found(&mut line, alloc, findings)?;
     Ok(line)
 }

@@ -16,42 +16,42 @@ use duties::{Duties, ProposerDuty};
 use std::alloc::{AllocError, Global};
 
 /// Appends two numbers in decimal, the second behind a space.
-fn push_pair(line: &mut Vec<u8>, alloc: Global, first: u64, second: u64) -> Result<(), AllocError>
+fn push_pair(line: &mut Vec<u8>, first: u64, second: u64) -> Result<(), AllocError>
     ensures { OnOk result (line.new.items ≡ line.old.items ++ (decimal first ++ (codes " " ++ decimal second))) }
 {
-    push_number(line, alloc, first)?;
+    push_number(line, first)?;
     line.extend_from_slice(b" ")?;
-    push_number(line, alloc, second)
+    push_number(line, second)
 }
 
 /// Appends a member behind a comma.
-fn push_behind(line: &mut Vec<u8>, alloc: Global, member: u64) -> Result<(), AllocError>
+fn push_behind(line: &mut Vec<u8>, member: u64) -> Result<(), AllocError>
     ensures { OnOk result (line.new.items ≡ line.old.items ++ (codes "," ++ decimal member)) }
 {
     line.extend_from_slice(b",")?;
-    push_number(line, alloc, member)
+    push_number(line, member)
 }
 
 /// Appends each member behind a comma.
-fn push_others(line: &mut Vec<u8>, alloc: Global, members: &[u64]) -> Result<(), AllocError>
+fn push_others(line: &mut Vec<u8>, members: &[u64]) -> Result<(), AllocError>
     ensures { OnOk result (line.new.items ≡ line.old.items ++ flat_map (λ member. codes "," ++ decimal member) members.now) }
 {
     for member in members {
-        push_behind(line, alloc, *member)?;
+        push_behind(line, *member)?;
     }
     Ok(())
 }
 
 /// Appends the members of a committee, joined by commas; `-` where there is none.
 #[tactic(auto, unfolding(spec_replay::specs::Duties::members_text))]
-fn push_members(line: &mut Vec<u8>, alloc: Global, members: &[u64]) -> Result<(), AllocError>
+fn push_members(line: &mut Vec<u8>, members: &[u64]) -> Result<(), AllocError>
     ensures { OnOk result (line.new.items ≡ line.old.items ++ members_text members.now) }
 {
     match members {
         [] => line.extend_from_slice(b"-"),
         [first, others @ ..] => {
-            push_number(line, alloc, *first)?;
-            push_others(line, alloc, others)
+            push_number(line, *first)?;
+            push_others(line, others)
         }
     }
 }
@@ -68,9 +68,9 @@ fn committee_line(
 {
     let mut line = Vec::new(alloc);
     line.extend_from_slice(b"committee ")?;
-    push_pair(&mut line, alloc, slot, index)?;
+    push_pair(&mut line, slot, index)?;
     line.extend_from_slice(b" ")?;
-    push_members(&mut line, alloc, members)?;
+    push_members(&mut line, members)?;
     line.push(b'\n')?;
     Ok(line)
 }
@@ -82,7 +82,7 @@ fn proposer_line(alloc: Global, duty: &ProposerDuty) -> Result<Vec<u8>, AllocErr
 {
     let mut line = Vec::new(alloc);
     line.extend_from_slice(b"proposer ")?;
-    push_pair(&mut line, alloc, duty.slot, duty.validator)?;
+    push_pair(&mut line, duty.slot, duty.validator)?;
     line.push(b'\n')?;
     Ok(line)
 }

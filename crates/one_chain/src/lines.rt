@@ -14,45 +14,45 @@ use fork_store::{Accepted, BlockIn, Store};
 use hash_tree::Root;
 use std::alloc::{AllocError, Global};
 
+/// Room for the line of an event, in bytes: each needs at most 460.
+const LINE: usize = 512;
+
 /// Appends a number in decimal.
-pub fn push_number(line: &mut Vec<u8>, alloc: Global, number: u64) -> Result<(), AllocError>
+pub fn push_number(line: &mut Vec<u8>, number: u64) -> Result<(), AllocError>
     ensures { OnOk result (line.new.items ≡ line.old.items ++ decimal number) }
 {
-    let digits = number.to_string(alloc)?;
-    line.extend_from_slice(digits.as_bytes())
+    let mut digits = itoa::Buffer::new();
+    line.extend_from_slice(digits.format(number).as_bytes())
 }
 
 /// Appends a root: `0x` and 64 hexadecimal digits.
 #[tactic(auto, unfolding(spec_replay::specs::Lines::root_text))]
-pub fn push_root(line: &mut Vec<u8>, alloc: Global, root: &Root) -> Result<(), AllocError>
+pub fn push_root(line: &mut Vec<u8>, root: &Root) -> Result<(), AllocError>
     ensures { OnOk result (line.new.items ≡ line.old.items ++ root_text root.now) }
 {
-    let digits = hex::encode(alloc, root)?;
+    let mut digits = [0; 64];
+    hex::encode_to_slice(root, &mut digits).unwrap();
     line.extend_from_slice(b"0x")?;
-    line.extend_from_slice(digits.as_bytes())
+    line.extend_from_slice(&digits)
 }
 
 /// Appends a checkpoint: its epoch, `:`, its root.
 #[tactic(auto, unfolding(spec_replay::specs::Lines::checkpoint_text))]
-pub fn push_checkpoint(
-    line: &mut Vec<u8>,
-    alloc: Global,
-    checkpoint: &Checkpoint,
-) -> Result<(), AllocError>
+pub fn push_checkpoint(line: &mut Vec<u8>, checkpoint: &Checkpoint) -> Result<(), AllocError>
     ensures { OnOk result (line.new.items ≡ line.old.items ++ checkpoint_text checkpoint.now) }
 {
-    push_number(line, alloc, checkpoint.epoch)?;
+    push_number(line, checkpoint.epoch)?;
     line.extend_from_slice(b":")?;
-    push_root(line, alloc, &checkpoint.root)
+    push_root(line, &checkpoint.root)
 }
 
 /// Appends a refusal: `refused`, its number and its name.
 #[tactic(auto, unfolding(spec_replay::specs::Lines::refusal_text))]
-fn push_refusal(line: &mut Vec<u8>, alloc: Global, refusal: Refusal) -> Result<(), AllocError>
+fn push_refusal(line: &mut Vec<u8>, refusal: Refusal) -> Result<(), AllocError>
     ensures { OnOk result (line.new.items ≡ line.old.items ++ refusal_text refusal) }
 {
     line.extend_from_slice(b"refused ")?;
-    push_number(line, alloc, u64::from(refusal.number()))?;
+    push_number(line, u64::from(refusal.number()))?;
     line.extend_from_slice(b" ")?;
     line.extend_from_slice(refusal.name().as_bytes())
 }
@@ -82,27 +82,27 @@ fn push_finalized_label(line: &mut Vec<u8>) -> Result<(), AllocError>
 }
 
 /// Appends the head of the store.
-pub fn push_head(line: &mut Vec<u8>, alloc: Global, store: &mut Store) -> Result<(), NoMemory>
+pub fn push_head(line: &mut Vec<u8>, store: &mut Store) -> Result<(), NoMemory>
     ensures line { OnOk result (line.new.items ≡ line.old.items ++ root_text (get_head store.old.plain)) }
     ensures same { store.new.plain ≡ store.old.plain }
 {
     let head = head_of(store);
-    push_root(line, alloc, &head)?;
+    push_root(line, &head)?;
     Ok(())
 }
 
 /// Appends the store's head and its two checkpoints.
 #[tactic(auto, unfolding(spec_replay::specs::Lines::store_text))]
-fn push_store(line: &mut Vec<u8>, alloc: Global, store: &mut Store) -> Result<(), NoMemory>
+fn push_store(line: &mut Vec<u8>, store: &mut Store) -> Result<(), NoMemory>
     ensures line { OnOk result (line.new.items ≡ line.old.items ++ store_text store.old.plain) }
     ensures same { store.new.plain ≡ store.old.plain }
 {
     push_head_label(line)?;
-    push_head(line, alloc, store)?;
+    push_head(line, store)?;
     push_justified_label(line)?;
-    push_checkpoint(line, alloc, &store.justified())?;
+    push_checkpoint(line, &store.justified())?;
     push_finalized_label(line)?;
-    push_checkpoint(line, alloc, &store.finalized())?;
+    push_checkpoint(line, &store.finalized())?;
     Ok(())
 }
 
@@ -124,24 +124,24 @@ fn push_state_label(line: &mut Vec<u8>) -> Result<(), AllocError>
 
 /// Appends that a block was accepted, with its root and that of the state behind it.
 #[tactic(auto, unfolding(spec_replay::specs::Lines::accepted_text))]
-fn push_block(line: &mut Vec<u8>, alloc: Global, given: &BlockIn) -> Result<(), AllocError>
+fn push_block(line: &mut Vec<u8>, given: &BlockIn) -> Result<(), AllocError>
     ensures { OnOk result (line.new.items ≡ line.old.items ++ accepted_text (block given.now)) }
 {
     push_block_label(line)?;
-    push_root(line, alloc, &given.root())?;
+    push_root(line, &given.root())?;
     push_state_label(line)?;
-    push_root(line, alloc, &given.state_root())?;
+    push_root(line, &given.state_root())?;
     Ok(())
 }
 
 /// Appends that the event was accepted, with the roots of a block.
 #[tactic(auto, unfolding(spec_replay::specs::Lines::accepted_text))]
-fn push_accepted(line: &mut Vec<u8>, alloc: Global, given: &Accepted) -> Result<(), AllocError>
+fn push_accepted(line: &mut Vec<u8>, given: &Accepted) -> Result<(), AllocError>
     ensures { OnOk result (line.new.items ≡ line.old.items ++ accepted_text (accepted_of given.now)) }
 {
     match given {
         Accepted::Other => line.extend_from_slice(b"accepted"),
-        Accepted::Block(block) => push_block(line, alloc, block),
+        Accepted::Block(block) => push_block(line, block),
     }
 }
 
@@ -164,10 +164,10 @@ fn push_kind(line: &mut Vec<u8>, kind: u8) -> Result<(), AllocError>
 }
 
 /// Appends the number of an event and the word of its kind.
-fn push_event(line: &mut Vec<u8>, alloc: Global, event: u64, kind: u8) -> Result<(), AllocError>
+fn push_event(line: &mut Vec<u8>, event: u64, kind: u8) -> Result<(), AllocError>
     ensures { OnOk result (line.new.items ≡ line.old.items ++ (decimal event ++ kind_text kind)) }
 {
-    push_number(line, alloc, event)?;
+    push_number(line, event)?;
     push_kind(line, kind)
 }
 
@@ -183,10 +183,10 @@ pub fn accepted_line(
     ensures line { IfOk result (λ line. line.items ≡ event_line event kind (accepted_text (accepted_of given.now)) store.old.plain) }
     ensures same { store.new.plain ≡ store.old.plain }
 {
-    let mut line = Vec::new(alloc);
-    push_event(&mut line, alloc, event, kind)?;
-    push_accepted(&mut line, alloc, given)?;
-    push_store(&mut line, alloc, store)?;
+    let mut line = Vec::with_capacity(alloc, LINE)?;
+    push_event(&mut line, event, kind)?;
+    push_accepted(&mut line, given)?;
+    push_store(&mut line, store)?;
     line.push(b'\n')?;
     Ok(line)
 }
@@ -203,10 +203,10 @@ pub fn refused_line(
     ensures line { IfOk result (λ line. line.items ≡ event_line event kind (refusal_text refusal) store.old.plain) }
     ensures same { store.new.plain ≡ store.old.plain }
 {
-    let mut line = Vec::new(alloc);
-    push_event(&mut line, alloc, event, kind)?;
-    push_refusal(&mut line, alloc, refusal)?;
-    push_store(&mut line, alloc, store)?;
+    let mut line = Vec::with_capacity(alloc, LINE)?;
+    push_event(&mut line, event, kind)?;
+    push_refusal(&mut line, refusal)?;
+    push_store(&mut line, store)?;
     line.push(b'\n')?;
     Ok(line)
 }
